@@ -1,0 +1,6 @@
+pub mod FaultLemmas
+pub mod TextLemmas
+pub mod KeyLemmas
+pub mod CodePoints
+pub mod PieceLemmas
+pub mod RunLemmas
