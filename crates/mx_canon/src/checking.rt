@@ -61,7 +61,7 @@ fn fault_of_items(items: &Vec<Value>) -> Option<NotCanonical>
 {
     let mut found = None;
     for item in items {
-        found = gravest(found, fault(item));
+        found = NotCanonical::gravest(found, fault(item));
     }
     found
 }
@@ -73,7 +73,7 @@ fn fault_of_members(members: &Map<String, Value>) -> Option<NotCanonical>
 {
     let mut found = None;
     for (_, member) in members.iter() {
-        found = gravest(found, fault(member));
+        found = NotCanonical::gravest(found, fault(member));
     }
     found
 }
@@ -90,16 +90,22 @@ fn fault_of_number(number: &Number) -> Option<NotCanonical>
     }
 }
 
-fn gravest(a: Option<NotCanonical>, b: Option<NotCanonical>) -> Option<NotCanonical>
-    ensures { result ≡ graver a b }
-{
-    match (a, b) {
-        (Some(NotCanonical::Float), _) | (_, Some(NotCanonical::Float)) => {
-            Some(NotCanonical::Float)
+impl NotCanonical {
+    ghost use Rattle.std.specs.Prelude.{◌≡◌};
+    ghost use Rattle.mx_canon.specs.Faults.{graver};
+
+    /// Of two answers, for two parts of one value, the answer for both: a float goes before an integer out of range.
+    pub fn gravest(a: Option<NotCanonical>, b: Option<NotCanonical>) -> Option<NotCanonical>
+        ensures { result ≡ graver a b }
+    {
+        match (a, b) {
+            (Some(NotCanonical::Float), _) | (_, Some(NotCanonical::Float)) => {
+                Some(NotCanonical::Float)
+            }
+            (Some(NotCanonical::Range), _) | (_, Some(NotCanonical::Range)) => {
+                Some(NotCanonical::Range)
+            }
+            (None, None) => None,
         }
-        (Some(NotCanonical::Range), _) | (_, Some(NotCanonical::Range)) => {
-            Some(NotCanonical::Range)
-        }
-        (None, None) => None,
     }
 }

@@ -99,6 +99,10 @@ is_octet s = is_digits 1 3 s && nat_le (decimal_value s) 255
 abbrev pub is_ipv4 : List ℕ → Bool
 is_ipv4 s = (length (parts 46 s) == 4) && list_all is_octet (parts 46 s)
 
--- Matrix specification, m.room.server_acl: whether the host is an IP literal
+-- Matrix specification, m.room.server_acl: whether a host is an IP literal
+abbrev pub is_ip_host : List ℕ → Bool
+is_ip_host s = begins_with 91 s || is_ipv4 s
+
+-- whether a server name's host is one
 abbrev pub is_ip_literal : List ℕ → Bool
-is_ip_literal s = begins_with 91 (host s) || is_ipv4 (host s)
+is_ip_literal s = is_ip_host (host s)

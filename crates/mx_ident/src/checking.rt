@@ -1,5 +1,6 @@
 // Whether a text is an identifier. Nothing here takes memory.
-ghost use Rattle.std.specs.Prelude.{◌≡◌, ◌<◌, result_err};
+ghost use Rattle.std.specs.Prelude.{◌≡◌, ◌<◌};
+ghost use Rattle.std.specs.Result.{result_err};
 ghost use Rattle.mx_ident.specs.Identifier.{common_error, event_id_error, length_error, server_name_error, server_of};
 
 use crate::refusals::NotAnId;

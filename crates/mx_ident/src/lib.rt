@@ -3,8 +3,14 @@
 #![tactic(auto)]
 
 mod checking;
+mod event_ids;
 mod refusals;
+mod room_ids;
+mod server_names;
 mod user_ids;
 
+pub use event_ids::EventId;
 pub use refusals::{IdError, NotAnId};
+pub use room_ids::RoomId;
+pub use server_names::ServerName;
 pub use user_ids::UserId;

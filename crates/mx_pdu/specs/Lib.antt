@@ -1,0 +1,4 @@
+pub mod Event
+pub mod Format
+pub mod DataCode
+pub mod Inside

@@ -1,0 +1,144 @@
+// Events.
+ghost use Rattle.std.specs.Prelude.{◌≡◌, IsTrue, IsUtf8, option_map, IfSome};
+ghost use Rattle.serde_json.specs.Data.{object};
+ghost use Rattle.serde_json.specs.View.{view, members_view};
+ghost use Rattle.mx_redact.specs.Fields.{kind, field, text_field};
+ghost use Rattle.mx_pdu.specs.Event.{room_of, sender_of, state_key_of, content_of, prev_ids, auth_ids, depth_of, timestamp_of, redacts_of};
+ghost use Rattle.mx_pdu.specs.Format.{is_well_formed};
+
+use mx_ident::{EventId, RoomId, UserId};
+use serde_json::{Map, Value};
+use std::marker::Model;
+
+/// An event that is well formed: its JSON object, and with it the ids that it names.
+///
+/// Source: the Matrix specification, Room Version 6, "Event format".
+#[derive(Debug, Drop)]
+pub struct Pdu {
+    event: Map<String, Value>,
+    room_id: RoomId,
+    sender: UserId,
+    prev_events: Vec<EventId>,
+    auth_events: Vec<EventId>,
+}
+
+impl Model for Pdu {
+    ghost use Rattle.serde_json.specs.Data.{Data, object};
+    ghost use Rattle.mx_pdu.specs.DataCode.{data_code};
+
+    ghost Value = { Data };
+
+    ghost coded = { data_code };
+
+    ghost use Rattle.mx_pdu.specs.Inside.{event_of, IsSound};
+
+    ghost view = { event_of };
+
+    ghost invariant = { IsSound };
+}
+
+impl Pdu {
+    /// Its type.
+    pub fn kind(&self) -> &str
+        ensures { result.now ≡ kind self.now }
+    {
+        text_at(&self.event, "type").unwrap_or("")
+    }
+
+    /// The room that it is of.
+    pub fn room_id(&self) -> &RoomId
+        ensures { result.now ≡ room_of self.now }
+    {
+        &self.room_id
+    }
+
+    /// Who sent it.
+    pub fn sender(&self) -> &UserId
+        ensures { result.now ≡ sender_of self.now }
+    {
+        &self.sender
+    }
+
+    /// Its state key, which a state event has and no other event.
+    pub fn state_key(&self) -> Option<&str>
+        ensures { option_map (λ key. key.now) result ≡ state_key_of self.now }
+    {
+        text_at(&self.event, "state_key")
+    }
+
+    /// Its content.
+    pub fn content(&self) -> &Map<String, Value>
+        ensures { object (members_view result.now.entries) ≡ content_of self.now }
+    {
+        match value_at(&self.event, "content") {
+            Some(Value::Object(content)) => content,
+            _ => unreachable!(),
+        }
+    }
+
+    /// The events that it follows, in its order, at most 20.
+    pub fn prev_events(&self) -> &[EventId]
+        ensures { result.now ≡ prev_ids self.now }
+    {
+        &self.prev_events
+    }
+
+    /// The events that it rests on, in its order, at most 10.
+    pub fn auth_events(&self) -> &[EventId]
+        ensures { result.now ≡ auth_ids self.now }
+    {
+        &self.auth_events
+    }
+
+    /// Its depth, at most 2^53 - 1.
+    pub fn depth(&self) -> u64
+        ensures { result ≡ depth_of self.now }
+    {
+        value_at(&self.event, "depth")
+            .and_then(Value::as_u64)
+            .unwrap_or(0)
+    }
+
+    /// When its server made it, in milliseconds since 1970.
+    pub fn origin_server_ts(&self) -> i64
+        ensures { result ≡ timestamp_of self.now }
+    {
+        value_at(&self.event, "origin_server_ts")
+            .and_then(Value::as_i64)
+            .unwrap_or(0)
+    }
+
+    /// The event that a redaction names, where `redacts` is an event id.
+    pub fn redacts(&self) -> Option<&str>
+        ensures { option_map (λ id. id.now) result ≡ redacts_of self.now }
+    {
+        match text_at(&self.event, "redacts") {
+            Some(id) if EventId::is(id) => Some(id),
+            _ => None,
+        }
+    }
+
+    /// The whole event.
+    pub fn as_map(&self) -> &Map<String, Value>
+        ensures event { object (members_view result.now.entries) ≡ self.now }
+        ensures well_formed { IsTrue (is_well_formed self.now) }
+    {
+        &self.event
+    }
+}
+
+// The value at a key.
+fn value_at<'a>(event: &'a Map<String, Value>, key: &str) -> Option<&'a Value>
+    ensures { option_map (λ value. view value.now) result
+        ≡ field key.now (object (members_view event.now.entries)) }
+{
+    event.get(key)
+}
+
+// The text at a key.
+fn text_at<'a>(event: &'a Map<String, Value>, key: &str) -> Option<&'a str>
+    ensures { option_map (λ text. text.now) result
+        ≡ text_field key.now (object (members_view event.now.entries)) }
+{
+    value_at(event, key).and_then(Value::as_str)
+}

@@ -1,0 +1,4 @@
+pub mod Fields
+pub mod Redaction
+pub mod Hashes
+pub mod Selected
