@@ -1,11 +1,15 @@
 -- A list of numbers with a fault has a number that is not exact.
-use Rattle.std.proofs.Common.{◌≡◌, List, [], ◌∷◌, Bool, true, false, ◌||◌, arith, refl, sym, ap₂, ◌∙◌}
-use Rattle.std.proofs.lemmas.List.Folds.{list_any-append}
+use Rattle.std.proofs.Common.{◌≡◌, List, [], ◌∷◌, ◌++◌, Bool, true, false, ◌||◌, ◌&&◌, arith, refl, sym, ap, ap₂, ◌∙◌}
+use Rattle.std.specs.Prelude.{Option, Some, None, if◌then◌else◌}
+use Rattle.std.proofs.lemmas.List.Folds.{list_any-append, list_all-append}
 use Rattle.std.specs.List.{list_any, list_all}
 use Rattle.serde_json.specs.Data.{Num, unsigned, negative, float, Data, null, boolean, number, string, array, object, Items, no_items, item, Members, no_members, member}
 use Rattle.serde_json.specs.Written.{has_float, items_have_float, members_have_float}
 use Rattle.serde_json.specs.Find.{is_float}
 use Rattle.mx_canon.specs.Canonical.{is_exact, numbers, item_numbers, member_numbers, is_canonical}
+use Rattle.mx_canon.specs.Faults.{fault_of, graver}
+use Rattle.mx_canon.specs.declared.checking.NotCanonical.{NotCanonical}
+use Rattle.mx_canon.specs.declared.checking.NotCanonical.TheVariants.{Float, Range}
 
 -- a float is not exact
 pub list_all-is_exact : (ns : List Num) → list_any is_float ns ≡ true → list_all is_exact ns ≡ false
@@ -42,3 +46,37 @@ no_float ns false any all = refl
 -- a canonical value has no float, in serde_json's words
 pub has_float-is_canonical : (d : Data) → is_canonical d ≡ true → has_float d ≡ false
 has_float-is_canonical d h = has_float_same d ∙ no_float (numbers d) _ refl h
+
+-- ---- the gravest of several faults
+
+graver-assoc : (a b c : Option NotCanonical) → graver (graver a b) c ≡ graver a (graver b c)
+graver-assoc (Some Float) b c = refl
+graver-assoc (Some Range) (Some Float) c = refl
+graver-assoc (Some Range) (Some Range) (Some Float) = refl
+graver-assoc (Some Range) (Some Range) (Some Range) = refl
+graver-assoc (Some Range) (Some Range) None = refl
+graver-assoc (Some Range) None c = refl
+graver-assoc None b c = refl
+
+fault_at : Bool → Bool → Option NotCanonical
+fault_at any all = if any then Some Float else (if all then None else Some Range)
+
+-- the fault of two lists, from their tests
+graver_at : (any all any' all' : Bool) → (any ≡ true → all ≡ false) → (any' ≡ true → all' ≡ false) → graver (fault_at any all) (fault_at any' all') ≡ fault_at (any || any') (all && all')
+unfolding fault_at
+graver_at true all any' all' h h' = refl
+graver_at false true true all' h h' = refl
+graver_at false true false all' h h' = refl
+graver_at false false true all' h h' = refl
+graver_at false false false true h h' = refl
+graver_at false false false false h h' = refl
+
+fault_of-append : (xs ys : List Num) → fault_of (xs ++ ys) ≡ graver (fault_of xs) (fault_of ys)
+unfolding fault_at
+fault_of-append xs ys =
+    ap₂ fault_at (list_any-append is_float xs ys) (list_all-append is_exact xs ys)
+    ∙ sym (graver_at (list_any is_float xs) (list_all is_exact xs) (list_any is_float ys) (list_all is_exact ys) (list_all-is_exact xs) (list_all-is_exact ys))
+
+-- what was found before two lists, and what is found in them
+pub graver-fault_of : (found : Option NotCanonical) (xs ys : List Num) → graver (graver found (fault_of xs)) (fault_of ys) ≡ graver found (fault_of (xs ++ ys))
+graver-fault_of found xs ys = graver-assoc found (fault_of xs) (fault_of ys) ∙ ap (graver found) (sym (fault_of-append xs ys))

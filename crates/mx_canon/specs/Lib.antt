@@ -2,5 +2,5 @@ pub mod Canonical
 pub mod Keys
 pub mod Faults
 pub mod Reading
-pub mod Lengths
+pub mod Sinks
 pub mod Pieces

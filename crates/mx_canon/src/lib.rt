@@ -10,7 +10,7 @@ mod writing;
 
 pub use checking::{LARGEST, NotCanonical, check};
 pub use reading::{ReadError, read};
-pub use sinks::{TextLength, TextSink};
+pub use sinks::{TextBuffer, TextLength, TextSink};
 pub use streaming::{text_length, write_string, write_text};
 pub use writing::{CanonError, text};
 

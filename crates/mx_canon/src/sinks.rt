@@ -1,5 +1,8 @@
 // What takes a text in pieces.
-ghost use Rattle.std.specs.Prelude.{◌≡◌, ℕ, ◌++◌, List, [], length, min};
+ghost use Rattle.std.specs.Prelude.{◌≡◌, ℕ, ◌++◌, List, [], IfOk};
+ghost use Rattle.mx_canon.specs.Sinks.{HoldsText};
+
+use std::alloc::{AllocError, Global};
 
 /// Takes a text in pieces, and refuses none: a hash, or a count of bytes.
 pub trait TextSink {
@@ -18,11 +21,51 @@ pub struct TextLength {
 }
 
 impl TextSink for TextLength {
-    ghost use Rattle.mx_canon.specs.Lengths.{IsLengthOf};
+    ghost use Rattle.mx_canon.specs.Sinks.{IsLengthOf};
 
     ghost has_taken = { IsLengthOf };
 
     fn put(&mut self, piece: &[u8]) {
         self.bytes = self.bytes.saturating_add(piece.len() as u64);
+    }
+}
+
+/// A sink that keeps a text in memory, or learns that memory ran out.
+#[derive(Drop)]
+pub struct TextBuffer {
+    bytes: Vec<u8>,
+    is_refused: bool,
+}
+
+impl TextBuffer {
+    /// A buffer that has taken nothing.
+    pub fn new(alloc: Global) -> TextBuffer
+        ensures { HoldsText result [] }
+    {
+        TextBuffer {
+            bytes: Vec::new(alloc),
+            is_refused: false,
+        }
+    }
+
+    /// The text that it has taken, unless memory ran out on the way.
+    pub fn into_bytes(self) -> Result<Vec<u8>, AllocError>
+        ensures { IfOk result (λ bytes. (text : List ℕ) → HoldsText self text → bytes.items ≡ text) }
+    {
+        if self.is_refused {
+            Err(AllocError)
+        } else {
+            Ok(self.bytes)
+        }
+    }
+}
+
+impl TextSink for TextBuffer {
+    ghost has_taken = { HoldsText };
+
+    fn put(&mut self, piece: &[u8]) {
+        if self.bytes.extend_from_slice(piece).is_err() {
+            self.is_refused = true;
+        }
     }
 }

@@ -4,7 +4,7 @@ ghost use Rattle.serde_json.specs.View.{view, number_view, items_view, members_v
 ghost use Rattle.serde_json.specs.Data.{object, array};
 ghost use Rattle.std.specs.Char.{digit_char};
 ghost use Rattle.mx_canon.specs.Pieces.{comma_if};
-ghost use Rattle.mx_canon.specs.Lengths.{counted};
+ghost use Rattle.mx_canon.specs.Sinks.{counted};
 ghost use Rattle.mx_canon.specs.Canonical.{canonical_text, integer_text, string_text, escaped, value_text};
 
 use crate::sinks::{TextLength, TextSink};

@@ -1,9 +1,9 @@
 -- The first byte of a text and its first colon.
-use Rattle.std.proofs.Common.{◌≡◌, ℕ, ◌<◌, ◌≤◌, ◌==◌, List, [], ◌∷◌, length, slice_index, Bool, true, false, not, arith, rules, refl, Some, None}
+use Rattle.std.proofs.Common.{◌≡◌, ℕ, ◌<◌, ◌==◌, List, [], ◌∷◌, length, slice_index, Bool, true, false, arith, refl, Some}
 use Rattle.std.specs.List.{list_any, position_or_len}
 use Rattle.std.proofs.lemmas.Grind.{common_steps}
-use Rattle.mx_ident.specs.Identifier.{begins_with, has_colon, is_colon, is_empty, server_of, common_error, length_error}
-use Rattle.mx_ident.specs.declared.refusals.NotAnId.TheVariants.{NoSigil, NoColon, EmptyServer}
+use Rattle.mx_ident.specs.Identifier.{begins_with, is_colon, is_empty, server_of, common_error, length_error}
+use Rattle.mx_ident.specs.declared.refusals.NotAnId.TheVariants.{NoColon, EmptyServer}
 
 pub list_any-none : (p : ℕ → Bool) (s : List ℕ) → position_or_len p s ≡ length s → list_any p s ≡ false
 list_any-none p [] h = refl

@@ -1,1 +1,4 @@
 pub mod ColonLemmas
+pub mod HostLemmas
+pub mod OctetLemmas
+pub mod PartsLemmas

@@ -80,11 +80,21 @@ decimal_value s = fold (λ n c. n * 10 + (c - 48)) 0 s
 abbrev pub is_closing : ℕ → Bool
 is_closing c = c == 93
 
+-- `[`, and a `]` somewhere
+abbrev pub is_bracketed : List ℕ → Bool
+is_bracketed s = begins_with 91 s && list_any is_closing s
+
+-- up to and with the first `]`
+abbrev pub through_bracket : List ℕ → List ℕ
+through_bracket s = before_first is_closing s ++ 93 ∷ []
+
+-- without a last colon that 1 to 5 digits follow
+abbrev pub without_port : List ℕ → List ℕ
+without_port s = if has_colon s && is_digits 1 5 (after_last is_colon s) then before_last is_colon s else s
+
 -- Matrix specification, appendix Server Name: the host, without its port
 abbrev pub host : List ℕ → List ℕ
-host s =
-    if begins_with 91 s && list_any is_closing s then before_first is_closing s ++ 93 ∷ []
-    else (if has_colon s && is_digits 1 5 (after_last is_colon s) then before_last is_colon s else s)
+host s = if is_bracketed s then through_bracket s else without_port s
 
 -- the parts of a text between separators
 abbrev pub parts : ℕ → List ℕ → List (List ℕ)

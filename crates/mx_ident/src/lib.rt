@@ -4,6 +4,7 @@
 
 mod checking;
 mod event_ids;
+mod hosts;
 mod refusals;
 mod room_ids;
 mod server_names;

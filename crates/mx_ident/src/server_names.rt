@@ -4,10 +4,11 @@ ghost use Rattle.std.specs.Cmp.{partial_equiv_from_equiv};
 ghost use Rattle.std.specs.Cmp.Lexicographic.{nat_list_cmp_total, nat_list_eq_equiv, slice_cmp, texts_po, texts_ties};
 ghost use Rattle.std.specs.Ordering.{nat_cmp};
 ghost use Rattle.std.specs.Result.{result_err};
-ghost use Rattle.mx_ident.specs.Identifier.{is_server_name, server_name_error};
+ghost use Rattle.mx_ident.specs.Identifier.{host, is_ip_literal, is_server_name, server_name_error};
 ghost use Rattle.mx_ident.specs.declared.refusals.NotAnId.{NotAnId as Cause};
 
 use crate::checking::check_server_name;
+use crate::hosts::{host_of, is_ip_host};
 use crate::refusals::{IdError, NotAnId};
 use std::alloc::{AllocError, Global};
 use std::cmp::Ordering;
@@ -78,6 +79,26 @@ impl ServerName {
         ensures utf8 { IsUtf8 self.now }
     {
         &self.text
+    }
+
+    /// The text of its host, without the port. It takes no memory.
+    ///
+    /// Where the name begins with `[` and has a `]`, the host ends with the first `]`. Otherwise a port is the last
+    /// colon with 1 to 5 digits after it to the end, and without one the host is the whole name.
+    pub fn host(&self) -> &str
+        ensures { result.now ≡ host self.now }
+    {
+        host_of(self.as_str())
+    }
+
+    /// Whether its host is an IP literal: it begins with `[`, or is four numbers of 1 to 3 digits, each at most 255,
+    /// between dots. It takes no memory.
+    ///
+    /// Source: the event `m.room.server_acl` of the Matrix specification.
+    pub fn is_ip_literal(&self) -> bool
+        ensures { result ≡ is_ip_literal self.now }
+    {
+        is_ip_host(self.host())
     }
 }
 

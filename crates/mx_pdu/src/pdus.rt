@@ -1,6 +1,7 @@
 // Events.
-ghost use Rattle.std.specs.Prelude.{◌≡◌, IsTrue, IsUtf8, option_map, IfSome};
+ghost use Rattle.std.specs.Prelude.{◌≡◌, IsTrue, option_and_then, option_map};
 ghost use Rattle.serde_json.specs.Data.{object};
+ghost use Rattle.serde_json.specs.Find.{as_i64, as_number, as_object};
 ghost use Rattle.serde_json.specs.View.{view, members_view};
 ghost use Rattle.mx_redact.specs.Fields.{kind, field, text_field};
 ghost use Rattle.mx_pdu.specs.Event.{room_of, sender_of, state_key_of, content_of, prev_ids, auth_ids, depth_of, timestamp_of, redacts_of};
@@ -8,6 +9,7 @@ ghost use Rattle.mx_pdu.specs.Format.{is_well_formed};
 
 use mx_ident::{EventId, RoomId, UserId};
 use serde_json::{Map, Value};
+use std::alloc::AllocError;
 use std::marker::Model;
 
 /// An event that is well formed: its JSON object, and with it the ids that it names.
@@ -70,9 +72,9 @@ impl Pdu {
     pub fn content(&self) -> &Map<String, Value>
         ensures { object (members_view result.now.entries) ≡ content_of self.now }
     {
-        match value_at(&self.event, "content") {
-            Some(Value::Object(content)) => content,
-            _ => unreachable!(),
+        match object_at(&self.event, "content") {
+            Some(content) => content,
+            None => unreachable!(),
         }
     }
 
@@ -103,9 +105,7 @@ impl Pdu {
     pub fn origin_server_ts(&self) -> i64
         ensures { result ≡ timestamp_of self.now }
     {
-        value_at(&self.event, "origin_server_ts")
-            .and_then(Value::as_i64)
-            .unwrap_or(0)
+        integer_at(&self.event, "origin_server_ts").unwrap_or(0)
     }
 
     /// The event that a redaction names, where `redacts` is an event id.
@@ -141,4 +141,33 @@ fn text_at<'a>(event: &'a Map<String, Value>, key: &str) -> Option<&'a str>
         ≡ text_field key.now (object (members_view event.now.entries)) }
 {
     value_at(event, key).and_then(Value::as_str)
+}
+
+// The 64-bit integer at a key.
+fn integer_at(event: &Map<String, Value>, key: &str) -> Option<i64>
+    ensures { result
+        ≡ option_and_then as_i64 (option_and_then as_number (field key.now (object (members_view event.now.entries)))) }
+{
+    value_at(event, key).and_then(Value::as_i64)
+}
+
+// The object at a key.
+fn object_at<'a>(event: &'a Map<String, Value>, key: &str) -> Option<&'a Map<String, Value>>
+    ensures { option_map (λ object. members_view object.now.entries) result
+        ≡ option_and_then as_object (field key.now (object (members_view event.now.entries))) }
+{
+    value_at(event, key).and_then(Value::as_object)
+}
+
+impl Clone for Pdu {
+    ghost is_clone = { λ pdu copy. copy ≡ pdu };
+
+    fn clone(&self) -> Result<Pdu, AllocError> {
+        let event = self.event.clone()?;
+        let room_id = self.room_id.clone()?;
+        let sender = self.sender.clone()?;
+        let prev_events = self.prev_events.clone()?;
+        let auth_events = self.auth_events.clone()?;
+        Ok(Pdu { event, room_id, sender, prev_events, auth_events })
+    }
 }

@@ -2,3 +2,4 @@ pub mod Fields
 pub mod Redaction
 pub mod Hashes
 pub mod Selected
+pub mod Hashers

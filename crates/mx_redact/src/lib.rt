@@ -2,4 +2,16 @@
 //! events").
 #![tactic(auto)]
 
+mod fields;
+mod hashers;
+mod hashing;
 mod kinds;
+mod parts;
+mod redacting;
+mod selections;
+mod signing;
+
+pub use fields::{text_at, value_at};
+pub use hashing::{content_digest, content_hash, reference_digest, reference_hash};
+pub use redacting::redact;
+pub use signing::{event_id, signing_bytes};

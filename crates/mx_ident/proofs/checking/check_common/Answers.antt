@@ -1,4 +1,4 @@
-use Rattle.std.proofs.Common.{rules, ◌≡◌, ◌<◌, ◌==◌, length, true, false, sym, ◌∙◌}
+use Rattle.std.proofs.Common.{rules, ◌≡◌, ◌<◌, length, true, false, sym, ◌∙◌}
 use Rattle.std.specs.List.{position_or_len}
 use Rattle.mx_ident.specs.Identifier.{begins_with, is_colon, is_empty, server_of}
 use Rattle.mx_ident.proofs.ColonLemmas.{begins_with-first, common_error-no_colon, common_error-empty, common_error-long}

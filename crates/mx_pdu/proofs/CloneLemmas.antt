@@ -1,0 +1,21 @@
+-- Clones of an event's parts.
+use Rattle.std.proofs.Common.{◌≡◌, ℕ, List, [], ◌∷◌, String, Global, string_bytes, refl, ap₂, ◌∙◌, absurd}
+use Rattle.std.specs.List.{AllZip}
+use Rattle.serde_json.specs.Data.{Data, Members, member}
+use Rattle.serde_json.specs.View.{view, members_view}
+use Rattle.serde_json.proofs.Views.{Entry}
+
+abbrev pub IsCopied : Entry → Entry → Type 0
+IsCopied e f = (string_bytes f.0 ≡ string_bytes e.0) × (view f.1 ≡ view e.1)
+
+pub members-copied : (es fs : List Entry) → AllZip IsCopied es fs → members_view fs ≡ members_view es
+members-copied [] [] h = refl
+members-copied [] (f ∷ fs) h = absurd h
+members-copied (e ∷ es) [] h = absurd h
+members-copied (e ∷ es) (f ∷ fs) h = λ i. member (h.0.0 i) (h.0.1 i) (members-copied es fs h.1 i)
+
+pub texts-copied : (xs ys : List (List ℕ)) → AllZip (λ x y. y ≡ x) xs ys → ys ≡ xs
+texts-copied [] [] h = refl
+texts-copied [] (y ∷ ys) h = absurd h
+texts-copied (x ∷ xs) [] h = absurd h
+texts-copied (x ∷ xs) (y ∷ ys) h = ap₂ (λ z zs. z ∷ zs) h.0 (texts-copied xs ys h.1)

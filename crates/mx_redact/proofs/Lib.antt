@@ -1,0 +1,3 @@
+pub mod SelectedLemmas
+pub mod AppendLemmas
+pub mod IdLemmas

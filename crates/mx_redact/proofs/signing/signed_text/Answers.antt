@@ -1,0 +1,7 @@
+use Rattle.std.proofs.Common.{[]}
+use Rattle.mx_redact.specs.Hashes.{signing_text}
+use Rattle.mx_redact.proofs.signing.signed_text.Goals as goal
+
+pub returns : goal.returns
+unfolding signing_text
+returns c = c.in_ok-bytes.ensures _ (c.write_signed.ensures [] c.new-buffer.ensures)
