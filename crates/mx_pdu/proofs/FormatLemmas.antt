@@ -1,5 +1,5 @@
 -- What a well-formed event is.
-use Rattle.std.proofs.Common.{◌≡◌, ℕ, ◌<◌, ◌≤◌, ◌^◌, List, [], ◌∷◌, ◌++◌, length, Bool, true, false, not, ◌&&◌, cond, refl, sym, ap, ◌∙◌, arith, rules, Option, Some, None, IsTrue, is_none, is_some, option_and_then, true≢false}
+use Rattle.std.proofs.Common.{◌≡◌, ℕ, zero, suc, ◌<◌, ◌≤◌, ◌^◌, get_or, lit<, List, [], ◌∷◌, ◌++◌, length, Bool, true, false, not, ◌&&◌, cond, refl, sym, ap, ◌∙◌, arith, rules, Option, Some, None, IsTrue, is_none, is_some, option_and_then, true≢false}
 use Rattle.std.specs.Prelude.{codes, nat_lt, nat_le, ℤ, pos, unwrap_or}
 use Rattle.std.specs.List.{list_all}
 use Rattle.std.proofs.lemmas.List.Folds.{list_all-append}
@@ -14,7 +14,7 @@ use Rattle.serde_json.specs.Find.{get, get_member, as_object, as_number, as_i64,
 use Rattle.mx_canon.specs.Canonical.{is_canonical, is_exact, numbers, member_numbers, canonical_text, largest}
 use Rattle.mx_ident.specs.Identifier.{refuse_if}
 use Rattle.mx_redact.specs.Fields.{field, is_object, is_some_and, is_none_or, value_at}
-use Rattle.mx_pdu.specs.Format.{is_well_formed, format_error, has_fields, is_within_limits, longest_text}
+use Rattle.mx_pdu.specs.Format.{is_well_formed, format_error, has_fields, is_within_limits, longest_text, Field, required_fields, limits, is_string}
 use Rattle.mx_pdu.specs.Event.{timestamp_of, content_of}
 
 -- ---- the five parts of the format
@@ -50,15 +50,41 @@ formed d h =
       limits = not-false (is_within_limits d) five.0;
     }
 
--- ---- the numbers of a canonical object
+-- ---- each field and each limit by its place
 
-and-left : (a b : Bool) → (a && b) ≡ true → a ≡ true
+pub and-left : (a b : Bool) → (a && b) ≡ true → a ≡ true
 and-left true b h = refl
 and-left false b h = h
 
-and-right : (a b : Bool) → (a && b) ≡ true → b ≡ true
+pub and-right : (a b : Bool) → (a && b) ≡ true → b ≡ true
 and-right true b h = h
 and-right false b h = absurd (true≢false (sym h))
+
+pub and-both : (a b : Bool) → a ≡ true → b ≡ true → (a && b) ≡ true
+and-both true b h k = k
+and-both false b h k = absurd (true≢false (sym h))
+
+nth-all : {X : Type 0} (test : X → Bool) (xs : List X) (i : ℕ) (x : X) → i < length xs → list_all test xs ≡ true → test (get_or xs i x) ≡ true
+nth-all test [] i x h all = absurd (omega arith)
+nth-all test (y ∷ ys) zero x h all = and-left _ _ all
+nth-all test (y ∷ ys) (suc i) x h all = nth-all test ys i x (omega arith) (and-right _ _ all)
+
+abbrev pub nth : List Field → ℕ → Field
+nth fs i = get_or fs i ([], is_string)
+
+abbrev HasField : Data → Field → Bool
+HasField d f = is_some_and f.1 (field f.0 d)
+
+abbrev KeepsLimit : Data → Field → Bool
+KeepsLimit d f = is_none_or f.1 (field f.0 d)
+
+pub required-at : (d : Data) (i : ℕ) → IsTrue (is_well_formed d) → i < 10 → is_some_and (nth required_fields i).1 (field (nth required_fields i).0 d) ≡ true
+required-at d i h low = nth-all (HasField d) required_fields i ([], is_string) low (and-left _ _ (formed d h).fields)
+
+pub limit-at : (d : Data) (i : ℕ) → IsTrue (is_well_formed d) → i < 7 → is_none_or (nth limits i).1 (field (nth limits i).0 d) ≡ true
+limit-at d i h low = nth-all (KeepsLimit d) limits i ([], is_string) low (formed d h).limits
+
+-- ---- the numbers of a canonical object
 
 one_of : (o : Ordering) (e : Data) (rest : Option Data) → is_canonical e ≡ true → is_none_or is_canonical rest ≡ true
     → is_none_or is_canonical (match_ordering o rest (Some e) rest) ≡ true
@@ -111,7 +137,7 @@ object-content (Some (string s)) ms h = cc
 object-content (Some (array ds)) ms h = cc
 object-content (Some (object ns)) ms h = cc
 
-object-there : (o : Option Data) → is_some_and is_object o ≡ true → option_and_then as_object o ≡ None → ⊥
+pub object-there : (o : Option Data) → is_some_and is_object o ≡ true → option_and_then as_object o ≡ None → ⊥
 object-there None h none = true≢false (sym h)
 object-there (Some null) h none = true≢false (sym h)
 object-there (Some (boolean b)) h none = true≢false (sym h)
@@ -121,12 +147,26 @@ object-there (Some (array ds)) h none = true≢false (sym h)
 object-there (Some (object ns)) h none = cc
 
 pub content-there : (d : Data) → IsTrue (is_well_formed d) → option_and_then as_object (field (codes "content") d) ≡ None → ⊥
-content-there d h none =
-    let fields = and-left _ _ (formed d h).fields in
-    let later = and-right _ _ fields in
-    object-there (field (codes "content") d) (and-left _ _ later) none
+content-there d h none = object-there (field (codes "content") d) (required-at d 1 h (lit< tt)) none
 
 pub timestamp-is : (d : Data) → IsTrue (is_well_formed d)
     → unwrap_or (option_and_then as_i64 (option_and_then as_number (field (codes "origin_server_ts") d))) (pos 0) ≡ timestamp_of d
 timestamp-is d h =
     ap (λ o. unwrap_or o (pos 0)) (as_i64-canonical (field (codes "origin_server_ts") d) (get-canonical (codes "origin_server_ts") d (formed d h).canonical))
+
+-- ---- what was tested
+
+pub formed-from-none : (d : Data) → None ≡ format_error d → IsTrue (is_well_formed d)
+unfolding is_well_formed
+formed-from-none d h = sym (ap is_none h)
+
+pub object-of : (d : Data) (ms : Members) → Some ms ≡ as_object d → d ≡ object ms
+object-of null ms h = cc
+object-of (boolean b) ms h = cc
+object-of (number n) ms h = cc
+object-of (string s) ms h = cc
+object-of (array ds) ms h = cc
+object-of (object ns) ms h = cc
+
+pub object-is : (d : Data) → IsTrue (is_well_formed d) → None ≡ as_object d → ⊥
+object-is d h none = object-there (Some d) (formed d h).has_object (sym none)

@@ -1,2 +1,10 @@
+pub mod CanonicalLemmas
 pub mod CloneLemmas
+pub mod FieldLemmas
 pub mod FormatLemmas
+pub mod HashLemmas
+pub mod IdLemmas
+pub mod LengthLemmas
+pub mod LookupLemmas
+pub mod RedactionLemmas
+pub mod RiseLemmas

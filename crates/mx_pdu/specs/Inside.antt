@@ -2,6 +2,7 @@
 use Rattle.std.specs.Prelude.{◌≡◌, IsTrue}
 use Rattle.serde_json.specs.Data.{Data, object}
 use Rattle.serde_json.specs.View.{members_view}
+use Rattle.mx_canon.specs.Keys.{KeysRise}
 use Rattle.mx_pdu.specs.Event.{room_of, sender_of, prev_ids, auth_ids}
 use Rattle.mx_pdu.specs.Format.{is_well_formed}
 use Rattle.mx_pdu.specs.declared.pdus.Pdu.TheInside.{Inside}
@@ -12,6 +13,7 @@ event_of p = object (members_view p.event.entries)
 -- the event is well formed, and the ids beside it are its own
 pub record IsSound (p : Inside) : Type 0 where
   pub well_formed : IsTrue (is_well_formed (event_of p))
+  pub rise : KeysRise (event_of p)
   pub room : p.room_id ≡ room_of (event_of p)
   pub sender : p.sender ≡ sender_of (event_of p)
   pub prev : p.prev_events.items ≡ prev_ids (event_of p)

@@ -2,3 +2,4 @@ pub mod Event
 pub mod Format
 pub mod DataCode
 pub mod Inside
+pub mod Verifiers

@@ -1,8 +1,22 @@
 //! Events of a room, as other servers send them (Matrix specification, Room Version 6, event format).
 #![tactic(auto)]
 
+mod checking;
+mod fields;
+mod hashes;
+mod ids;
+mod laws;
+mod limits;
+mod lookups;
+mod offering;
 mod pdus;
 mod refusals;
+#[cfg(test)]
+mod tests;
+mod verifiers;
 
+pub use laws::redaction_keeps_the_format;
+pub use offering::Offered;
 pub use pdus::Pdu;
 pub use refusals::{NotAnEvent, PduError};
+pub use verifiers::{PresenceVerifier, Verifier};

@@ -1,15 +1,25 @@
 // Events.
-ghost use Rattle.std.specs.Prelude.{◌≡◌, IsTrue, option_and_then, option_map};
+ghost use Rattle.std.specs.Prelude.{◌≡◌, ◌↔◌, IfOk, IsErrOf, IsTrue, OnOk, Some, option_map};
+ghost use Rattle.std.specs.Result.{result_err};
 ghost use Rattle.serde_json.specs.Data.{object};
-ghost use Rattle.serde_json.specs.Find.{as_i64, as_number, as_object};
 ghost use Rattle.serde_json.specs.View.{view, members_view};
-ghost use Rattle.mx_redact.specs.Fields.{kind, field, text_field};
+ghost use Rattle.mx_canon.specs.Keys.{KeysRise};
+ghost use Rattle.mx_redact.specs.Fields.{kind};
+ghost use Rattle.mx_redact.specs.Hashes.{hash_holds};
+ghost use Rattle.mx_redact.specs.Redaction.{redact as redacted_form};
 ghost use Rattle.mx_pdu.specs.Event.{room_of, sender_of, state_key_of, content_of, prev_ids, auth_ids, depth_of, timestamp_of, redacts_of};
-ghost use Rattle.mx_pdu.specs.Format.{is_well_formed};
+ghost use Rattle.mx_pdu.specs.Format.{format_error, is_well_formed};
+ghost use Rattle.mx_pdu.specs.declared.refusals.NotAnEvent.{NotAnEvent as Cause};
 
+use crate::checking::check_format;
+use crate::hashes::{is_text_of, named_hash};
+use crate::ids::{event_ids_at, room_id_of, user_id_of};
+use crate::lookups::{integer_at, into_object, object_at, text_or_empty_at};
+use crate::refusals::{NotAnEvent, PduError};
 use mx_ident::{EventId, RoomId, UserId};
+use mx_redact::{content_digest, redact, text_at, value_at};
 use serde_json::{Map, Value};
-use std::alloc::AllocError;
+use std::alloc::{AllocError, Global};
 use std::marker::Model;
 
 /// An event that is well formed: its JSON object, and with it the ids that it names.
@@ -40,11 +50,61 @@ impl Model for Pdu {
 }
 
 impl Pdu {
+    /// The event that the value is.
+    ///
+    /// `NotAnEvent` with the cause that [`Pdu::check`] gives. The time is linear in the value's size.
+    pub fn from_value(alloc: Global, value: Value) -> Result<Pdu, PduError>
+        ensures ok { IfOk result (λ pdu. pdu ≡ view value) }
+        ensures well_formed { OnOk result (IsTrue (is_well_formed (view value))) }
+        // It is tested first, so that memory may run out only where the value is an event.
+        ensures refused { (cause : Cause)
+            → (IsErrOf result (PduError.NotAnEvent cause) ↔ (format_error (view value) ≡ Some cause)) }
+    {
+        check_format(&value)?;
+        match into_object(value) {
+            Some(event) => {
+                let pdu = Pdu::of_checked(alloc, event)?;
+                Ok(pdu)
+            }
+            None => unreachable!(),
+        }
+    }
+
+    // Of an object that is well formed.
+    fn of_checked(alloc: Global, event: Map<String, Value>) -> Result<Pdu, AllocError>
+        requires well_formed { IsTrue (is_well_formed (object (members_view event.entries))) }
+        requires keys { KeysRise (object (members_view event.entries)) }
+        ensures { IfOk result (λ pdu. pdu ≡ object (members_view event.entries)) }
+    {
+        let room_id = room_id_of(alloc, text_or_empty_at(&event, "room_id"))?;
+        let sender = user_id_of(alloc, text_or_empty_at(&event, "sender"))?;
+        let prev_events = event_ids_at(alloc, &event, "prev_events")?;
+        let auth_events = event_ids_at(alloc, &event, "auth_events")?;
+        Ok(Pdu {
+            event,
+            room_id,
+            sender,
+            prev_events,
+            auth_events,
+        })
+    }
+
+    /// Why the value is no event of room version 6, if it is none. It takes no memory.
+    ///
+    /// In this order: `NotAnObject`; `NotCanonical`; `TextTooLong`, over 65,536 bytes; `WrongField`, a field missing
+    /// or of a wrong kind; `OverLimit`. An id text that is no id whatever its length is of a wrong kind. Source: the
+    /// Matrix specification, Room Version 6, "Event format", and Client-Server API, "Size limits".
+    pub fn check(value: &Value) -> Result<(), NotAnEvent>
+        ensures { result_err result ≡ format_error (view value.now) }
+    {
+        check_format(value)
+    }
+
     /// Its type.
     pub fn kind(&self) -> &str
         ensures { result.now ≡ kind self.now }
     {
-        text_at(&self.event, "type").unwrap_or("")
+        text_or_empty_at(&self.event, "type")
     }
 
     /// The room that it is of.
@@ -118,6 +178,39 @@ impl Pdu {
         }
     }
 
+    /// Whether the text at `sha256` in `hashes` is the unpadded standard base64 of its content hash. It takes no
+    /// memory.
+    ///
+    /// Source: the Matrix specification, Server-Server API, "Calculating the content hash for an event".
+    pub fn hash_holds(&self) -> bool
+        ensures { result ≡ hash_holds self.now }
+    {
+        match named_hash(&self.event) {
+            Some(text) => is_text_of(text, &content_digest(&self.event)),
+            None => false,
+        }
+    }
+
+    /// Its redacted form, with the same ids.
+    ///
+    /// Source: the Matrix specification, Room Version 6, "Redactions".
+    pub fn redacted(&self, alloc: Global) -> Result<Pdu, AllocError>
+        ensures { IfOk result (λ pdu. pdu ≡ redacted_form self.now) }
+    {
+        let event = redact(alloc, &self.event)?;
+        let room_id = self.room_id.clone()?;
+        let sender = self.sender.clone()?;
+        let prev_events = self.prev_events.clone()?;
+        let auth_events = self.auth_events.clone()?;
+        Ok(Pdu {
+            event,
+            room_id,
+            sender,
+            prev_events,
+            auth_events,
+        })
+    }
+
     /// The whole event.
     pub fn as_map(&self) -> &Map<String, Value>
         ensures event { object (members_view result.now.entries) ≡ self.now }
@@ -125,38 +218,6 @@ impl Pdu {
     {
         &self.event
     }
-}
-
-// The value at a key.
-fn value_at<'a>(event: &'a Map<String, Value>, key: &str) -> Option<&'a Value>
-    ensures { option_map (λ value. view value.now) result
-        ≡ field key.now (object (members_view event.now.entries)) }
-{
-    event.get(key)
-}
-
-// The text at a key.
-fn text_at<'a>(event: &'a Map<String, Value>, key: &str) -> Option<&'a str>
-    ensures { option_map (λ text. text.now) result
-        ≡ text_field key.now (object (members_view event.now.entries)) }
-{
-    value_at(event, key).and_then(Value::as_str)
-}
-
-// The 64-bit integer at a key.
-fn integer_at(event: &Map<String, Value>, key: &str) -> Option<i64>
-    ensures { result
-        ≡ option_and_then as_i64 (option_and_then as_number (field key.now (object (members_view event.now.entries)))) }
-{
-    value_at(event, key).and_then(Value::as_i64)
-}
-
-// The object at a key.
-fn object_at<'a>(event: &'a Map<String, Value>, key: &str) -> Option<&'a Map<String, Value>>
-    ensures { option_map (λ object. members_view object.now.entries) result
-        ≡ option_and_then as_object (field key.now (object (members_view event.now.entries))) }
-{
-    value_at(event, key).and_then(Value::as_object)
 }
 
 impl Clone for Pdu {

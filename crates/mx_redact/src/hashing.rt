@@ -20,7 +20,7 @@ use serde_json::{Map, Value};
 pub fn content_hash(event: &Map<String, Value>) -> Result<[u8; 32], NotCanonical>
     ensures { MatchResult result
         (λ hash. (hash ≡ content_hash_of (object (members_view event.now.entries)))
-            × (canonical_error (hashed_part (object (members_view event.now.entries))) ≡ None))
+        × (canonical_error (hashed_part (object (members_view event.now.entries))) ≡ None))
         (λ cause. canonical_error (hashed_part (object (members_view event.now.entries))) ≡ Some cause) }
 {
     match fault_in_hashed(event) {
@@ -47,7 +47,7 @@ pub fn content_digest(event: &Map<String, Value>) -> [u8; 32]
 pub fn reference_hash(event: &Map<String, Value>) -> Result<[u8; 32], NotCanonical>
     ensures { MatchResult result
         (λ hash. (hash ≡ reference_hash_of (object (members_view event.now.entries)))
-            × (canonical_error (signed_part (object (members_view event.now.entries))) ≡ None))
+        × (canonical_error (signed_part (object (members_view event.now.entries))) ≡ None))
         (λ cause. canonical_error (signed_part (object (members_view event.now.entries))) ≡ Some cause) }
 {
     match fault_in_signed(event) {

@@ -7,11 +7,15 @@ mod hashers;
 mod hashing;
 mod kinds;
 mod parts;
+#[cfg(test)]
+mod plain;
 mod redacting;
 mod selections;
 mod signing;
+#[cfg(test)]
+mod tests;
 
 pub use fields::{text_at, value_at};
 pub use hashing::{content_digest, content_hash, reference_digest, reference_hash};
 pub use redacting::redact;
-pub use signing::{event_id, signing_bytes};
+pub use signing::{event_id, id_with_hash, signing_bytes};

@@ -160,7 +160,7 @@ fn write_member<S: TextSink>(
 )
     ensures { (taken : List ℕ) → S.has_taken sink.old taken
         → S.has_taken sink.new ((taken ++ comma_if later)
-            ++ member_text (key.now, canonical_text (selected_value selection key.now (view value.now)))) }
+        ++ member_text (key.now, canonical_text (selected_value selection key.now (view value.now)))) }
 {
     if later {
         sink.put(b",");

@@ -57,12 +57,14 @@ pub fn event_id(alloc: Global, event: &Map<String, Value>) -> Result<EventId, Ca
         ↔ (canonical_error (signed_part (object (members_view event.now.entries))) ≡ Some cause)) }
 {
     let hash = reference_hash(event).map_err(CanonError::NotCanonical)?;
-    let id = id_of(alloc, &hash)?;
+    let id = id_with_hash(alloc, &hash)?;
     Ok(id)
 }
 
-// `$` and the unpadded URL-safe base64 of the hash.
-fn id_of(alloc: Global, hash: &[u8; 32]) -> Result<EventId, AllocError>
+/// The id of the event with this reference hash: `$` and the unpadded URL-safe base64 of the hash.
+///
+/// Source: the Matrix specification, Room Version 4, "Event IDs".
+pub fn id_with_hash(alloc: Global, hash: &[u8; 32]) -> Result<EventId, AllocError>
     ensures { IfOk result (λ id. id ≡ 36 ∷ encode_of url_safe_no_pad hash.now) }
 {
     let mut text = String::from_str(alloc, "$")?;

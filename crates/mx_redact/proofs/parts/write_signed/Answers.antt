@@ -11,5 +11,5 @@ pub returns : goal.returns
 returns g c = λ taken had.
     let ms = members_view c.args.event.now.entries in
     subst (λ d. g.S.TextSink.has_taken c.write_selected.new.sink (taken ++ canonical_text d))
-        (ap (λ kept. object (selected (Signed kept) ms)) c.kept_content_in.ensures ∙ selected-signed_part ms)
-        (c.write_selected.ensures taken had)
+    (ap (λ kept. object (selected (Signed kept) ms)) c.kept_content_in.ensures ∙ selected-signed_part ms)
+    (c.write_selected.ensures taken had)

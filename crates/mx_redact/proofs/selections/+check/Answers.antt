@@ -18,7 +18,7 @@ fault_in-loop-key-preserved-then-not-has t c =
     let whole = fault_of (member_numbers (selected s (members_view c.args.members.now.entries))) in
     let outside : is_selected s k ≡ false = ap (is_selected s) (sym c.deref.ensures) ∙ sym c.has.ensures ∙ c.if-not-has.true in
     fault-out s k (view c.in-Some.value.now) (members_view c.next.new.self) c.loop-key.found whole outside
-        (subst (λ es. graver c.loop-key.found (fault_of (member_numbers (selected s (members_view es)))) ≡ whole) c.in-Some.ensures.steps c.loop-key.invariant)
+    (subst (λ es. graver c.loop-key.found (fault_of (member_numbers (selected s (members_view es)))) ≡ whole) c.in-Some.ensures.steps c.loop-key.invariant)
 
 pub fault_in-loop-key-preserved : goal.fault_in-loop-key-preserved
 fault_in-loop-key-preserved t c =
@@ -30,4 +30,4 @@ fault_in-loop-key-preserved t c =
     let here : c.fault_in_value.result ≡ fault_of (numbers (selected_value s k v)) = c.fault_in_value.ensures ∙ ap (λ l. fault_of (numbers (selected_value s l v))) c.deref-in-loop-key.ensures in
     ap (λ o. graver o (fault_of (member_numbers (selected s (members_view c.next.new.self))))) c.gravest-found.ensures
     ∙ fault-in s k v (members_view c.next.new.self) c.loop-key.found whole c.fault_in_value.result inside here
-        (subst (λ es. graver c.loop-key.found (fault_of (member_numbers (selected s (members_view es)))) ≡ whole) c.in-Some.ensures.steps c.loop-key.invariant)
+    (subst (λ es. graver c.loop-key.found (fault_of (member_numbers (selected s (members_view es)))) ≡ whole) c.in-Some.ensures.steps c.loop-key.invariant)

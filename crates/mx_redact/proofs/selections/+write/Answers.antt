@@ -16,8 +16,8 @@ use Rattle.mx_redact.proofs.selections.+write.Goals as goal
 pub write_selected_value-returns-in-Some-Object : goal.write_selected_value-returns-in-Some-Object
 write_selected_value-returns-in-Some-Object g t c = λ taken had.
     subst (λ d. g.S.TextSink.has_taken c.write_selected.new.sink (taken ++ canonical_text d))
-        (sym (selected_value-Object c.args.selection c.args.key.now c.inner.result c.in-Some-Object.kept c.args.value.now c.in-Some-Object.members c.in-Some-Object.is-0 c.inner.ensures c.in-Some-Object.is-1))
-        (c.write_selected.ensures taken had)
+    (sym (selected_value-Object c.args.selection c.args.key.now c.inner.result c.in-Some-Object.kept c.args.value.now c.in-Some-Object.members c.in-Some-Object.is-0 c.inner.ensures c.in-Some-Object.is-1))
+    (c.write_selected.ensures taken had)
 
 pub write_selected-loop-key-preserved-then-not-has : goal.write_selected-loop-key-preserved-then-not-has
 unfolding IsStrictlySortedBy

@@ -14,5 +14,5 @@ abbrev pub invariant-write_selected-loop-key : goal.invariant-write_selected-loo
 invariant-write_selected-loop-key g l =
     IsStrictlySortedBy string_cmp (keys_of l.key-iterator)
     × ((taken : List ℕ) → g.S.TextSink.has_taken l.initial.sink taken
-        → (out : List ℕ) × g.S.TextSink.has_taken l.sink out
-            × (out ++ left l.later (map member_text (sorted_members (selected l.selection (members_view l.key-iterator)))) ≡ taken ++ join_with_byte 44 (map member_text (sorted_members (selected l.selection (members_view l.members.entries))))))
+    → (out : List ℕ) × g.S.TextSink.has_taken l.sink out
+    × (out ++ left l.later (map member_text (sorted_members (selected l.selection (members_view l.key-iterator)))) ≡ taken ++ join_with_byte 44 (map member_text (sorted_members (selected l.selection (members_view l.members.entries))))))

@@ -1,0 +1,4 @@
+pub mod StateView
+pub mod Rules
+pub mod Entries
+pub mod Keys

@@ -1,0 +1,29 @@
+// The rules of create events.
+ghost use Rattle.std.specs.Prelude.{◌≡◌};
+ghost use Rattle.std.specs.Result.{result_err};
+ghost use Rattle.mx_auth.specs.Rules.{first_line, create_lines};
+
+use crate::events::is_text;
+use crate::refusals::Rule;
+use mx_pdu::Pdu;
+use mx_redact::text_at;
+
+/// Judges a create event.
+#[tactic(auto, unfolding(crate::specs::Rules::create_lines))]
+pub(crate) fn judge_create(event: &Pdu) -> Result<(), Rule>
+    ensures { result_err result ≡ first_line (create_lines event.now) }
+{
+    if !event.prev_events().is_empty() {
+        return Err(Rule::CreateHasPrevEvents);
+    }
+    if event.room_id().server() != event.sender().server() {
+        return Err(Rule::CreateOfAnotherServer);
+    }
+    if !is_text(text_at(event.content(), "room_version"), "6") {
+        return Err(Rule::CreateVersionUnknown);
+    }
+    if text_at(event.content(), "creator").is_none() {
+        return Err(Rule::CreateWithoutCreator);
+    }
+    Ok(())
+}

@@ -1,0 +1,18 @@
+//! The authorization rules of a room (Matrix specification, Room Version 6, authorization rules).
+#![tactic(auto)]
+
+mod citing;
+mod creating;
+mod events;
+mod judging;
+mod memberships;
+mod power_levels;
+mod refusals;
+mod selecting;
+mod states;
+
+pub use citing::{CitedEvent, judge_auth_events};
+pub use judging::{agreeing_states_judge_alike, judge};
+pub use refusals::Rule;
+pub use selecting::{NeededKeys, StateKey, needed_keys};
+pub use states::RoomState;

@@ -1,0 +1,113 @@
+// The rules of member events.
+ghost use Rattle.std.specs.Prelude.{◌≡◌};
+ghost use Rattle.std.specs.Result.{result_err};
+ghost use Rattle.mx_auth.specs.Rules.{first_line, join_lines, invite_lines, leave_lines, ban_lines, member_lines};
+
+use crate::events::{all_are, is_creator, is_own, membership_of, target_of};
+use crate::refusals::Rule;
+use crate::states::{RoomState, create_event, is_banned, is_invited_or_joined, is_joined, join_rule_in, levels_in};
+use mx_pdu::Pdu;
+use mx_redact::value_at;
+
+/// Judges a member event.
+#[tactic(auto, unfolding(crate::specs::Rules::member_lines))]
+pub(crate) fn judge_member<S: RoomState>(event: &Pdu, state: &S) -> Result<(), Rule>
+    ensures { result_err result ≡ first_line (member_lines event.now (S.state state.now)) }
+{
+    if event.state_key().is_none() {
+        return Err(Rule::MemberIncomplete);
+    }
+    match membership_of(event) {
+        Some("join") => judge_join(event, state),
+        Some("invite") => judge_invite(event, state),
+        Some("leave") => judge_leave(event, state),
+        Some("ban") => judge_ban(event, state),
+        Some(_) => Err(Rule::MembershipUnknown),
+        None => Err(Rule::MemberIncomplete),
+    }
+}
+
+#[tactic(auto, unfolding(crate::specs::Rules::join_lines))]
+fn judge_join<S: RoomState>(event: &Pdu, state: &S) -> Result<(), Rule>
+    ensures { result_err result ≡ first_line (join_lines event.now (S.state state.now)) }
+{
+    let user = target_of(event);
+    if all_are(state.create_id(), event.prev_events()) && is_creator(create_event(state), user) {
+        return Ok(());
+    }
+    if !is_own(event) {
+        return Err(Rule::JoinForAnother);
+    }
+    if is_banned(state, user) {
+        return Err(Rule::JoinOfBanned);
+    }
+    let rule = join_rule_in(state);
+    if rule == "public" || (rule == "invite" && is_invited_or_joined(state, user)) {
+        return Ok(());
+    }
+    Err(Rule::JoinNotAllowed)
+}
+
+#[tactic(auto, unfolding(crate::specs::Rules::invite_lines))]
+fn judge_invite<S: RoomState>(event: &Pdu, state: &S) -> Result<(), Rule>
+    ensures { result_err result ≡ first_line (invite_lines event.now (S.state state.now)) }
+{
+    let sender = event.sender().as_str();
+    let target = target_of(event);
+    if value_at(event.content(), "third_party_invite").is_some() {
+        return Err(Rule::InviteByThirdParty);
+    }
+    if !is_joined(state, sender) {
+        return Err(Rule::InviterNotJoined);
+    }
+    if is_joined(state, target) || is_banned(state, target) {
+        return Err(Rule::InviteOfJoinedOrBanned);
+    }
+    let levels = levels_in(state);
+    if levels.user(sender) >= levels.invite() {
+        return Ok(());
+    }
+    Err(Rule::InviteLevelTooLow)
+}
+
+#[tactic(auto, unfolding(crate::specs::Rules::leave_lines))]
+fn judge_leave<S: RoomState>(event: &Pdu, state: &S) -> Result<(), Rule>
+    ensures { result_err result ≡ first_line (leave_lines event.now (S.state state.now)) }
+{
+    let sender = event.sender().as_str();
+    let target = target_of(event);
+    if is_own(event) {
+        if is_invited_or_joined(state, target) {
+            return Ok(());
+        }
+        return Err(Rule::LeaveNotInvitedOrJoined);
+    }
+    if !is_joined(state, sender) {
+        return Err(Rule::KickerNotJoined);
+    }
+    let levels = levels_in(state);
+    let level = levels.user(sender);
+    if is_banned(state, target) && level < levels.ban() {
+        return Err(Rule::UnbanLevelTooLow);
+    }
+    if level >= levels.kick() && levels.user(target) < level {
+        return Ok(());
+    }
+    Err(Rule::KickLevelTooLow)
+}
+
+#[tactic(auto, unfolding(crate::specs::Rules::ban_lines))]
+fn judge_ban<S: RoomState>(event: &Pdu, state: &S) -> Result<(), Rule>
+    ensures { result_err result ≡ first_line (ban_lines event.now (S.state state.now)) }
+{
+    let sender = event.sender().as_str();
+    if !is_joined(state, sender) {
+        return Err(Rule::BannerNotJoined);
+    }
+    let levels = levels_in(state);
+    let level = levels.user(sender);
+    if level >= levels.ban() && levels.user(target_of(event)) < level {
+        return Ok(());
+    }
+    Err(Rule::BanLevelTooLow)
+}

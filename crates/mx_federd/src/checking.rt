@@ -1,0 +1,105 @@
+// `check`: one event, from its bytes to its id.
+ghost use Rattle.std.specs.Prelude.{◌≡◌, IfOk, IsErrOf, IsTrue, None, Some};
+ghost use Rattle.serde_json.specs.Data.{Data};
+ghost use Rattle.serde_json.specs.View.{view};
+ghost use Rattle.mx_canon.specs.Canonical.{canonical_error, canonical_text};
+ghost use Rattle.mx_canon.specs.Reading.{IsJsonFor};
+ghost use Rattle.mx_canon.specs.declared.checking.NotCanonical.{NotCanonical as Unwritable};
+ghost use Rattle.mx_redact.specs.Hashes.{event_id, hash_holds};
+ghost use Rattle.mx_pdu.specs.Format.{format_error, is_well_formed};
+ghost use Rattle.mx_pdu.specs.declared.refusals.NotAnEvent.{NotAnEvent as Malformed};
+
+use mx_canon::{CanonError, NotCanonical, ReadError, read, text};
+use mx_ident::EventId;
+use mx_pdu::{NotAnEvent, Pdu, PduError};
+use mx_redact::{id_with_hash, reference_digest};
+use serde_json::Value;
+use std::alloc::{AllocError, Global};
+use thiserror::Error;
+
+/// Why an event was not checked. Of several causes the first in this order is given.
+#[derive(Clone, Copy, Debug, PartialEq, Eq, Drop, Error)]
+pub enum CheckError {
+    #[error("memory")]
+    Memory,
+    #[error("refused: not JSON")]
+    NotJson,
+    #[error("refused: not canonical")]
+    NotCanonical(NotCanonical),
+    #[error("refused: {0}")]
+    NotAnEvent(NotAnEvent),
+}
+
+impl From<ReadError> for CheckError {
+    ghost use Rattle.mx_federd.specs.CheckErrors.{of_reading};
+
+    ghost from_gives = { λ cause e. e ≡ of_reading cause };
+
+    fn from(error: ReadError) -> CheckError {
+        match error {
+            ReadError::Memory => CheckError::Memory,
+            ReadError::NotJson => CheckError::NotJson,
+            ReadError::NotCanonical(cause) => CheckError::NotCanonical(cause),
+        }
+    }
+}
+
+impl From<AllocError> for CheckError {
+    ghost use Rattle.mx_federd.specs.declared.checking.CheckError.TheVariants as variants;
+
+    ghost from_gives = { λ _ e. e ≡ variants.Memory };
+
+    fn from(_refused: AllocError) -> CheckError {
+        CheckError::Memory
+    }
+}
+
+/// What is told about an event.
+#[derive(Debug, Drop)]
+pub struct Checked {
+    pub id: EventId,
+    pub hash_holds: bool,
+    pub text: Vec<u8>,
+}
+
+/// Reads one event: its id, whether its content hash holds, and its canonical text.
+///
+/// `NotJson` and `NotCanonical` as `mx_canon::read` gives them, `NotAnEvent` as `Pdu::from_value` does. Source: the
+/// Matrix specification, Room Version 6, "Event format", and Server-Server API, "Signing events".
+pub fn check_event(alloc: Global, bytes: &[u8]) -> Result<Checked, CheckError>
+    ensures ok { IfOk result (λ checked. (d : Data) × IsJsonFor d bytes.now × IsTrue (is_well_formed d)
+        × (checked.id ≡ event_id d) × (checked.hash_holds ≡ hash_holds d)
+        × (checked.text.items ≡ canonical_text d)) }
+    ensures not_json { IsErrOf result CheckError.NotJson → (d : Data) → ¬ IsJsonFor d bytes.now }
+    ensures not_canonical { (cause : Unwritable) → IsErrOf result (CheckError.NotCanonical cause)
+        → (d : Data) × IsJsonFor d bytes.now × (canonical_error d ≡ Some cause) }
+    ensures not_an_event { (cause : Malformed) → IsErrOf result (CheckError.NotAnEvent cause)
+        → (d : Data) × IsJsonFor d bytes.now × (format_error d ≡ Some cause) }
+{
+    let value = read(alloc, bytes)?;
+    let text = text_of(alloc, &value)?;
+    match Pdu::from_value(alloc, value) {
+        Ok(pdu) => {
+            let id = id_with_hash(alloc, &reference_digest(pdu.as_map()))?;
+            Ok(Checked {
+                id,
+                hash_holds: pdu.hash_holds(),
+                text,
+            })
+        }
+        Err(PduError::Memory) => Err(CheckError::Memory),
+        Err(PduError::NotAnEvent(cause)) => Err(CheckError::NotAnEvent(cause)),
+    }
+}
+
+// The canonical text of a value that has one.
+fn text_of(alloc: Global, value: &Value) -> Result<Vec<u8>, AllocError>
+    requires { canonical_error (view value.now) ≡ None }
+    ensures { IfOk result (λ bytes. bytes.items ≡ canonical_text (view value.now)) }
+{
+    match text(alloc, value) {
+        Ok(bytes) => Ok(bytes),
+        Err(CanonError::Memory) => Err(AllocError),
+        Err(CanonError::NotCanonical(_)) => unreachable!(),
+    }
+}

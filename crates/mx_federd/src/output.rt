@@ -1,0 +1,78 @@
+// What the program says, and its exit statuses.
+use crate::checking::{CheckError, Checked};
+use crate::input::InputError;
+use std::alloc::{AllocError, Global};
+use std::io::Write;
+use thiserror::Error;
+
+/// The exit status of a run that did what it was asked.
+pub const SUCCESS: u8 = 0;
+/// The exit status where the input was refused, memory ran out, or a read or a write failed.
+pub const REFUSED: u8 = 1;
+/// The exit status where the command line was wrong.
+pub const MISUSED: u8 = 2;
+
+/// Why the program did not do what it was asked.
+#[derive(Clone, Copy, Debug, PartialEq, Eq, Drop, Error)]
+pub enum Failure {
+    #[error(transparent)]
+    Check(CheckError),
+    #[error("memory")]
+    Memory,
+    #[error("failed read or write")]
+    ReadOrWrite,
+}
+
+impl From<AllocError> for Failure {
+    fn from(_refused: AllocError) -> Failure {
+        Failure::Memory
+    }
+}
+
+impl From<InputError> for Failure {
+    fn from(error: InputError) -> Failure {
+        match error {
+            InputError::Memory => Failure::Memory,
+            InputError::Read => Failure::ReadOrWrite,
+        }
+    }
+}
+
+impl From<CheckError> for Failure {
+    fn from(error: CheckError) -> Failure {
+        Failure::Check(error)
+    }
+}
+
+/// Says in one line on `err` what failed, where that can be written, and gives the exit status.
+pub fn report<E: Write>(failure: Failure, err: &mut E) -> u8 {
+    let _ = writeln!(err, "{failure}");
+    REFUSED
+}
+
+/// The three lines of `check`.
+pub fn lines_of(alloc: Global, checked: &Checked) -> Result<Vec<u8>, AllocError> {
+    let hash = if checked.hash_holds { "good" } else { "bad" };
+    let id = checked.id.as_str();
+    let head = format!(in alloc; "id {id}\nhash {hash}\ncanonical ")?;
+    let mut lines = Vec::with_capacity(alloc, head.len().saturating_add(checked.text.len()).saturating_add(1))?;
+    lines.extend_from_slice(head.as_bytes())?;
+    lines.extend_from_slice(&checked.text)?;
+    lines.push(b'\n')?;
+    Ok(lines)
+}
+
+/// Writes all of the bytes.
+pub fn write_to<W: Write>(out: &mut W, bytes: &[u8]) -> Result<(), Failure> {
+    match out.write_all(bytes) {
+        Ok(()) => flushed(out),
+        Err(_) => Err(Failure::ReadOrWrite),
+    }
+}
+
+fn flushed<W: Write>(out: &mut W) -> Result<(), Failure> {
+    match out.flush() {
+        Ok(()) => Ok(()),
+        Err(_) => Err(Failure::ReadOrWrite),
+    }
+}

@@ -1,0 +1,6 @@
+pub mod Members
+pub mod Closure
+pub mod WalkLemmas
+pub mod ReachedLemmas
+pub mod RowLemmas
+pub mod IndexLemmas

@@ -1,0 +1,18 @@
+use Rattle.std.proofs.Common.{ap, ◌∙◌}
+use Rattle.mx_graph.specs.Record.{event, auth_events}
+use Rattle.mx_graph.specs.Edges.{cited}
+use Rattle.mx_graph.specs.Graph.{auth_chain}
+use Rattle.mx_graph.proofs.IndexLemmas.{lead-down}
+use Rattle.mx_graph.proofs.ReachedLemmas.{reached-rising}
+use Rattle.mx_graph.proofs.graphs.Graph.auth_chain.Goals as goal
+
+pub reached-requires : goal.reached-requires
+reached-requires c =
+    rw c.deref.ensures.value (lead-down c.self.inside.rows.items (λ p. auth_events c.self.inside.rows.items (event c.self.inside.rows.items p)) c.self.inside.auth_edges.items c.self.invariant.auth_down c.self.invariant.auth_edges)
+
+pub returns : goal.returns
+unfolding auth_chain
+returns c =
+    rw (← c.self.view_is)
+    (reached-rising c.self.inside.rows.items (λ p. auth_events c.self.inside.rows.items (event c.self.inside.rows.items p)) (cited c.deref.result.now) c.args.starts.now c.in_ok-found.found.items
+    c.self.invariant.auth_down (λ p. ap (λ e. cited e p) c.deref.ensures.value ∙ c.self.invariant.auth_edges p) c.in_ok-found.ensures.rises c.in_ok-found.ensures.least)

@@ -1,0 +1,52 @@
+-- Which events can be reached from others by prev events, and by auth events.
+use Rattle.std.specs.Prelude.{ℕ, zero, suc, Bool, ◌||◌, List, [], ◌++◌, length, flat_map, IsTrue, ◌<◌, ◌≡◌}
+use Rattle.mx_graph.specs.Record.{Row, events_where, is_in, row, event, prev_events, auth_events}
+
+module _ (rows : List Row) (cites : ℕ → List ℕ) (starts : List ℕ) where
+  -- the events that at most n citations lead to from the starts, one or more
+  abbrev pub reached_within : ℕ → List ℕ
+  reached_within zero = []
+  reached_within (suc n) =
+      let cited = flat_map cites (starts ++ reached_within n) in
+      events_where rows (is_in cited)
+
+  -- the least set that has what the starts cite, and what its members cite
+  abbrev pub reached : List ℕ
+  reached = reached_within (length rows)
+
+-- Matrix specification, Server-Server API, PDUs: the prev events of these events, theirs, and so on
+unfoldable pub ancestors : List Row → List ℕ → List ℕ
+ancestors rows starts = reached rows (λ p. prev_events rows (event rows p)) starts
+
+-- Matrix specification, State Resolution v2, auth chain: the auth events of these events, theirs, and so on
+unfoldable pub auth_chain : List Row → List ℕ → List ℕ
+auth_chain rows starts = reached rows (λ p. auth_events rows (event rows p)) starts
+
+-- ---- what these sets are
+
+-- a set, by its test, that has what the starts cite and what its members cite
+abbrev pub IsClosed : (ℕ → List ℕ) → List ℕ → (ℕ → Bool) → Type 0
+IsClosed cites starts test = (x y : ℕ) → IsTrue (is_in starts x || test x) → IsTrue (is_in (cites x) y) → IsTrue (test y)
+
+-- the least such set
+abbrev pub IsLeastClosed : (ℕ → List ℕ) → List ℕ → (ℕ → Bool) → Type 0
+IsLeastClosed cites starts test =
+    IsClosed cites starts test
+    × ((other : ℕ → Bool) → IsClosed cites starts other → (p : ℕ) → IsTrue (test p) → IsTrue (other p))
+
+-- each event cites events of the record that came before it
+abbrev pub CitesDown : List Row → (ℕ → List ℕ) → Type 0
+CitesDown rows cites = (x y : ℕ) → IsTrue (is_in (cites x) y) → (y < length rows) × (y < x)
+
+-- a record as it grows by arrivals: each id once, and the events that an event cites before it
+pub record IsSound (rows : List Row) : Type 0 where
+  pub ids : (x y : ℕ) → x < length rows → y < length rows → (row rows x).id ≡ (row rows y).id → x ≡ y
+  pub prev : CitesDown rows (λ p. prev_events rows (event rows p))
+  pub auth : CitesDown rows (λ p. auth_events rows (event rows p))
+
+-- a law: in such a record the ancestors and the auth chain are the least sets
+abbrev pub ClosuresAreLeast : Type 0
+ClosuresAreLeast =
+    (rows : List Row) (starts : List ℕ) → IsSound rows
+    → IsLeastClosed (λ p. prev_events rows (event rows p)) starts (is_in (ancestors rows starts))
+        × IsLeastClosed (λ p. auth_events rows (event rows p)) starts (is_in (auth_chain rows starts))

@@ -1,0 +1,6 @@
+pub mod Record
+pub mod Graph
+pub mod Adding
+pub mod RowCode
+pub mod Edges
+pub mod Inside

@@ -1,0 +1,228 @@
+// The graph of a room.
+ghost use Rattle.std.specs.Prelude.{◌≡◌, ◌+◌, ◌<◌, ◌≤◌, ◌↔◌, IfOk, IsErrOf, IsTrue, None, OnErr, OnOk, Some, [], ◌∷◌, ◌++◌, filter_map, length};
+ghost use Rattle.std.specs.List.{list_all};
+ghost use Rattle.std.specs.Result.{result_err};
+ghost use Rattle.mx_graph.specs.Adding.{add_error, is_known};
+ghost use Rattle.mx_graph.specs.Graph as closure;
+ghost use Rattle.mx_graph.specs.Record as definition;
+ghost use Rattle.mx_graph.specs.declared.refusals.NotAdded.{NotAdded as Cause};
+
+use crate::closing::reached;
+use crate::numbers::EventNo;
+use crate::refusals::{GraphError, NotAdded};
+use crate::rows::GraphRow;
+use mx_ident::EventId;
+use std::alloc::{AllocError, Global};
+use std::collections::BTreeMap;
+use std::marker::Model;
+
+/// The most rows of a graph.
+pub const MOST_ROWS: usize = 50_000;
+
+/// The events of a room in the order of their arrival, each with the earlier ones that it cites.
+///
+/// Each event id is there once, and each event that an event cites came before it. So what citations lead to from
+/// some events, their ancestors and their auth chain, is found from the last one down.
+///
+/// Source: the Matrix specification, Server-Server API, "PDUs".
+#[derive(Debug, Drop)]
+pub struct Graph {
+    alloc: Global,
+    rows: Vec<GraphRow>,
+    // What each row cites.
+    prev_edges: Vec<Vec<EventNo>>,
+    auth_edges: Vec<Vec<EventNo>>,
+    numbers: BTreeMap<EventId, EventNo>,
+}
+
+impl Model for Graph {
+    ghost use Rattle.std.specs.Prelude.{List};
+    ghost use Rattle.mx_graph.specs.Record.{Row};
+    ghost use Rattle.mx_graph.specs.RowCode.{rows_code};
+
+    ghost Value = { List Row };
+
+    ghost coded = { rows_code };
+
+    ghost use Rattle.mx_graph.specs.Inside.{IsIndexed};
+
+    ghost view = { λ g. g.rows.items };
+
+    ghost invariant = { λ g. IsIndexed g.rows.items g.prev_edges.items g.auth_edges.items g.numbers.entries };
+}
+
+impl Graph {
+    /// A graph with no rows.
+    pub fn new(alloc: Global) -> Graph
+        ensures { result ≡ [] }
+    {
+        Graph {
+            alloc,
+            rows: Vec::new(alloc),
+            prev_edges: Vec::new(alloc),
+            auth_edges: Vec::new(alloc),
+            numbers: BTreeMap::new(alloc),
+        }
+    }
+
+    /// How many rows it has, at most [`MOST_ROWS`].
+    pub fn len(&self) -> usize
+        ensures len { result ≡ length self.now }
+        ensures few { result ≤ MOST_ROWS }
+        // Each id is there once, and each event that an event cites came before it.
+        ensures sound { closure.IsSound self.now }
+    {
+        self.rows.len()
+    }
+
+    /// Whether it has no rows.
+    pub fn is_empty(&self) -> bool
+        ensures { IsTrue result ↔ (self.now ≡ []) }
+    {
+        self.rows.is_empty()
+    }
+
+    /// Adds a row at the end, and gives its number.
+    ///
+    /// `NotAdded` with the cause that [`Graph::check`] gives. At an error the rows stay. The time is that of a look-up
+    /// for each event that the row cites.
+    pub fn add(&mut self, row: GraphRow) -> Result<EventNo, GraphError>
+        ensures ok { IfOk result (λ number. (self.new ≡ self.old ++ row ∷ []) × (number ≡ length self.old)) }
+        ensures free { OnOk result (add_error self.old row ≡ None) }
+        // It is tested first, so that memory may run out only where the row may be added.
+        ensures refused { (cause : Cause)
+            → (IsErrOf result (GraphError.NotAdded cause) ↔ (add_error self.old row ≡ Some cause)) }
+        ensures err { OnErr result (self.new ≡ self.old) }
+    {
+        self.check(&row)?;
+        let prev_events = self.numbers_of(row.event.prev_events())?;
+        let auth_events = self.numbers_of(row.event.auth_events())?;
+        let number = self.store(row, prev_events, auth_events)?;
+        Ok(number)
+    }
+
+    /// Whether a row may be added, and if not, why. It takes no memory.
+    ///
+    /// In this order: `Known`, its id is there already; `MissingPrevEvent` and `MissingAuthEvent`, one of its prev
+    /// events or of its auth events is not there; `Full`, there are [`MOST_ROWS`] rows.
+    #[tactic(auto, unfolding(crate::specs::Adding::add_error))]
+    pub fn check(&self, row: &GraphRow) -> Result<(), NotAdded>
+        ensures { result_err result ≡ add_error self.now row.now }
+    {
+        if self.find(&row.id).is_some() {
+            return Err(NotAdded::Known);
+        }
+        if !self.has_all(row.event.prev_events()) {
+            return Err(NotAdded::MissingPrevEvent);
+        }
+        if !self.has_all(row.event.auth_events()) {
+            return Err(NotAdded::MissingAuthEvent);
+        }
+        if self.len() >= MOST_ROWS {
+            return Err(NotAdded::Full);
+        }
+        Ok(())
+    }
+
+    // Whether it has the events with these ids.
+    fn has_all(&self, ids: &[EventId]) -> bool
+        ensures { result ≡ list_all (is_known self.now) ids.now }
+    {
+        ids.iter().all(|id| self.find(id).is_some())
+    }
+
+    // The numbers of the events with these ids, without those that are not there.
+    fn numbers_of(&self, ids: &[EventId]) -> Result<Vec<EventNo>, AllocError>
+        ensures { IfOk result (λ numbers. numbers.items ≡ filter_map (definition.place_of self.now) ids.now) }
+    {
+        ids.iter()
+            .filter_map(|id| self.find(id))
+            .collect(self.alloc)
+    }
+
+    // What can fail goes first, so that an error leaves the rows as they were.
+    fn store(
+        &mut self,
+        row: GraphRow,
+        prev_events: Vec<EventNo>,
+        auth_events: Vec<EventNo>,
+    ) -> Result<EventNo, AllocError>
+        requires free { add_error self.old row ≡ None }
+        requires prev { prev_events.items ≡ definition.prev_events self.old row.event }
+        requires auth { auth_events.items ≡ definition.auth_events self.old row.event }
+        ensures ok { IfOk result (λ number. (self.new ≡ self.old ++ row ∷ []) × (number ≡ length self.old)) }
+        ensures err { OnErr result (self.new ≡ self.old) }
+    {
+        let number = EventNo::at(self.rows.len() as u32);
+        let id = row.id.clone()?;
+        self.rows.reserve(1)?;
+        self.prev_edges.reserve(1)?;
+        self.auth_edges.reserve(1)?;
+        self.numbers.insert(id, number)?;
+        self.rows.push(row).unwrap();
+        self.prev_edges.push(prev_events).unwrap();
+        self.auth_edges.push(auth_events).unwrap();
+        Ok(number)
+    }
+
+    /// The number of the event with this id. It takes no memory, and the time is logarithmic in the rows.
+    pub fn find(&self, id: &EventId) -> Option<EventNo>
+        ensures { result ≡ definition.place_of self.now id.now }
+    {
+        self.numbers.get(id).copied()
+    }
+
+    /// The row with this number.
+    pub fn row(&self, number: EventNo) -> &GraphRow
+        requires { number < length self.now }
+        ensures { result.now ≡ definition.row self.now number }
+    {
+        &self.rows[number.index()]
+    }
+
+    /// The prev events of the event with this number, in its order: each has a lower number.
+    pub fn prev_events(&self, number: EventNo) -> &[EventNo]
+        requires { number < length self.now }
+        ensures { result.now ≡ definition.prev_events self.now (definition.event self.now number) }
+    {
+        &self.prev_edges[number.index()]
+    }
+
+    /// The auth events of the event with this number, in its order: each has a lower number.
+    pub fn auth_events(&self, number: EventNo) -> &[EventNo]
+        requires { number < length self.now }
+        ensures { result.now ≡ definition.auth_events self.now (definition.event self.now number) }
+    {
+        &self.auth_edges[number.index()]
+    }
+
+    /// The prev events of these events, their prev events, and so on, rising. A given event is among them only where
+    /// another one leads to it.
+    ///
+    /// The time is that of the edges from the given events down, times a logarithm.
+    pub fn ancestors(&self, alloc: Global, starts: &[EventNo]) -> Result<Vec<EventNo>, AllocError>
+        ensures { IfOk result (λ found. found.items ≡ closure.ancestors self.now starts.now) }
+    {
+        let found = reached(alloc, &self.prev_edges, starts)?;
+        Ok(found)
+    }
+
+    /// The auth events of these events, their auth events, and so on, rising. A given event is among them only where
+    /// another one leads to it.
+    ///
+    /// The time is that of the edges from the given events down, times a logarithm. Source: the Matrix specification,
+    /// Room Version 2, "State resolution", auth chain.
+    pub fn auth_chain(&self, alloc: Global, starts: &[EventNo]) -> Result<Vec<EventNo>, AllocError>
+        ensures { IfOk result (λ found. found.items ≡ closure.auth_chain self.now starts.now) }
+    {
+        let found = reached(alloc, &self.auth_edges, starts)?;
+        Ok(found)
+    }
+}
+
+/// A law: the ancestors and the auth chain of events are the least sets that have what these events cite and what
+/// their own members cite.
+pub fn closures_are_least()
+    ensures { closure.ClosuresAreLeast }
+{
+}

@@ -1,0 +1,14 @@
+//! The events of a room as a graph: rows in the order of arrival, and which rows cite which (Matrix specification,
+//! Server-Server API, "PDUs").
+#![tactic(auto)]
+
+mod closing;
+mod graphs;
+mod numbers;
+mod refusals;
+mod rows;
+
+pub use graphs::{Graph, MOST_ROWS};
+pub use numbers::EventNo;
+pub use refusals::{GraphError, NotAdded};
+pub use rows::GraphRow;

@@ -1,0 +1,35 @@
+// Numbers of events.
+ghost use Rattle.std.specs.Prelude.{◌≡◌, ◌<◌, ◌^◌, ℕ};
+
+use std::marker::Model;
+
+/// The number of an event in a graph: its row's place, from 0. A number is of the one graph that gave it.
+#[derive(Clone, Copy, Debug, PartialEq, Eq, PartialOrd, Ord, Hash)]
+pub struct EventNo {
+    place: u32,
+}
+
+impl Model for EventNo {
+    ghost Value = { ℕ };
+
+    ghost view = { λ e. e.place };
+
+    ghost inverse = { λ n. record { place = n } };
+}
+
+impl EventNo {
+    /// The number of the row at a place.
+    pub fn at(place: u32) -> EventNo
+        ensures { result ≡ place }
+    {
+        EventNo { place }
+    }
+
+    /// The place of its row.
+    pub fn index(self) -> usize
+        ensures index { result ≡ self }
+        ensures small { result < 2 ^ 32 }
+    {
+        self.place as usize
+    }
+}

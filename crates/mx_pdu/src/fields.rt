@@ -1,0 +1,127 @@
+// Whether the fields of an event are there and of their kinds. Nothing here takes memory.
+ghost use Rattle.std.specs.Prelude.{◌≡◌, option_map};
+ghost use Rattle.std.specs.List.{list_all};
+ghost use Rattle.std.specs.Result.{result_err};
+ghost use Rattle.serde_json.specs.Data.{object};
+ghost use Rattle.serde_json.specs.View.{view, members_view};
+ghost use Rattle.mx_ident.specs.Identifier.{user_id_error, room_id_error, event_id_error};
+ghost use Rattle.mx_redact.specs.Fields.{field, is_object, is_some_and, is_none_or};
+ghost use Rattle.mx_pdu.specs.Format.{has_fields, is_id, is_id_or_long, is_event_id_list, is_integer, is_string};
+
+use crate::lookups::array_at;
+use mx_ident::{EventId, NotAnId, RoomId, UserId};
+use mx_redact::{text_at, value_at};
+use serde_json::{Map, Value};
+
+pub fn has_every_field(event: &Map<String, Value>) -> bool
+    ensures { result ≡ has_fields (object (members_view event.now.entries)) }
+{
+    has_event_ids(event, "auth_events")
+        && has_object(event, "content")
+        && has_integer(event, "depth")
+        && has_object(event, "hashes")
+        && has_integer(event, "origin_server_ts")
+        && has_event_ids(event, "prev_events")
+        && has_room_id(event, "room_id")
+        && has_user_id(event, "sender")
+        && has_object(event, "signatures")
+        && has_text(event, "type")
+        && has_text_or_nothing(event, "state_key")
+}
+
+fn has_object(event: &Map<String, Value>, key: &str) -> bool
+    ensures { result ≡ is_some_and is_object (field key.now (object (members_view event.now.entries))) }
+{
+    match value_at(event, key) {
+        Some(value) => value.is_object(),
+        None => false,
+    }
+}
+
+fn has_integer(event: &Map<String, Value>, key: &str) -> bool
+    ensures { result ≡ is_some_and is_integer (field key.now (object (members_view event.now.entries))) }
+{
+    match value_at(event, key) {
+        Some(value) => holds_integer(value),
+        None => false,
+    }
+}
+
+fn holds_integer(value: &Value) -> bool
+    ensures { result ≡ is_integer (view value.now) }
+{
+    match value.as_number() {
+        Some(number) => number.as_i128().is_some(),
+        None => false,
+    }
+}
+
+fn has_text(event: &Map<String, Value>, key: &str) -> bool
+    ensures { result ≡ is_some_and is_string (field key.now (object (members_view event.now.entries))) }
+{
+    match value_at(event, key) {
+        Some(value) => value.is_string(),
+        None => false,
+    }
+}
+
+fn has_text_or_nothing(event: &Map<String, Value>, key: &str) -> bool
+    ensures { result ≡ is_none_or is_string (field key.now (object (members_view event.now.entries))) }
+{
+    match value_at(event, key) {
+        Some(value) => value.is_string(),
+        None => true,
+    }
+}
+
+fn has_room_id(event: &Map<String, Value>, key: &str) -> bool
+    ensures { result ≡ is_some_and (is_id room_id_error) (field key.now (object (members_view event.now.entries))) }
+{
+    match text_at(event, key) {
+        Some(text) => is_id_but_for_length(RoomId::check(text)),
+        None => false,
+    }
+}
+
+fn has_user_id(event: &Map<String, Value>, key: &str) -> bool
+    ensures { result ≡ is_some_and (is_id user_id_error) (field key.now (object (members_view event.now.entries))) }
+{
+    match text_at(event, key) {
+        Some(text) => is_id_but_for_length(UserId::check(text)),
+        None => false,
+    }
+}
+
+fn has_event_ids(event: &Map<String, Value>, key: &str) -> bool
+    ensures { result ≡ is_some_and is_event_id_list (field key.now (object (members_view event.now.entries))) }
+{
+    match array_at(event, key) {
+        Some(items) => are_event_ids(items),
+        None => false,
+    }
+}
+
+fn are_event_ids(items: &[Value]) -> bool
+    ensures { result ≡ list_all (λ value. is_id event_id_error (view value)) items.now }
+{
+    items.iter().all(holds_event_id)
+}
+
+fn holds_event_id(value: &Value) -> bool
+    ensures { result ≡ is_id event_id_error (view value.now) }
+{
+    match value.as_str() {
+        Some(text) => is_id_but_for_length(EventId::check(text)),
+        None => false,
+    }
+}
+
+// A text that is no id whatever its length is of a wrong kind.
+fn is_id_but_for_length(outcome: Result<(), NotAnId>) -> bool
+    ensures { result ≡ is_id_or_long (result_err outcome) }
+{
+    match outcome {
+        Ok(()) | Err(NotAnId::TooLong) => true,
+        Err(_) => false,
+    }
+}

@@ -1,0 +1,40 @@
+// The content hash that an event names. Nothing here takes memory.
+ghost use Rattle.std.specs.Prelude.{◌≡◌, bytes_eq, codes, option_map};
+ghost use Rattle.base64.specs.Engines.{standard_no_pad};
+ghost use Rattle.base64.specs.GeneralPurpose.{encode_of};
+ghost use Rattle.serde_json.specs.Data.{object};
+ghost use Rattle.serde_json.specs.View.{members_view};
+ghost use Rattle.mx_redact.specs.Fields.{text_field, value_at};
+
+use crate::lookups::object_at;
+use base64::engine::general_purpose::STANDARD_NO_PAD;
+use mx_redact::text_at;
+use serde_json::{Map, Value};
+
+// The text at `sha256` in `hashes`.
+pub fn named_hash(event: &Map<String, Value>) -> Option<&str>
+    ensures { option_map (λ text. text.now) result
+        ≡ text_field (codes "sha256") (value_at (codes "hashes") (object (members_view event.now.entries))) }
+{
+    match object_at(event, "hashes") {
+        Some(hashes) => text_at(hashes, "sha256"),
+        None => None,
+    }
+}
+
+// Whether the text is the unpadded standard base64 of the hash.
+pub fn is_text_of(text: &str, hash: &[u8; 32]) -> bool
+    ensures { result ≡ bytes_eq text.now (encode_of standard_no_pad hash.now) }
+{
+    text.as_bytes() == encoded(hash).as_slice()
+}
+
+fn encoded(hash: &[u8; 32]) -> [u8; 43]
+    ensures { result ≡ encode_of standard_no_pad hash.now }
+{
+    let mut text = [0; 43];
+    match STANDARD_NO_PAD.encode_slice(hash, &mut text) {
+        Ok(_) => text,
+        Err(_) => unreachable!(),
+    }
+}

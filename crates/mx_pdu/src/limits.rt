@@ -1,0 +1,94 @@
+// The limits on an event's fields. Nothing here takes memory.
+ghost use Rattle.std.specs.Prelude.{◌≡◌, length, nat_le, ◌&&◌};
+ghost use Rattle.std.specs.List.{list_all};
+ghost use Rattle.serde_json.specs.Data.{object};
+ghost use Rattle.serde_json.specs.View.{view, members_view};
+ghost use Rattle.mx_redact.specs.Fields.{field, is_none_or};
+ghost use Rattle.mx_pdu.specs.Format.{is_within_limits, is_short, is_short_list, is_depth};
+
+use crate::lookups::array_at;
+use mx_canon::LARGEST;
+use mx_redact::value_at;
+use serde_json::{Map, Value};
+
+// The most bytes of a text.
+const LONGEST: usize = 255;
+
+// The most events that an event follows.
+const MOST_PREV_EVENTS: usize = 20;
+
+// The most events that an event rests on.
+const MOST_AUTH_EVENTS: usize = 10;
+
+pub fn keeps_limits(event: &Map<String, Value>) -> bool
+    ensures { result ≡ is_within_limits (object (members_view event.now.entries)) }
+{
+    keeps_list_limit(event, "auth_events", MOST_AUTH_EVENTS)
+        && keeps_depth_limit(event, "depth")
+        && keeps_list_limit(event, "prev_events", MOST_PREV_EVENTS)
+        && keeps_text_limit(event, "room_id")
+        && keeps_text_limit(event, "sender")
+        && keeps_text_limit(event, "state_key")
+        && keeps_text_limit(event, "type")
+}
+
+fn keeps_text_limit(event: &Map<String, Value>, key: &str) -> bool
+    ensures { result ≡ is_none_or is_short (field key.now (object (members_view event.now.entries))) }
+{
+    match value_at(event, key) {
+        Some(value) => has_short_text(value),
+        None => true,
+    }
+}
+
+fn has_short_text(value: &Value) -> bool
+    ensures { result ≡ is_short (view value.now) }
+{
+    match value.as_str() {
+        Some(text) => text.len() <= LONGEST,
+        None => true,
+    }
+}
+
+fn keeps_depth_limit(event: &Map<String, Value>, key: &str) -> bool
+    ensures { result ≡ is_none_or is_depth (field key.now (object (members_view event.now.entries))) }
+{
+    match value_at(event, key) {
+        Some(value) => has_depth(value),
+        None => true,
+    }
+}
+
+// An integer is from 0 to 2^53 - 1.
+fn has_depth(value: &Value) -> bool
+    ensures { result ≡ is_depth (view value.now) }
+{
+    let Some(number) = value.as_number() else {
+        return true;
+    };
+    match number.as_i128() {
+        Some(depth) => 0 <= depth && depth <= LARGEST as i128,
+        None => true,
+    }
+}
+
+fn keeps_list_limit(event: &Map<String, Value>, key: &str, most: usize) -> bool
+    ensures { result ≡ is_none_or (is_short_list most) (field key.now (object (members_view event.now.entries))) }
+{
+    match array_at(event, key) {
+        Some(items) => are_few_and_short(items, most),
+        None => true,
+    }
+}
+
+fn are_few_and_short(items: &[Value], most: usize) -> bool
+    ensures { result ≡ (nat_le (length items.now) most && list_all (λ value. is_short (view value)) items.now) }
+{
+    items.len() <= most && are_short(items)
+}
+
+fn are_short(items: &[Value]) -> bool
+    ensures { result ≡ list_all (λ value. is_short (view value)) items.now }
+{
+    items.iter().all(has_short_text)
+}

@@ -1,0 +1,76 @@
+// Events as they are offered to a room.
+ghost use Rattle.std.specs.Prelude.{◌≡◌, IfOk, codes};
+ghost use Rattle.serde_json.specs.Data.{object};
+ghost use Rattle.serde_json.specs.View.{members_view};
+ghost use Rattle.mx_ident.specs.Identifier.{server_of};
+ghost use Rattle.mx_redact.specs.Fields.{value_at};
+ghost use Rattle.mx_redact.specs.Hashes.{event_id as event_id_of, signing_text};
+ghost use Rattle.mx_pdu.specs.Event.{sender_of};
+
+use crate::lookups::object_at;
+use crate::pdus::Pdu;
+use crate::verifiers::Verifier;
+use mx_canon::CanonError;
+use mx_ident::EventId;
+use mx_redact::{event_id, signing_bytes};
+use serde_json::{Map, Value};
+use std::alloc::{AllocError, Global};
+
+/// An event with its id, and whether a verifier accepts its signatures.
+#[derive(Debug, Drop)]
+pub struct Offered {
+    pub pdu: Pdu,
+    pub id: EventId,
+    pub signed: bool,
+}
+
+impl Offered {
+    /// The event, its id, and the verifier's answer on its sender's server, the bytes that are signed of it and its
+    /// `signatures`.
+    ///
+    /// Source: the Matrix specification, Server-Server API, "Validating hashes and signatures on received events".
+    pub fn of<V: Verifier>(alloc: Global, pdu: Pdu, verifier: &V) -> Result<Offered, AllocError>
+        ensures pdu { IfOk result (λ offered. offered.pdu ≡ pdu) }
+        ensures id { IfOk result (λ offered. offered.id ≡ event_id_of pdu) }
+        ensures signed { IfOk result (λ offered. offered.signed
+            ≡ V.judges verifier.now (server_of (sender_of pdu)) (signing_text pdu) (value_at (codes "signatures") pdu)) }
+    {
+        let id = id_of(alloc, &pdu)?;
+        let server = pdu.sender().server_name(alloc)?;
+        let bytes = signing_bytes_of(alloc, &pdu)?;
+        let signed = verifier.accepts(&server, &bytes, signatures_of(&pdu));
+        Ok(Offered { pdu, id, signed })
+    }
+}
+
+fn id_of(alloc: Global, pdu: &Pdu) -> Result<EventId, AllocError>
+    ensures { IfOk result (λ id. id ≡ event_id_of pdu.now) }
+{
+    let event = pdu.as_map();
+    match event_id(alloc, event) {
+        Ok(id) => Ok(id),
+        Err(CanonError::Memory) => Err(AllocError),
+        Err(CanonError::NotCanonical(_)) => unreachable!(),
+    }
+}
+
+fn signing_bytes_of(alloc: Global, pdu: &Pdu) -> Result<Vec<u8>, AllocError>
+    ensures { IfOk result (λ bytes. bytes.items ≡ signing_text pdu.now) }
+{
+    let event = pdu.as_map();
+    match signing_bytes(alloc, event) {
+        Ok(bytes) => Ok(bytes),
+        Err(CanonError::Memory) => Err(AllocError),
+        Err(CanonError::NotCanonical(_)) => unreachable!(),
+    }
+}
+
+fn signatures_of(pdu: &Pdu) -> &Map<String, Value>
+    ensures { object (members_view result.now.entries) ≡ value_at (codes "signatures") pdu.now }
+{
+    let event = pdu.as_map();
+    match object_at(event, "signatures") {
+        Some(signatures) => signatures,
+        None => unreachable!(),
+    }
+}

@@ -1,0 +1,156 @@
+use crate::{
+    content_digest, content_hash, event_id, plain, redact, reference_digest, reference_hash,
+    signing_bytes, text_at, value_at,
+};
+use mx_canon::{CanonError, NotCanonical, text};
+use serde_json::{Map, Value};
+use std::alloc::{AllocError, Global};
+use std::test::Fail;
+
+const POWER_LEVELS: &str =
+    "{\"auth_events\":[],\"content\":{\"ban\":50,\"invite\":50,\"notifications\":{\"room\":50},\"users\":{\"@a:a.example\":100}},\"depth\":4,\"hashes\":{\"sha256\":\"x\"},\"origin_server_ts\":40,\"prev_events\":[],\"room_id\":\"!r:a.example\",\"sender\":\"@a:a.example\",\"signatures\":{\"a.example\":{\"ed25519:1\":\"s\"}},\"state_key\":\"\",\"type\":\"m.room.power_levels\",\"unsigned\":{\"age\":5}}";
+
+const SIGNED: &str =
+    "{\"auth_events\":[],\"content\":{\"ban\":50,\"users\":{\"@a:a.example\":100}},\"depth\":4,\"hashes\":{\"sha256\":\"x\"},\"origin_server_ts\":40,\"prev_events\":[],\"room_id\":\"!r:a.example\",\"sender\":\"@a:a.example\",\"state_key\":\"\",\"type\":\"m.room.power_levels\"}";
+
+fn object(alloc: Global, json: &str) -> Result<Map<String, Value>, Fail> {
+    match Value::from_str(alloc, json)? {
+        Value::Object(members) => Ok(members),
+        _ => Ok(Map::new(alloc)),
+    }
+}
+
+#[test]
+fn hashes_of_nothing(rt: HostRuntime) -> Result<(), Fail> {
+    let alloc = rt.alloc();
+    let wanted = hex::decode(
+        alloc,
+        "44136fa355b3678a1146ad16f7e8649e94fb4fc21fe77e8310c060f61caaff8a",
+    )?;
+    for json in ["{}", "{\"hashes\":{},\"signatures\":{},\"unsigned\":{}}"] {
+        let event = object(alloc, json)?;
+        let hash = content_hash(&event)?;
+        assert_eq!(rt; hash.as_slice(), wanted.as_slice(), "at {json}");
+        assert_eq!(rt;
+            content_digest(&event).as_slice(),
+            wanted.as_slice(),
+            "at {json}"
+        );
+    }
+    let id = event_id(alloc, &object(alloc, "{}")?)?;
+    assert_eq!(rt; id.as_str(), "$RBNvo1WzZ4oRRq0W9-hknpT7T8If536DEMBg9hyq_4o");
+    Ok(())
+}
+
+#[test]
+fn power_levels_event(rt: HostRuntime) -> Result<(), Fail> {
+    let alloc = rt.alloc();
+    let event = object(alloc, POWER_LEVELS)?;
+    let signed = signing_bytes(alloc, &event)?;
+    assert_eq!(rt; signed.as_slice(), SIGNED.as_bytes());
+    let id = event_id(alloc, &event)?;
+    assert_eq!(rt; id.as_str(), "$T88qUID58cSwgtjrzS_C35dNVOdZei7Dk6AJtTNbu9U");
+    let hash = hex::encode(alloc, &content_hash(&event)?)?;
+    assert_eq!(rt;
+        hash.as_str(),
+        "a0b2cbef4165d943086c8a4de42c5f9c0244e62aa6473d455b58613b9513f2ca"
+    );
+    let reference = hex::encode(alloc, &reference_hash(&event)?)?;
+    assert_eq!(rt;
+        reference.as_str(),
+        "4fcf2a5080f9f1c4b082d8ebcd2fc2df974d54e7597a2ec393a009b5335bbbd5"
+    );
+    Ok(())
+}
+
+#[test]
+fn keeps_what_each_type_keeps(rt: HostRuntime) -> Result<(), Fail> {
+    let alloc = rt.alloc();
+    for (kind, kept) in [
+        ("m.room.member", "{\"membership\":1}"),
+        ("m.room.create", "{\"creator\":1}"),
+        ("m.room.join_rules", "{\"join_rule\":1}"),
+        ("m.room.power_levels", "{\"ban\":1,\"users_default\":1}"),
+        ("m.room.history_visibility", "{\"history_visibility\":1}"),
+        ("m.room.aliases", "{}"),
+        ("m.room.message", "{}"),
+    ] {
+        let mut event = object(
+            alloc,
+            "{\"content\":{\"aliases\":1,\"ban\":1,\"body\":1,\"creator\":1,\"history_visibility\":1,\"invite\":1,\"join_rule\":1,\"membership\":1,\"notifications\":1,\"users_default\":1},\"other\":1}",
+        )?;
+        let name = String::from_str(alloc, "type")?;
+        let value = Value::String(String::from_str(alloc, kind)?);
+        event.insert(name, value).map_err(AllocError::from)?;
+        let redacted = redact(alloc, &event)?;
+        assert_eq!(rt; redacted.len(), 2, "at {kind}");
+        assert_eq!(rt; text_at(&redacted, "type"), Some(kind), "at {kind}");
+        let Some(content) = value_at(&redacted, "content") else {
+            continue;
+        };
+        assert_eq!(rt;
+            text(alloc, content)?.as_slice(),
+            kept.as_bytes(),
+            "at {kind}"
+        );
+    }
+    Ok(())
+}
+
+#[test]
+fn walks_agree_with_the_plain_bodies(rt: HostRuntime) -> Result<(), Fail> {
+    let alloc = rt.alloc();
+    for json in [
+        "{}",
+        POWER_LEVELS,
+        "{\"content\":{\"membership\":\"join\",\"a\\\"\\u0001\":[1,-2,[],{}]},\"type\":\"m.room.member\"}",
+        "{\"content\":7,\"type\":\"m.room.create\",\"unsigned\":{\"x\":9007199254740992}}",
+    ] {
+        let event = object(alloc, json)?;
+        let content = plain::content_hash(alloc, &event)?;
+        assert_eq!(rt; content, content_digest(&event), "at {json}");
+        let reference = plain::reference_hash(alloc, &event)?;
+        assert_eq!(rt; reference, reference_digest(&event), "at {json}");
+    }
+    Ok(())
+}
+
+#[test]
+fn refuses_what_has_no_text(rt: HostRuntime) -> Result<(), Fail> {
+    let alloc = rt.alloc();
+    let event = object(
+        alloc,
+        "{\"content\":{\"x\":1.5},\"depth\":9007199254740992,\"unsigned\":{\"y\":1.5}}",
+    )?;
+    assert_eq!(rt; content_hash(&event).err(), Some(NotCanonical::Float));
+    assert_eq!(rt; reference_hash(&event).err(), Some(NotCanonical::Range));
+    assert_eq!(rt;
+        signing_bytes(alloc, &event).err(),
+        Some(CanonError::NotCanonical(NotCanonical::Range))
+    );
+    assert_eq!(rt;
+        event_id(alloc, &event).err(),
+        Some(CanonError::NotCanonical(NotCanonical::Range))
+    );
+    Ok(())
+}
+
+// For runs in which one allocation fails: the answer, or no memory, and nothing else.
+#[test]
+fn gives_its_answers_or_no_memory(rt: HostRuntime) {
+    let alloc = rt.alloc();
+    let Ok(Value::Object(event)) = Value::from_str(alloc, POWER_LEVELS) else {
+        return;
+    };
+    match signing_bytes(alloc, &event) {
+        Ok(bytes) => assert_eq!(rt; bytes.as_slice(), SIGNED.as_bytes()),
+        Err(e) => assert_eq!(rt; e, CanonError::Memory),
+    }
+    match event_id(alloc, &event) {
+        Ok(id) => assert_eq!(rt; id.as_str(), "$T88qUID58cSwgtjrzS_C35dNVOdZei7Dk6AJtTNbu9U"),
+        Err(e) => assert_eq!(rt; e, CanonError::Memory),
+    }
+    if let Ok(redacted) = redact(alloc, &event) {
+        assert_eq!(rt; reference_digest(&redacted), reference_digest(&event));
+    }
+}
