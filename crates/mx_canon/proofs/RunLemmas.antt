@@ -39,4 +39,3 @@ run_more xs start i low high =
     ap (λ n. take n (drop start xs)) count
     ∙ take-add (i - start) 1 (drop start xs)
     ∙ ap (λ t. take (i - start) (drop start xs) ++ take 1 t) (drop-drop (i - start) start xs ∙ ap (λ n. drop n xs) at ∙ drop_more xs i 0 high)
-

@@ -130,7 +130,14 @@ fn write_escaped<S: TextSink>(sink: &mut S, byte: u8)
         b'\n' => sink.put(b"\\n"),
         12 => sink.put(b"\\f"),
         b'\r' => sink.put(b"\\r"),
-        0..=31 => sink.put(&[b'\\', b'u', b'0', b'0', hex_digit(byte / 16), hex_digit(byte % 16)]),
+        0..=31 => sink.put(&[
+            b'\\',
+            b'u',
+            b'0',
+            b'0',
+            hex_digit(byte / 16),
+            hex_digit(byte % 16),
+        ]),
         _ => sink.put(&[byte]),
     }
 }

@@ -1,6 +1,6 @@
 // The words of the command line.
 use clap::error::ErrorKind;
-use clap::{Error, ArgMatches};
+use clap::{ArgMatches, Error};
 use std::alloc::{AllocError, Global};
 
 /// What the program is asked to do.
@@ -30,8 +30,9 @@ fn refusal(alloc: Global, error: &Error) -> Result<String, AllocError> {
 
 /// What the words ask for. The first is the program's name.
 pub(crate) fn parse(alloc: Global, words: &[String]) -> Result<Command, CommandLineError> {
-    let check = clap::Command::new(alloc, "check")
-        .about("Reads one event from standard input, and prints its id, whether its content hash holds, and its canonical text");
+    let check = clap::Command::new(alloc, "check").about(
+        "Reads one event from standard input, and prints its id, whether its content hash holds, and its canonical text",
+    );
     let program = clap::Command::new(alloc, "mx_federd")
         .about("A Matrix federation room server")
         .subcommand_required(true)

@@ -10,7 +10,7 @@ mod output;
 use checking::check_event;
 use command_line::{Command, CommandLineError};
 use input::read_all;
-use output::{Failure, MISUSED, REFUSED, SUCCESS, lines_of, report, write_to};
+use output::{Failure, MISUSED, SUCCESS, lines_of, report, write_to};
 use std::alloc::{AllocError, Global};
 use std::env;
 use std::io::{self, Read, Write};
@@ -68,7 +68,7 @@ fn main(rt: HostRuntime) -> ExitCode {
             &mut rt.stdout(),
             &mut rt.stderr(),
         ),
-        Err(_) => REFUSED,
+        Err(error) => report(Failure::of_words(&error), &mut rt.stderr()),
     };
     ExitCode::from(status)
 }

@@ -2,7 +2,7 @@
 use crate::checking::{CheckError, Checked};
 use crate::input::InputError;
 use std::alloc::{AllocError, Global};
-use std::io::Write;
+use std::io::{self, ErrorKind, Write};
 use thiserror::Error;
 
 /// The exit status of a run that did what it was asked.
@@ -21,6 +21,16 @@ pub enum Failure {
     Memory,
     #[error("failed read or write")]
     ReadOrWrite,
+}
+
+impl Failure {
+    /// Why the words of the command line could not be had.
+    pub fn of_words(error: &io::Error) -> Failure {
+        match error.kind() {
+            ErrorKind::OutOfMemory => Failure::Memory,
+            _ => Failure::ReadOrWrite,
+        }
+    }
 }
 
 impl From<AllocError> for Failure {
@@ -55,7 +65,12 @@ pub fn lines_of(alloc: Global, checked: &Checked) -> Result<Vec<u8>, AllocError>
     let hash = if checked.hash_holds { "good" } else { "bad" };
     let id = checked.id.as_str();
     let head = format!(in alloc; "id {id}\nhash {hash}\ncanonical ")?;
-    let mut lines = Vec::with_capacity(alloc, head.len().saturating_add(checked.text.len()).saturating_add(1))?;
+    let mut lines = Vec::with_capacity(
+        alloc,
+        head.len()
+            .saturating_add(checked.text.len())
+            .saturating_add(1),
+    )?;
     lines.extend_from_slice(head.as_bytes())?;
     lines.extend_from_slice(&checked.text)?;
     lines.push(b'\n')?;

@@ -33,7 +33,11 @@ fn positive(digits: &[u8]) -> Option<i64>
         return None;
     }
     let value = capped_value(digits);
-    if value > LARGEST { None } else { Some(value as i64) }
+    if value > LARGEST {
+        None
+    } else {
+        Some(value as i64)
+    }
 }
 
 // The negation of that number.

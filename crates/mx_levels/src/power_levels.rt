@@ -42,8 +42,11 @@ impl<'a> Levels<'a> {
     pub fn user(&self, user: &str) -> i64
         ensures { result ≡ definition.user_level self.now.create self.now.power user.now }
     {
-        entry_level(self.power, "users", user)
-            .unwrap_or(users_default(self.create, self.power, user))
+        entry_level(self.power, "users", user).unwrap_or(users_default(
+            self.create,
+            self.power,
+            user,
+        ))
     }
 
     /// The level that sending an event of this type asks for: the type's entry in `events`, else `state_default` for a

@@ -29,7 +29,11 @@ pub fn read_level(value: &Value) -> Option<i64>
 fn in_range(level: i64) -> Option<i64>
     ensures { result ≡ definition.if_in_range level }
 {
-    if level.unsigned_abs() <= LARGEST { Some(level) } else { None }
+    if level.unsigned_abs() <= LARGEST {
+        Some(level)
+    } else {
+        None
+    }
 }
 
 /// The level at a key of an object, as at a user id in `users`, where one is there that [`read_level`] reads.

@@ -1,7 +1,7 @@
 -- Clones of an event's parts.
-use Rattle.std.proofs.Common.{◌≡◌, ℕ, List, [], ◌∷◌, String, Global, string_bytes, refl, ap₂}
+use Rattle.std.proofs.Common.{◌≡◌, ℕ, List, [], ◌∷◌, string_bytes, refl, ap₂}
 use Rattle.std.specs.List.{AllZip}
-use Rattle.serde_json.specs.Data.{Data, Members, member}
+use Rattle.serde_json.specs.Data.{member}
 use Rattle.serde_json.specs.View.{view, members_view}
 use Rattle.serde_json.proofs.Views.{Entry}
 

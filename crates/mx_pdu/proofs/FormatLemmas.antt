@@ -1,21 +1,20 @@
 -- What a well-formed event is.
-use Rattle.std.proofs.Common.{◌≡◌, ℕ, zero, suc, ◌<◌, ◌≤◌, ◌^◌, get_or, lit<, List, [], ◌∷◌, ◌++◌, length, Bool, true, false, not, ◌&&◌, cond, refl, sym, ap, ◌∙◌, arith, rules, Option, Some, None, IsTrue, is_none, is_some, option_and_then, true≢false}
-use Rattle.std.specs.Prelude.{codes, nat_lt, nat_le, ℤ, pos, unwrap_or}
+use Rattle.std.proofs.Common.{◌≡◌, ℕ, zero, suc, ◌<◌, get_or, lit<, List, [], ◌∷◌, length, Bool, true, false, not, ◌&&◌, refl, sym, ap, ◌∙◌, arith, Option, Some, None, IsTrue, is_none, option_and_then, true≢false}
+use Rattle.std.specs.Prelude.{codes, nat_lt, nat_le, pos, unwrap_or}
 use Rattle.std.specs.List.{list_all}
 use Rattle.std.proofs.lemmas.List.Folds.{list_all-append}
-use Rattle.std.proofs.lemmas.Grind.{common_steps}
 use Rattle.std.proofs.lemmas.Bool.Decides.{nat_tests}
 use Rattle.std.specs.declared.cmp.Ordering.{Ordering}
 use Rattle.std.specs.declared.cmp.Ordering.TheVariants.{Less, Equal, Greater}
 use Rattle.std.specs.Ordering.{match_ordering, nat_cmp}
 use Rattle.std.specs.Cmp.Lexicographic.{slice_cmp}
-use Rattle.serde_json.specs.Data.{Num, unsigned, negative, float, Data, null, boolean, number, string, array, object, Items, no_items, item, Members, no_members, member}
+use Rattle.serde_json.specs.Data.{Num, unsigned, negative, float, Data, null, boolean, number, string, array, object, Members, no_members, member}
 use Rattle.serde_json.specs.Find.{get, get_member, as_object, as_number, as_i64, as_integer}
 use Rattle.mx_canon.specs.Canonical.{is_canonical, is_exact, numbers, member_numbers, canonical_text, largest}
 use Rattle.mx_ident.specs.Identifier.{refuse_if}
-use Rattle.mx_redact.specs.Fields.{field, is_object, is_some_and, is_none_or, value_at}
+use Rattle.mx_redact.specs.Fields.{field, is_object, is_some_and, is_none_or}
 use Rattle.mx_pdu.specs.Format.{is_well_formed, format_error, has_fields, is_within_limits, longest_text, Field, required_fields, limits, is_string}
-use Rattle.mx_pdu.specs.Event.{timestamp_of, content_of}
+use Rattle.mx_pdu.specs.Event.{timestamp_of}
 
 -- ---- the five parts of the format
 

@@ -1,9 +1,9 @@
 -- Whether an event's content hash holds, and that what is signed of a canonical event is canonical.
-use Rattle.std.proofs.Common.{◌≡◌, ℕ, List, Bool, true, false, not, Option, Some, None, is_none, refl, sym, ap, ◌∙◌, true≢false}
+use Rattle.std.proofs.Common.{◌≡◌, ℕ, List, true, false, not, Option, Some, None, is_none, refl, sym, ap, ◌∙◌, true≢false}
 use Rattle.std.specs.Prelude.{codes, bytes_eq}
 use Rattle.base64.specs.Engines.{standard_no_pad}
 use Rattle.base64.specs.GeneralPurpose.{encode_of}
-use Rattle.serde_json.specs.Data.{Data, null, boolean, number, string, array, object}
+use Rattle.serde_json.specs.Data.{null, boolean, number, string, array, object}
 use Rattle.mx_canon.specs.Canonical.{canonical_error, is_canonical}
 use Rattle.mx_canon.specs.declared.checking.NotCanonical.{NotCanonical}
 use Rattle.mx_redact.specs.Fields.{Event, text_field, value_at, is_text, words}

@@ -1,17 +1,16 @@
 -- The ids of a well-formed event are ids.
-use Rattle.std.proofs.Common.{◌≡◌, ℕ, List, [], ◌∷◌, ◌++◌, length, Bool, true, false, not, ◌&&◌, Option, Some, None, IsTrue, is_none, option_and_then, refl, sym, ap, ◌∙◌, arith, lit<, append_assoc, true≢false}
-use Rattle.std.specs.Prelude.{codes, nat_lt, nat_le, unwrap_or, filter_map}
+use Rattle.std.proofs.Common.{◌≡◌, ℕ, List, [], ◌∷◌, ◌++◌, length, Bool, true, false, not, Option, Some, None, IsTrue, is_none, option_and_then, refl, sym, ap, ◌∙◌, arith, lit<, append_assoc, true≢false}
+use Rattle.std.specs.Prelude.{codes, nat_le, unwrap_or, filter_map}
 use Rattle.std.specs.List.{list_all, cons_option}
 use Rattle.std.proofs.lemmas.Bool.Decides.{nat_tests}
-use Rattle.std.proofs.lemmas.List.Elements.{filter_map-append}
-use Rattle.serde_json.specs.Data.{Data, null, boolean, number, string, array, object, Items, no_items, item}
+use Rattle.serde_json.specs.Data.{Data, null, boolean, number, string, array, object, no_items}
 use Rattle.serde_json.specs.Find.{as_str, as_array}
 use Rattle.serde_json.specs.View.{view, items_view}
 use Rattle.serde_json.specs.declared.value.Value.{Value}
 use Rattle.mx_ident.specs.Identifier.{refuse_if, begins_with, has_colon, is_empty, server_of, common_error, length_error, event_id_error, room_id_error, user_id_error, is_event_id, is_room_id, is_user_id}
 use Rattle.mx_ident.specs.declared.refusals.NotAnId.{NotAnId}
-use Rattle.mx_ident.specs.declared.refusals.NotAnId.TheVariants.{NoSigil, NoColon, EmptyServer, NothingAfterSigil, TooLong}
-use Rattle.mx_redact.specs.Fields.{field, item_list, texts_at, text_at, is_some_and, is_none_or}
+use Rattle.mx_ident.specs.declared.refusals.NotAnId.TheVariants.{NoSigil, NoColon, EmptyServer, NothingAfterSigil}
+use Rattle.mx_redact.specs.Fields.{field, item_list, is_some_and, is_none_or}
 use Rattle.mx_pdu.specs.Event.{room_of, sender_of, prev_ids, auth_ids}
 use Rattle.mx_pdu.specs.Format.{is_well_formed, is_id, is_id_or_long, is_short, is_short_list, is_event_id_list}
 use Rattle.mx_pdu.proofs.FormatLemmas.{required-at, limit-at, and-left, and-right, and-both}

@@ -1,11 +1,10 @@
 -- The redacted form of a well-formed event is well formed, and names the same ids.
 use Rattle.std.proofs.Common.{◌≡◌, ℕ, ◌≤◌, List, length, Bool, true, false, not, ◌&&◌, refl, sym, ap, ◌∙◌, arith, true≢false, Option, Some, None, option_map, IsTrue, is_none, option_and_then, []}
 use Rattle.std.specs.Prelude.{codes, bytes_eq, nat_lt, unwrap_or, filter_map}
-use Rattle.std.specs.List.{list_all}
 use Rattle.std.proofs.lemmas.Bool.Decides.{nat_tests}
 use Rattle.serde_json.specs.Data.{Data, null, boolean, number, string, array, object, Members, no_items}
 use Rattle.serde_json.specs.Find.{get_member, as_str, as_array}
-use Rattle.mx_canon.specs.Canonical.{canonical_text, is_canonical, is_exact, member_numbers, value_text}
+use Rattle.mx_canon.specs.Canonical.{canonical_text, is_canonical, value_text}
 use Rattle.mx_canon.specs.Keys.{KeysRise}
 use Rattle.mx_ident.specs.Identifier.{refuse_if, user_id_error, room_id_error}
 use Rattle.mx_redact.specs.Fields.{Event, field, kind, is_object, item_list, is_some_and, is_none_or}

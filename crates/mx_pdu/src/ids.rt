@@ -35,7 +35,11 @@ pub fn user_id_of(alloc: Global, text: &str) -> Result<UserId, AllocError>
 }
 
 // The ids in the array at a key.
-pub fn event_ids_at(alloc: Global, event: &Map<String, Value>, key: &str) -> Result<Vec<EventId>, AllocError>
+pub fn event_ids_at(
+    alloc: Global,
+    event: &Map<String, Value>,
+    key: &str,
+) -> Result<Vec<EventId>, AllocError>
     requires { list_all is_event_id (texts_at key.now (object (members_view event.now.entries))) ≡ true }
     ensures { IfOk result (λ ids. ids.items ≡ texts_at key.now (object (members_view event.now.entries))) }
 {

@@ -8,5 +8,4 @@ ghost use Rattle.mx_pdu.specs.Format.{is_well_formed};
 /// The redacted form of a well-formed event is well formed. The keys of each serde_json object are in order.
 pub fn redaction_keeps_the_format()
     ensures { (event : Data) → IsTrue (is_well_formed event) → KeysRise event → IsTrue (is_well_formed (redact event)) }
-{
-}
+{}

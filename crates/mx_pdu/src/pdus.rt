@@ -229,6 +229,12 @@ impl Clone for Pdu {
         let sender = self.sender.clone()?;
         let prev_events = self.prev_events.clone()?;
         let auth_events = self.auth_events.clone()?;
-        Ok(Pdu { event, room_id, sender, prev_events, auth_events })
+        Ok(Pdu {
+            event,
+            room_id,
+            sender,
+            prev_events,
+            auth_events,
+        })
     }
 }

@@ -1,6 +1,7 @@
 use crate::{NotAnEvent, Offered, Pdu, PduError, PresenceVerifier};
 use serde_json::{Map, Value};
 use std::alloc::{AllocError, Global};
+use std::process::Abort;
 use std::test::Fail;
 
 // Its content hash and its id are by Python's json, hashlib and base64.
@@ -80,26 +81,65 @@ fn format_limits_of_depth(rt: HostRuntime) -> Result<(), Fail> {
     Ok(())
 }
 
-#[test]
-fn format_limits_of_texts(rt: HostRuntime) -> Result<(), Fail> {
-    let alloc = rt.alloc();
-    for (key, start, letters, end, wanted) in [
-        ("type", "\"", 255, "\"", None),
-        ("type", "\"", 256, "\"", Some(NotAnEvent::OverLimit)),
-        ("state_key", "\"", 255, "\"", None),
-        ("state_key", "\"", 256, "\"", Some(NotAnEvent::OverLimit)),
-        ("sender", "\"@", 252, ":a\"", None),
-        ("sender", "\"@", 253, ":a\"", Some(NotAnEvent::OverLimit)),
-        ("sender", "\"@", 253, "\"", Some(NotAnEvent::WrongField)),
-        ("sender", "\"@", 300, "\"", Some(NotAnEvent::WrongField)),
-        ("prev_events", "[\"$", 254, "\"]", None),
-        ("prev_events", "[\"$", 255, "\"]", Some(NotAnEvent::OverLimit)),
-        ("prev_events", "[\"", 300, "\"]", Some(NotAnEvent::WrongField)),
-    ] {
-        let json = longer(alloc, start, letters, end)?;
-        assert_eq!(rt; refusal(alloc, key, &json)?, wanted, "{key} of {letters}");
+// A key, a letter's place in its JSON, how many letters stand there, and the refusal.
+type Row = (
+    &'static str,
+    &'static str,
+    usize,
+    &'static str,
+    Option<NotAnEvent>,
+);
+
+fn all_refuse<R: Abort>(rt: &R, alloc: Global, rows: &[Row]) -> Result<(), Fail> {
+    for (key, start, letters, end, wanted) in rows {
+        let json = longer(alloc, start, *letters, end)?;
+        let refused = refusal(alloc, key, &json)?;
+        assert_eq!(rt; refused, *wanted, "{key} of {letters}");
     }
     Ok(())
+}
+
+#[test]
+fn format_limits_of_texts(rt: HostRuntime) -> Result<(), Fail> {
+    all_refuse(
+        &rt,
+        rt.alloc(),
+        &[
+            ("type", "\"", 255, "\"", None),
+            ("type", "\"", 256, "\"", Some(NotAnEvent::OverLimit)),
+            ("state_key", "\"", 255, "\"", None),
+            ("state_key", "\"", 256, "\"", Some(NotAnEvent::OverLimit)),
+        ],
+    )
+}
+
+#[test]
+fn format_limits_of_ids(rt: HostRuntime) -> Result<(), Fail> {
+    all_refuse(
+        &rt,
+        rt.alloc(),
+        &[
+            ("sender", "\"@", 252, ":a\"", None),
+            ("sender", "\"@", 253, ":a\"", Some(NotAnEvent::OverLimit)),
+            ("sender", "\"@", 253, "\"", Some(NotAnEvent::WrongField)),
+            ("sender", "\"@", 300, "\"", Some(NotAnEvent::WrongField)),
+            ("prev_events", "[\"$", 254, "\"]", None),
+            (
+                "prev_events",
+                "[\"$",
+                255,
+                "\"]",
+                Some(NotAnEvent::OverLimit),
+            ),
+            (
+                "prev_events",
+                "[\"",
+                300,
+                "\"]",
+                Some(NotAnEvent::WrongField),
+            ),
+        ],
+    )
 }
 
 #[test]
@@ -145,45 +185,67 @@ fn refusals(rt: HostRuntime) -> Result<(), Fail> {
     Ok(())
 }
 
+fn event(alloc: Global, json: &str) -> Result<Pdu, Fail> {
+    Ok(Pdu::from_value(alloc, Value::from_str(alloc, json)?)?)
+}
+
 #[test]
-fn reads_an_event(rt: HostRuntime) -> Result<(), Fail> {
-    let alloc = rt.alloc();
-    let pdu = Pdu::from_value(alloc, Value::from_str(alloc, MESSAGE)?)?;
+fn reads_the_fields(rt: HostRuntime) -> Result<(), Fail> {
+    let pdu = event(rt.alloc(), MESSAGE)?;
     assert_eq!(rt; pdu.kind(), "m.room.message");
     assert_eq!(rt; pdu.room_id().as_str(), "!r:a.example");
     assert_eq!(rt; pdu.sender().as_str(), "@a:a.example:8448");
-    assert_eq!(rt; pdu.state_key(), None);
-    assert_eq!(rt; pdu.redacts(), None);
     assert_eq!(rt; pdu.depth(), 7);
     assert_eq!(rt; pdu.origin_server_ts(), 1_700_000_000_000);
     assert_eq!(rt; pdu.content().len(), 2);
     assert_eq!(rt; pdu.as_map().len(), 11);
+    Ok(())
+}
+
+#[test]
+fn reads_the_event_ids(rt: HostRuntime) -> Result<(), Fail> {
+    let pdu = event(rt.alloc(), MESSAGE)?;
+    for id in pdu.prev_events() {
+        assert_eq!(rt; id.as_str(), "$q");
+    }
     assert_eq!(rt; pdu.prev_events().len(), 1);
-    assert_eq!(rt; pdu.prev_events()[0].as_str(), "$q");
     assert_eq!(rt; pdu.auth_events().len(), 2);
+    assert_eq!(rt; pdu.auth_events()[0].as_str(), "$c");
     assert_eq!(rt; pdu.auth_events()[1].as_str(), "$p");
-    let copy = pdu.clone()?;
-    assert_eq!(rt; copy.auth_events()[0].as_str(), "$c");
-    let redaction = Pdu::from_value(
-        alloc,
-        event_with(alloc, MESSAGE, "redacts", "\"$q\"")?,
-    )?;
-    assert_eq!(rt; redaction.redacts(), Some("$q"));
-    let member = Pdu::from_value(alloc, event_with(alloc, MESSAGE, "state_key", "\"\"")?)?;
-    assert_eq!(rt; member.state_key(), Some(""));
+    Ok(())
+}
+
+#[test]
+fn reads_what_may_be_there(rt: HostRuntime) -> Result<(), Fail> {
+    let alloc = rt.alloc();
+    for (key, json, state_key, redacts) in [
+        ("other", "1", None, None),
+        ("state_key", "\"\"", Some(""), None),
+        ("redacts", "\"$q\"", None, Some("$q")),
+        ("redacts", "\"q\"", None, None),
+    ] {
+        let pdu = Pdu::from_value(alloc, event_with(alloc, MESSAGE, key, json)?)?;
+        assert_eq!(rt; pdu.state_key(), state_key);
+        assert_eq!(rt; pdu.redacts(), redacts);
+    }
     Ok(())
 }
 
 #[test]
 fn hashes_hold(rt: HostRuntime) -> Result<(), Fail> {
     let alloc = rt.alloc();
-    let pdu = Pdu::from_value(alloc, Value::from_str(alloc, MESSAGE)?)?;
-    assert!(rt; pdu.hash_holds());
+    assert!(rt; event(alloc, MESSAGE)?.hash_holds());
     for hashes in ["{\"sha256\":\"x\"}", "{}", "{\"sha256\":1}"] {
         let other = Pdu::from_value(alloc, event_with(alloc, MESSAGE, "hashes", hashes)?)?;
         assert!(rt; !other.hash_holds(), "at {hashes}");
     }
-    let redacted = pdu.redacted(alloc)?;
+    Ok(())
+}
+
+#[test]
+fn redacts_an_event(rt: HostRuntime) -> Result<(), Fail> {
+    let alloc = rt.alloc();
+    let redacted = event(alloc, MESSAGE)?.redacted(alloc)?;
     assert!(rt; !redacted.hash_holds());
     assert_eq!(rt; redacted.content().len(), 0);
     assert_eq!(rt; redacted.as_map().len(), 10);
@@ -197,7 +259,10 @@ fn signatures_that_are_there(rt: HostRuntime) -> Result<(), Fail> {
     let alloc = rt.alloc();
     for (signatures, wanted) in [
         ("{\"a.example:8448\":{\"ed25519:1\":\"s\"}}", true),
-        ("{\"a.example:8448\":{\"ed25519:1\":\"\",\"ed25519:2\":\"s\"}}", true),
+        (
+            "{\"a.example:8448\":{\"ed25519:1\":\"\",\"ed25519:2\":\"s\"}}",
+            true,
+        ),
         ("{\"a.example:8448\":{\"ed25519:1\":\"\"}}", false),
         ("{\"a.example:8448\":{\"ed25519:1\":1}}", false),
         ("{\"a.example:8448\":\"s\"}", false),

@@ -8,4 +8,4 @@ abbrev pub invariant-loop-index : goal.invariant-loop-index
 invariant-loop-index g l =
     (l.start ≤ l.index) × IsPlain (take (l.index - l.start) (drop l.start l.text))
     × ((taken : List ℕ) → g.S.TextSink.has_taken l.initial.sink taken
-        → (out : List ℕ) × g.S.TextSink.has_taken l.sink out × (out ++ flat_map escaped (drop l.start l.text) ≡ taken ++ flat_map escaped l.text))
+    → (out : List ℕ) × g.S.TextSink.has_taken l.sink out × (out ++ flat_map escaped (drop l.start l.text) ≡ taken ++ flat_map escaped l.text))
