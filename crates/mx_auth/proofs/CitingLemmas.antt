@@ -19,7 +19,7 @@ unfolding repeats_key is_cited_again
 repeats_key-cons x xs =
     has_repeat-filter_map same_key (λ (cited : CitedEvent). key_of cited.event.now) x xs
     ∙ ap (λ b. b || has_repeat same_key (filter_map (λ (cited : CitedEvent). key_of cited.event.now) xs))
-        (is_some_and-same _ _ (λ (key : Key). list_any-filter_map (same_key key) (λ (cited : CitedEvent). key_of cited.event.now) xs) (key_of x.event.now))
+    (is_some_and-same _ _ (λ (key : Key). list_any-filter_map (same_key key) (λ (cited : CitedEvent). key_of cited.event.now) xs) (key_of x.event.now))
 
 repeats_key-at : (xs : List CitedEvent) (i : ℕ) (x : CitedEvent) → i < length xs → x ≡ get_or xs i x → repeats_key (drop i xs) ≡ (is_cited_again x.event.now (drop (i + 1) xs) || repeats_key (drop (i + 1) xs))
 repeats_key-at xs i x h e = ap repeats_key (drop_more xs i x h ∙ ap (λ y. y ∷ drop (i + 1) xs) (sym e)) ∙ repeats_key-cons x (drop (i + 1) xs)

@@ -50,8 +50,8 @@ altered-in : (refused : List ℕ → Option ℤ → Bool) (o p : Option Data) (m
     ≡ list_any (altered refused (unwrap_or o null) (unwrap_or p null)) (object_keys (unwrap_or o null))
 altered-in refused o p ms others h k =
     list_any-same _ (altered refused (object ms) (unwrap_or p null))
-        (λ key. ap (λ level. not (same_level (level_at key (object ms)) level) && refused key (level_at key (object ms))) (ap (λ (entries : Option Members). level_in entries key) k ∙ level_at-object key p))
-        (keys_of ms)
+    (λ key. ap (λ level. not (same_level (level_at key (object ms)) level) && refused key (level_at key (object ms))) (ap (λ (entries : Option Members). level_in entries key) k ∙ level_at-object key p))
+    (keys_of ms)
     ∙ ap (λ d. list_any (altered refused d (unwrap_or p null)) (object_keys d)) (sym (at_object o ms h))
 
 altered-none : (refused : List ℕ → Option ℤ → Bool) (o p : Option Data) → option_and_then as_object o ≡ None

@@ -5,3 +5,6 @@ pub mod RuleLemmas
 pub mod KeyLemmas
 pub mod CitingLemmas
 pub mod NeededKeyLemmas
+pub mod RoomBase
+pub mod RulesOnExamples
+pub mod RuleRows

@@ -23,17 +23,20 @@ member_by st join e s =
     ++ where_so (has_membership (codes "ban") e) (ban_lines e s)
     ++ reject MembershipUnknown ∷ []
 
-abbrev lines_by : Bool → Bool → Bool → Bool → Event → StateView → List Line
-lines_by create member st join e s =
-    where_so create (create_lines e)
-    ++ (reject_if StateWithoutCreate (is_none (create_of s))
+-- all but those on create events
+abbrev lines_after : Bool → Bool → Bool → Event → StateView → List Line
+lines_after member st join e s =
+    reject_if StateWithoutCreate (is_none (create_of s))
     ∷ reject_if RoomNotFederated (is_some_and (is_kept_out e) (create_of s))
     ∷ where_so member (member_by st join e s)
     ++ (reject_if SenderNotJoined (not (is_joined s (sender_of e)))
     ∷ where_so (has_kind (codes "m.room.third_party_invite") e) (third_party_invite_lines e s)
     ++ (reject_if SenderLevelTooLow (not (reaches s e (required_level (power_of s) (kind e) (is_state e))))
     ∷ reject_if StateKeyOfAnotherUser (begins_with 64 (target_of e) && not (is_own e))
-    ∷ where_so (has_kind (codes "m.room.power_levels") e) (power_lines e s))))
+    ∷ where_so (has_kind (codes "m.room.power_levels") e) (power_lines e s)))
+
+abbrev lines_by : Bool → Bool → Bool → Bool → Event → StateView → List Line
+lines_by create member st join e s = where_so create (create_lines e) ++ lines_after member st join e s
 
 abbrev keys_by : Bool → Bool → Bool → Bool → Bool → Bool → Event → List Key
 keys_by create member st own join invite e =
@@ -87,7 +90,7 @@ agree : (create member st own join invite : Bool) (e : Event) (s t : StateView) 
     → AgreeAt (keys_by create member st own join invite e) s t → first_line (lines_by create member st join e s) ≡ first_line (lines_by create member st join e t)
 unfolding create_lines join_lines invite_lines leave_lines ban_lines third_party_invite_lines power_lines is_joined is_invited_or_joined is_banned join_rule_in
 agree true member st own join invite e s t h p k =
-    after-allow (nat_lt 0 (length (prev_ids e))) _ _ _ _ _
+    after-allow (nat_lt 0 (length (prev_ids e))) _ _ _ (lines_after member st join e s) (lines_after member st join e t)
 agree false false st own join invite e s t h p k =
     let c = k.0 in let l = k.1.0 in let m = k.1.1.0 in rw (c, l, m)
 agree false true false own join invite e s t h p k =

@@ -98,7 +98,9 @@ fn is_key_cited(kind: &str, state_key: &str, entries: &[CitedEvent<'_>]) -> bool
     ensures { result
         ≡ list_any (λ cited. is_some_and (same_key (kind.now, state_key.now)) (key_of cited.event.now)) entries.now }
 {
-    entries.iter().any(|cited| is_at(kind, state_key, cited.event))
+    entries
+        .iter()
+        .any(|cited| is_at(kind, state_key, cited.event))
 }
 
 // Whether an event has this type and this state key.

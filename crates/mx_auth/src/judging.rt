@@ -96,5 +96,4 @@ pub fn agreeing_states_judge_alike<S: RoomState, T: RoomState>(event: &Pdu, one:
     ensures { (S.state one.now).create_id ≡ (T.state other.now).create_id
         → AgreeAt (needed_keys event.now) (S.state one.now) (T.state other.now)
         → rules event.now (S.state one.now) ≡ rules event.now (T.state other.now) }
-{
-}
+{}

@@ -5,7 +5,9 @@ ghost use Rattle.mx_auth.specs.Rules.{first_line, join_lines, invite_lines, leav
 
 use crate::events::{all_are, is_creator, is_own, membership_of, target_of};
 use crate::refusals::Rule;
-use crate::states::{RoomState, create_event, is_banned, is_invited_or_joined, is_joined, join_rule_in, levels_in};
+use crate::states::{
+    RoomState, create_event, is_banned, is_invited_or_joined, is_joined, join_rule_in, levels_in,
+};
 use mx_pdu::Pdu;
 use mx_redact::value_at;
 

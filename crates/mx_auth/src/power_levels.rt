@@ -50,12 +50,7 @@ fn is_at_or_above(bound: i64, level: Option<i64>) -> bool
 
 // Whether a level is added, changed or removed, and is above the bound before or after.
 #[tactic(auto, unfolding(crate::specs::Rules::alters_above))]
-fn alters_above(
-    bound: i64,
-    old: &Map<String, Value>,
-    new: &Map<String, Value>,
-    key: &str,
-) -> bool
+fn alters_above(bound: i64, old: &Map<String, Value>, new: &Map<String, Value>, key: &str) -> bool
     ensures { result ≡ alters_above_at bound (object (members_view old.now.entries))
         (object (members_view new.now.entries)) key.now }
 {
@@ -229,7 +224,12 @@ fn some_other_user(
         (object (members_view other.now.entries)) }
 {
     match entries_at(one, "users") {
-        Some(entries) => alters_user_at_or_above(sender, bound, entries, entries_at(other, "users")),
+        Some(entries) => alters_user_at_or_above(
+            sender,
+            bound,
+            entries,
+            entries_at(other, "users"),
+        ),
         None => false,
     }
 }

@@ -47,7 +47,10 @@ impl<'a> NeededKeys<'a> {
         ensures { result ≡ [] }
     {
         NeededKeys {
-            keys: [StateKey { kind: "", state_key: "" }; 5],
+            keys: [StateKey {
+                kind: "",
+                state_key: "",
+            }; 5],
             count: 0,
         }
     }
@@ -93,14 +96,22 @@ fn is_key_among(kind: &str, state_key: &str, keys: &[StateKey<'_>]) -> bool
 pub fn needed_keys(event: &Pdu) -> NeededKeys<'_>
     ensures { result ≡ needed_keys_of event.now }
 {
-    let is_created = event.kind() != "m.room.create";
+    let is_later = event.kind() != "m.room.create";
     let is_member = event.kind() == "m.room.member";
     let mut keys = NeededKeys::new();
-    keys.push_if(is_created, "m.room.create", "");
-    keys.push_if(is_created, "m.room.power_levels", "");
-    keys.push_if(is_created, "m.room.member", event.sender().as_str());
-    keys.push_if(is_member && needs_target(event), "m.room.member", target_of(event));
-    keys.push_if(is_member && needs_join_rules(event), "m.room.join_rules", "");
+    keys.push_if(is_later, "m.room.create", "");
+    keys.push_if(is_later, "m.room.power_levels", "");
+    keys.push_if(is_later, "m.room.member", event.sender().as_str());
+    keys.push_if(
+        is_member && needs_target(event),
+        "m.room.member",
+        target_of(event),
+    );
+    keys.push_if(
+        is_member && needs_join_rules(event),
+        "m.room.join_rules",
+        "",
+    );
     keys
 }
 

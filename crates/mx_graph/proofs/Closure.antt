@@ -1,7 +1,7 @@
 -- What is reached is the least closed set.
-use Rattle.std.proofs.Common.{◌≡◌, ℕ, zero, suc, ◌+◌, ◌==◌, ◌≤◌, ◌<◌, Bool, true, false, cond, ◌||◌, ◌⊎◌, inl, inr, List, [], ◌∷◌, ◌++◌, filter, flat_map, length, refl, sym, ap, subst, ◌∙◌, arith, eq-eqb, eqb-true}
+use Rattle.std.proofs.Common.{◌≡◌, ℕ, zero, suc, ◌+◌, ◌==◌, ◌≤◌, ◌<◌, Bool, true, false, cond, ◌||◌, ◌⊎◌, inl, inr, List, [], ◌∷◌, ◌++◌, filter, flat_map, length, refl, sym, ◌∙◌, arith, eq-eqb, eqb-true}
 use Rattle.std.proofs.lemmas.Bool.{eqb-false}
-use Rattle.std.specs.List.{list_any, range_with_len}
+use Rattle.std.specs.List.{range_with_len}
 use Rattle.mx_graph.specs.Record.{Row, places, events_where, is_in}
 use Rattle.mx_graph.specs.Graph.{reached_within, reached, IsClosed, IsLeastClosed, CitesDown}
 use Rattle.mx_graph.proofs.Members.{In, in_append-left, in_append-right, in_append-cases, in_filter, in_filter-parts, in_flat_map, in_flat_map-from}

@@ -3,12 +3,10 @@ use Rattle.std.proofs.Common.{◌≡◌, ℕ, zero, suc, ◌+◌, ◌==◌, ◌�
 use Rattle.std.proofs.lemmas.Bool.{eqb-false}
 use Rattle.std.proofs.lemmas.Bool.Decides.{nat_tests}
 use Rattle.std.specs.List.{range_with_len}
-use Rattle.std.specs.declared.alloc.Global.{Global}
-use Rattle.mx_graph.specs.Record.{Row, places, is_in, event, prev_events, auth_events}
-use Rattle.mx_graph.specs.Graph.{IsLeastClosed, CitesDown, IsSound, ClosuresAreLeast, reached, ancestors, auth_chain}
+use Rattle.mx_graph.specs.Record.{Row, is_in, event, prev_events, auth_events}
+use Rattle.mx_graph.specs.Graph.{IsLeastClosed, CitesDown, ClosuresAreLeast, reached, ancestors, auth_chain}
 use Rattle.mx_graph.specs.Edges.{Rises}
-use Rattle.mx_graph.proofs.Members.{In}
-use Rattle.mx_graph.proofs.Closure.{or_cases, or_left, or_right, is_in-to, same_tests, range-parts, reached-by, reached-is_least}
+use Rattle.mx_graph.proofs.Closure.{or_cases, or_left, or_right, same_tests, range-parts, reached-by, reached-is_least}
 
 -- ---- a rising list as a part of the numbers from a on
 

@@ -1,5 +1,5 @@
 -- Which rows a record takes.
-use Rattle.std.specs.Prelude.{ℕ, Bool, not, nat_le, List, length, Option, Some, None, is_some}
+use Rattle.std.specs.Prelude.{ℕ, Bool, not, nat_le, List, length, Option, None, is_some}
 use Rattle.std.specs.List.{list_all}
 use Rattle.mx_ident.specs.Identifier.{refuse_if}
 use Rattle.mx_pdu.specs.Event.{prev_ids, auth_ids}

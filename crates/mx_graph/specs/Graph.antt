@@ -49,4 +49,4 @@ abbrev pub ClosuresAreLeast : Type 0
 ClosuresAreLeast =
     (rows : List Row) (starts : List ℕ) → IsSound rows
     → IsLeastClosed (λ p. prev_events rows (event rows p)) starts (is_in (ancestors rows starts))
-        × IsLeastClosed (λ p. auth_events rows (event rows p)) starts (is_in (auth_chain rows starts))
+    × IsLeastClosed (λ p. auth_events rows (event rows p)) starts (is_in (auth_chain rows starts))

@@ -224,5 +224,4 @@ impl Graph {
 /// their own members cite.
 pub fn closures_are_least()
     ensures { closure.ClosuresAreLeast }
-{
-}
+{}

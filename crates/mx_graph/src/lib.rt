@@ -8,7 +8,10 @@ mod numbers;
 mod refusals;
 mod rows;
 
-pub use graphs::{Graph, MOST_ROWS};
+pub use graphs::{Graph, MOST_ROWS, closures_are_least};
 pub use numbers::EventNo;
 pub use refusals::{GraphError, NotAdded};
 pub use rows::GraphRow;
+
+#[cfg(test)]
+mod tests;

@@ -1,4 +1,4 @@
-use Rattle.std.proofs.Common.{◌<◌, ◌≤◌, ℕ, reverse, arith, refl, ap, ◌∙◌, sym}
+use Rattle.std.proofs.Common.{◌<◌, ◌≤◌, reverse, arith, ap}
 use Rattle.std.proofs.lemmas.List.{reverse-append}
 use Rattle.std.specs.Ordering.{nat_cmp, is_eq}
 use Rattle.std.specs.BTreeSet.{contains}
@@ -10,9 +10,9 @@ use Rattle.mx_graph.proofs.closing.taken_down.Goals as goal
 pub loop-event-smaller : goal.loop-event-smaller
 loop-event-smaller c =
     let lower : above c.wait_for_cited.new.waiting.keys ≤ c.in-Some.event =
-        above-bound c.in-Some.event c.wait_for_cited.new.waiting.keys
-        (new_below (cited c.args.edges.now) (contains nat_cmp c.args.waiting) (reverse c.loop-event.found.items) (contains nat_cmp c.loop-event.waiting) (contains nat_cmp c.pop_last.new.self) (contains nat_cmp c.wait_for_cited.new.waiting) c.in-Some.event
-        c.loop-event.invariant c.in-Some.ensures.member c.in-Some.ensures.greatest c.in-Some.ensures.updates.0 c.in_ok-wait_for_cited.ensures c.requires) in
+    above-bound c.in-Some.event c.wait_for_cited.new.waiting.keys
+    (new_below (cited c.args.edges.now) (contains nat_cmp c.args.waiting) (reverse c.loop-event.found.items) (contains nat_cmp c.loop-event.waiting) (contains nat_cmp c.pop_last.new.self) (contains nat_cmp c.wait_for_cited.new.waiting) c.in-Some.event
+    c.loop-event.invariant c.in-Some.ensures.member c.in-Some.ensures.greatest c.in-Some.ensures.updates.0 c.in_ok-wait_for_cited.ensures c.requires) in
     let higher : c.in-Some.event < above c.loop-event.waiting.keys = above-member c.in-Some.event c.loop-event.waiting.keys c.in-Some.ensures.member in
     omega arith
 

@@ -1,0 +1,61 @@
+-- Worked examples: ancestors and auth chains, and which rows are refused.
+use Rattle.std.specs.Prelude.{◌≡◌, List, ℕ, [], ◌∷◌, codes, false, refl, Some, None}
+use Rattle.serde_json.specs.Data.{string, array, object, Items, no_items, item, no_members, member}
+use Rattle.mx_graph.specs.declared.refusals.NotAdded.TheVariants.{Known, MissingPrevEvent, MissingAuthEvent}
+use Rattle.mx_graph.specs.Record.{Row}
+use Rattle.mx_graph.specs.Graph.{ancestors, auth_chain}
+use Rattle.mx_graph.specs.Adding.{add_error}
+
+abbrev texts : List (List ℕ) → Items
+texts [] = no_items
+texts (t ∷ ts) = item (string t) (texts ts)
+
+-- a row whose event has these prev events and auth events
+abbrev a_row : List ℕ → List (List ℕ) → List (List ℕ) → Row
+a_row id prev auth =
+    record { id = id; event = object (member (codes "auth_events") (array (texts auth)) (member (codes "prev_events") (array (texts prev)) no_members)); rejected = false }
+
+-- the create event, its creator's join, power levels, join rules, and the joins of two more
+abbrev base : List Row
+base =
+    a_row (codes "$1") [] []
+    ∷ a_row (codes "$2") (codes "$1" ∷ []) (codes "$1" ∷ [])
+    ∷ a_row (codes "$3") (codes "$2" ∷ []) (codes "$1" ∷ codes "$2" ∷ [])
+    ∷ a_row (codes "$4") (codes "$3" ∷ []) (codes "$1" ∷ codes "$2" ∷ codes "$3" ∷ [])
+    ∷ a_row (codes "$5") (codes "$4" ∷ []) (codes "$1" ∷ codes "$3" ∷ codes "$4" ∷ [])
+    ∷ a_row (codes "$6") (codes "$5" ∷ []) (codes "$1" ∷ codes "$3" ∷ codes "$4" ∷ [])
+    ∷ []
+
+ancestors-base : ancestors base (5 ∷ []) ≡ 0 ∷ 1 ∷ 2 ∷ 3 ∷ 4 ∷ []
+unfolding ancestors
+ancestors-base = refl
+
+auth_chain-base : auth_chain base (5 ∷ []) ≡ 0 ∷ 1 ∷ 2 ∷ 3 ∷ []
+unfolding auth_chain
+auth_chain-base = refl
+
+-- a start counts only where another start leads to it
+ancestors-two : ancestors base (2 ∷ 1 ∷ []) ≡ 0 ∷ 1 ∷ []
+unfolding ancestors
+ancestors-two = refl
+
+auth_chain-first : auth_chain base (0 ∷ []) ≡ []
+unfolding auth_chain
+auth_chain-first = refl
+
+add-known : add_error base (a_row (codes "$2") (codes "$9" ∷ []) (codes "$9" ∷ [])) ≡ Some Known
+unfolding add_error
+add-known = refl
+
+-- an event that cites itself cites an event that isn't there
+add-missing_prev : add_error base (a_row (codes "$7") (codes "$6" ∷ codes "$7" ∷ []) (codes "$9" ∷ [])) ≡ Some MissingPrevEvent
+unfolding add_error
+add-missing_prev = refl
+
+add-missing_auth : add_error base (a_row (codes "$7") (codes "$6" ∷ []) (codes "$1" ∷ codes "$9" ∷ [])) ≡ Some MissingAuthEvent
+unfolding add_error
+add-missing_auth = refl
+
+add-free : add_error base (a_row (codes "$7") (codes "$6" ∷ codes "$6" ∷ []) (codes "$1" ∷ [])) ≡ None
+unfolding add_error
+add-free = refl
