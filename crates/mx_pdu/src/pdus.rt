@@ -1,5 +1,5 @@
 // Events.
-ghost use Rattle.std.specs.Prelude.{◌≡◌, ◌↔◌, IfOk, IsErrOf, IsTrue, OnOk, Some, option_map};
+ghost use Rattle.std.specs.Prelude.{◌≡◌, ◌↔◌, IfOk, IsErrOf, IsTrue, None, OnOk, Some, option_map};
 ghost use Rattle.std.specs.Result.{result_err};
 ghost use Rattle.serde_json.specs.Data.{object};
 ghost use Rattle.serde_json.specs.View.{view, members_view};
@@ -55,7 +55,7 @@ impl Pdu {
     /// `NotAnEvent` with the cause that [`Pdu::check`] gives. The time is linear in the value's size.
     pub fn from_value(alloc: Global, value: Value) -> Result<Pdu, PduError>
         ensures ok { IfOk result (λ pdu. pdu ≡ view value) }
-        ensures well_formed { OnOk result (IsTrue (is_well_formed (view value))) }
+        ensures format { OnOk result (format_error (view value) ≡ None) }
         // It is tested first, so that memory may run out only where the value is an event.
         ensures refused { (cause : Cause)
             → (IsErrOf result (PduError.NotAnEvent cause) ↔ (format_error (view value) ≡ Some cause)) }
