@@ -4,6 +4,7 @@ ghost use Rattle.serde_json.specs.Errors.{IsMemory};
 ghost use Rattle.serde_json.specs.Data.{Data};
 ghost use Rattle.serde_json.specs.View.{view};
 ghost use Rattle.mx_canon.specs.Canonical.{canonical_error};
+ghost use Rattle.mx_canon.specs.Keys.{KeysRise};
 ghost use Rattle.mx_canon.specs.Reading.{IsJsonFor};
 ghost use Rattle.mx_canon.specs.declared.checking.NotCanonical.{NotCanonical as Cause};
 
@@ -44,6 +45,8 @@ fn of_json(error: serde_json::Error) -> ReadError
 pub fn read(alloc: Global, bytes: &[u8]) -> Result<Value, ReadError>
     ensures json { IfOk result (λ value. IsJsonFor (view value) bytes.now) }
     ensures canonical { IfOk result (λ value. canonical_error (view value) ≡ None) }
+    // Every value has its keys in order.
+    ensures keys { IfOk result (λ value. KeysRise (view value)) }
     ensures not_json { IsErrOf result ReadError.NotJson → (d : Data) → ¬ IsJsonFor d bytes.now }
     ensures not_canonical { (cause : Cause) → IsErrOf result (ReadError.NotCanonical cause)
         → (d : Data) × IsJsonFor d bytes.now × (canonical_error d ≡ Some cause) }

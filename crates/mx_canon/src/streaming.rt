@@ -1,5 +1,5 @@
 // The canonical text of a value, given to a sink piece by piece.
-ghost use Rattle.std.specs.Prelude.{◌≡◌, ℕ, ◌++◌, ◌∷◌, [], List, ◌<◌, length, false};
+ghost use Rattle.std.specs.Prelude.{◌≡◌, ℕ, ◌++◌, ◌∷◌, [], List, ◌<◌, length, false, flat_map};
 ghost use Rattle.serde_json.specs.View.{view, number_view, items_view, members_view};
 ghost use Rattle.serde_json.specs.Data.{object, array};
 ghost use Rattle.std.specs.Char.{digit_char};
@@ -66,13 +66,33 @@ fn write_members<S: TextSink>(sink: &mut S, members: &Map<String, Value>)
     sink.put(b"{");
     let mut later = false;
     for (key, member) in members.iter() {
-        put_comma(sink, later);
-        write_string(sink, key.as_bytes());
-        sink.put(b":");
+        write_key(sink, later, key.as_bytes());
         write_value(sink, member);
         later = true;
     }
     sink.put(b"}");
+}
+
+/// Gives the sink what stands before a member's value: a comma where the member is a later one, the key as
+/// [`write_string`] writes it, and a colon.
+pub fn write_key<S: TextSink>(sink: &mut S, later: bool, key: &[u8])
+    ensures { (taken : List ℕ) → S.has_taken sink.old taken
+        → S.has_taken sink.new ((taken ++ comma_if later) ++ (string_text key.now ++ 58 ∷ [])) }
+{
+    open_key(sink, later);
+    write_escaped_text(sink, key);
+    sink.put(b"\":");
+}
+
+fn open_key<S: TextSink>(sink: &mut S, later: bool)
+    ensures { (taken : List ℕ) → S.has_taken sink.old taken
+        → S.has_taken sink.new ((taken ++ comma_if later) ++ 34 ∷ []) }
+{
+    if later {
+        sink.put(b",\"");
+    } else {
+        sink.put(b"\"");
+    }
 }
 
 fn put_comma<S: TextSink>(sink: &mut S, wanted: bool)
@@ -101,6 +121,15 @@ pub fn write_string<S: TextSink>(sink: &mut S, text: &[u8])
         → S.has_taken sink.new (taken ++ string_text text.now) }
 {
     sink.put(b"\"");
+    write_escaped_text(sink, text);
+    sink.put(b"\"");
+}
+
+// What stands between the quotation marks.
+fn write_escaped_text<S: TextSink>(sink: &mut S, text: &[u8])
+    ensures { (taken : List ℕ) → S.has_taken sink.old taken
+        → S.has_taken sink.new (taken ++ flat_map escaped text.now) }
+{
     let mut start = 0;
     for (index, byte) in text.iter().enumerate() {
         if is_escaped(*byte) {
@@ -110,14 +139,13 @@ pub fn write_string<S: TextSink>(sink: &mut S, text: &[u8])
         }
     }
     sink.put(&text[start..]);
-    sink.put(b"\"");
 }
 
 // Whether a byte of a string stands there in another form. It may say so of no other byte.
 fn is_escaped(byte: u8) -> bool
     ensures { result ≡ false → escaped byte ≡ byte ∷ [] }
 {
-    byte < 32 || byte == b'"' || byte == b'\\'
+    byte < b'#' && (byte < b' ' || byte == b'"') || byte == b'\\'
 }
 
 fn write_escaped<S: TextSink>(sink: &mut S, byte: u8)

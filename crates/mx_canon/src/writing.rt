@@ -1,9 +1,10 @@
 // The canonical text of a value.
-ghost use Rattle.std.specs.Prelude.{◌≡◌, ◌≤◌, ◌↔◌, IfOk, IsErrOf, IsUtf8, Some};
+ghost use Rattle.std.specs.Prelude.{◌≡◌, ◌≤◌, ◌↔◌, IfOk, IsErrOf, IsUtf8, None, Some};
 ghost use Rattle.serde_json.specs.View.{view};
 ghost use Rattle.serde_json.specs.Data.{depth};
 ghost use Rattle.serde_json.specs.Read.{max_depth};
 ghost use Rattle.mx_canon.specs.Canonical.{canonical_error, canonical_text};
+ghost use Rattle.mx_canon.specs.Keys.{KeysRise};
 ghost use Rattle.mx_canon.specs.Reading.{IsJsonFor};
 ghost use Rattle.mx_canon.specs.declared.checking.NotCanonical.{NotCanonical as Cause};
 
@@ -47,6 +48,19 @@ pub fn text(alloc: Global, value: &Value) -> Result<Vec<u8>, CanonError>
         → (IsErrOf result (CanonError.NotCanonical cause) ↔ (canonical_error (view value.now) ≡ Some cause)) }
 {
     check(value).map_err(CanonError::NotCanonical)?;
+    let bytes = text_of_canonical(alloc, value)?;
+    Ok(bytes)
+}
+
+/// The canonical JSON of a value that has it, as [`text`] gives it, with no test that it has.
+pub fn text_of_canonical(alloc: Global, value: &Value) -> Result<Vec<u8>, AllocError>
+    requires canonical { canonical_error (view value.now) ≡ None }
+    requires keys { KeysRise (view value.now) }
+    ensures ok { IfOk result (λ bytes. bytes.items ≡ canonical_text (view value.now)) }
+    ensures utf8 { IfOk result (λ bytes. IsUtf8 bytes.items) }
+    ensures reads_back { IfOk result (λ bytes. depth (view value.now) ≤ max_depth
+        → IsJsonFor (view value.now) bytes.items) }
+{
     let bytes = value.to_vec(alloc)?;
     Ok(bytes)
 }

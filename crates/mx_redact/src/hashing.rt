@@ -30,7 +30,6 @@ pub fn content_hash(event: &Map<String, Value>) -> Result<[u8; 32], NotCanonical
 }
 
 /// The content hash of an event that has canonical JSON, as [`content_hash`] gives it, with no test that it has.
-#[tactic(auto, unfolding(crate::specs::Hashes::content_hash))]
 pub fn content_digest(event: &Map<String, Value>) -> [u8; 32]
     ensures { result ≡ content_hash_of (object (members_view event.now.entries)) }
 {
@@ -57,7 +56,6 @@ pub fn reference_hash(event: &Map<String, Value>) -> Result<[u8; 32], NotCanonic
 }
 
 /// The reference hash of an event that has canonical JSON, as [`reference_hash`] gives it, with no test that it has.
-#[tactic(auto, unfolding(crate::specs::Hashes::signing_text))]
 pub fn reference_digest(event: &Map<String, Value>) -> [u8; 32]
     ensures { result ≡ reference_hash_of (object (members_view event.now.entries)) }
 {

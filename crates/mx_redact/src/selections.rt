@@ -9,7 +9,7 @@ ghost use Rattle.mx_redact.specs.Redaction.{is_among, kept_keys};
 ghost use Rattle.mx_redact.specs.Selected.{is_selected, selected_value, selected, inner_of};
 
 use crate::kinds::KeptContent;
-use mx_canon::{NotCanonical, TextSink, check, write_string, write_text};
+use mx_canon::{NotCanonical, TextSink, check, write_key, write_text};
 use serde_json::{Map, Value};
 use std::alloc::{AllocError, Global};
 
@@ -162,11 +162,7 @@ fn write_member<S: TextSink>(
         → S.has_taken sink.new ((taken ++ comma_if later)
         ++ member_text (key.now, canonical_text (selected_value selection key.now (view value.now)))) }
 {
-    if later {
-        sink.put(b",");
-    }
-    write_string(sink, key.as_bytes());
-    sink.put(b":");
+    write_key(sink, later, key.as_bytes());
     write_selected_value(sink, selection, key, value);
 }
 

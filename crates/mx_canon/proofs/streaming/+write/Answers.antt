@@ -41,8 +41,8 @@ write_members-loop-key-preserved g t c =
       λ taken had.
           let (out, has, is) = l.invariant.1 taken had in
           let before = out ++ comma_if l.later in
-          let written = c.write_value.ensures _ (c.put-in-loop-key.ensures _ (c.write_string.ensures _ (c.put_comma.ensures _ has))) in
-          let same : ((before ++ string_text c.as_bytes.result.now) ++ 58 ∷ []) ++ v ≡ before ++ member_text (k, v) = rw c.as_bytes.ensures.value (simp append_assoc) in (
+          let written = c.write_value.ensures _ (c.write_key.ensures _ has) in
+          let same : (before ++ (string_text c.as_bytes.result.now ++ 58 ∷ [])) ++ v ≡ before ++ member_text (k, v) = rw c.as_bytes.ensures.value (append_assoc before (string_text k ++ 58 ∷ []) v ∙ ap (λ t. before ++ t) (append_assoc (string_text k) (58 ∷ []) v)) in (
             before ++ member_text (k, v),
             subst (g.S.TextSink.has_taken c.write_value.new.sink) same written,
             left-step out _ _ (member_text (k, v)) l.later _ refl refl

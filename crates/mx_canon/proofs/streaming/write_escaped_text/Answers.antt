@@ -3,8 +3,8 @@ use Rattle.std.proofs.Math.Nat.{sub_self}
 use Rattle.std.specs.List.{flat_map}
 use Rattle.mx_canon.specs.Canonical.{escaped}
 use Rattle.mx_canon.proofs.RunLemmas.{IsPlain, IsPlain-more, run_and_byte, run_then_byte, run_more}
-use Rattle.mx_canon.proofs.streaming.write_string.Goals.{then-is_escaped, else-is_escaped}
-use Rattle.mx_canon.proofs.streaming.write_string.Goals as goal
+use Rattle.mx_canon.proofs.streaming.write_escaped_text.Goals.{then-is_escaped, else-is_escaped}
+use Rattle.mx_canon.proofs.streaming.write_escaped_text.Goals as goal
 
 pub loop-index-preserved : goal.loop-index-preserved
 loop-index-preserved g c =
@@ -21,7 +21,7 @@ loop-index-preserved g c =
         λ taken had.
             let (out, has, is) = written taken had in (
               (out ++ run) ++ escaped b,
-              w.write_escaped.ensures _ (w.put-then-is_escaped.ensures _ has),
+              w.write_escaped.ensures _ (w.put.ensures _ has),
               run_and_byte out run (drop (l.index + 1) xs) _ b plain (ap (λ t. out ++ flat_map escaped t) (sym (run_then_byte xs l.start l.index low high)) ∙ is),
             ),
       )
