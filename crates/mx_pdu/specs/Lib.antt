@@ -3,3 +3,4 @@ pub mod Format
 pub mod DataCode
 pub mod Inside
 pub mod Verifiers
+pub mod Refusals

@@ -1,16 +1,18 @@
 // Whether a value has the format of an event.
-ghost use Rattle.std.specs.Prelude.{◌≡◌};
+ghost use Rattle.std.specs.Prelude.{◌≡◌, true};
 ghost use Rattle.std.specs.Result.{result_err};
-ghost use Rattle.serde_json.specs.View.{view};
-ghost use Rattle.mx_canon.specs.Canonical.{is_canonical};
+ghost use Rattle.serde_json.specs.Data.{object};
+ghost use Rattle.serde_json.specs.View.{view, members_view};
+ghost use Rattle.mx_canon.specs.Canonical.{is_canonical, canonical_text};
 ghost use Rattle.mx_canon.specs.Keys.{KeysRise};
 ghost use Rattle.mx_pdu.specs.Format.{format_error};
+ghost use Rattle.mx_pdu.specs.Refusals.{object_error};
 
 use crate::fields::has_every_field;
 use crate::limits::keeps_limits;
 use crate::refusals::NotAnEvent;
 use mx_canon::text_length;
-use serde_json::Value;
+use serde_json::{Map, Value};
 
 // The most bytes of an event's canonical text.
 const LONGEST_TEXT: u64 = 65_536;
@@ -29,7 +31,27 @@ pub fn check_format(value: &Value) -> Result<(), NotAnEvent>
     if !canonical {
         return Err(NotAnEvent::NotCanonical);
     }
-    if text_length(value) > LONGEST_TEXT {
+    check_object(event, text_length(value) > LONGEST_TEXT)
+}
+
+// The first refusal of a value that has canonical JSON, which is this text.
+#[tactic(auto, unfolding(crate::specs::Format::format_error))]
+pub fn check_canonical_format(value: &Value, text: &[u8]) -> Result<(), NotAnEvent>
+    requires canonical { is_canonical (view value.now) ≡ true }
+    requires text { text.now ≡ canonical_text (view value.now) }
+    ensures answer { result_err result ≡ format_error (view value.now) }
+{
+    match value.as_object() {
+        Some(event) => check_object(event, text.len() as u64 > LONGEST_TEXT),
+        None => Err(NotAnEvent::NotAnObject),
+    }
+}
+
+// The first refusal of an object that has canonical JSON.
+fn check_object(event: &Map<String, Value>, is_too_long: bool) -> Result<(), NotAnEvent>
+    ensures { result_err result ≡ object_error is_too_long (object (members_view event.now.entries)) }
+{
+    if is_too_long {
         return Err(NotAnEvent::TextTooLong);
     }
     if !has_every_field(event) {

@@ -3,6 +3,7 @@ ghost use Rattle.std.specs.Prelude.{◌≡◌, ◌↔◌, IfOk, IsErrOf, IsTrue,
 ghost use Rattle.std.specs.Result.{result_err};
 ghost use Rattle.serde_json.specs.Data.{object};
 ghost use Rattle.serde_json.specs.View.{view, members_view};
+ghost use Rattle.mx_canon.specs.Canonical.{canonical_error, canonical_text};
 ghost use Rattle.mx_canon.specs.Keys.{KeysRise};
 ghost use Rattle.mx_redact.specs.Fields.{kind};
 ghost use Rattle.mx_redact.specs.Hashes.{hash_holds};
@@ -11,7 +12,7 @@ ghost use Rattle.mx_pdu.specs.Event.{room_of, sender_of, state_key_of, content_o
 ghost use Rattle.mx_pdu.specs.Format.{format_error, is_well_formed};
 ghost use Rattle.mx_pdu.specs.declared.refusals.NotAnEvent.{NotAnEvent as Cause};
 
-use crate::checking::check_format;
+use crate::checking::{check_canonical_format, check_format};
 use crate::hashes::{is_text_of, named_hash};
 use crate::ids::{event_ids_at, room_id_of, user_id_of};
 use crate::lookups::{integer_at, into_object, object_at, text_or_empty_at};
@@ -61,6 +62,27 @@ impl Pdu {
             → (IsErrOf result (PduError.NotAnEvent cause) ↔ (format_error (view value) ≡ Some cause)) }
     {
         check_format(&value)?;
+        match into_object(value) {
+            Some(event) => {
+                let pdu = Pdu::of_checked(alloc, event)?;
+                Ok(pdu)
+            }
+            None => unreachable!(),
+        }
+    }
+
+    /// The event that a value is whose canonical text is at hand, as [`Pdu::from_value`] gives it, with no walk over
+    /// its numbers and no count of its text.
+    pub fn from_canonical(alloc: Global, value: Value, text: &[u8]) -> Result<Pdu, PduError>
+        requires canonical { canonical_error (view value) ≡ None }
+        requires keys { KeysRise (view value) }
+        requires text { text.now ≡ canonical_text (view value) }
+        ensures ok { IfOk result (λ pdu. pdu ≡ view value) }
+        ensures format { OnOk result (format_error (view value) ≡ None) }
+        ensures refused { (cause : Cause)
+            → (IsErrOf result (PduError.NotAnEvent cause) ↔ (format_error (view value) ≡ Some cause)) }
+    {
+        check_canonical_format(&value, text)?;
         match into_object(value) {
             Some(event) => {
                 let pdu = Pdu::of_checked(alloc, event)?;
