@@ -1,7 +1,6 @@
 // `check`: one event, from its bytes to its id.
-ghost use Rattle.std.specs.Prelude.{◌≡◌, IfOk, IsErrOf, IsTrue, None, Some};
+ghost use Rattle.std.specs.Prelude.{◌≡◌, IfOk, IsErrOf, IsTrue, Some};
 ghost use Rattle.serde_json.specs.Data.{Data};
-ghost use Rattle.serde_json.specs.View.{view};
 ghost use Rattle.mx_canon.specs.Canonical.{canonical_error, canonical_text};
 ghost use Rattle.mx_canon.specs.Reading.{IsJsonFor};
 ghost use Rattle.mx_canon.specs.declared.checking.NotCanonical.{NotCanonical as Unwritable};
@@ -9,7 +8,7 @@ ghost use Rattle.mx_redact.specs.Hashes.{event_id, hash_holds};
 ghost use Rattle.mx_pdu.specs.Format.{format_error, is_well_formed};
 ghost use Rattle.mx_pdu.specs.declared.refusals.NotAnEvent.{NotAnEvent as Malformed};
 
-use mx_canon::{CanonError, NotCanonical, ReadError, read, text};
+use mx_canon::{NotCanonical, ReadError, read, text_of_canonical};
 use mx_ident::EventId;
 use mx_pdu::{NotAnEvent, Pdu, PduError};
 use mx_redact::{id_with_hash, reference_digest};
@@ -77,8 +76,8 @@ pub fn check_event(alloc: Global, bytes: &[u8]) -> Result<Checked, CheckError>
         → (d : Data) × IsJsonFor d bytes.now × (format_error d ≡ Some cause) }
 {
     let value = read(alloc, bytes)?;
-    let text = text_of(alloc, &value)?;
-    match Pdu::from_value(alloc, value) {
+    let text = text_of_canonical(alloc, &value)?;
+    match Pdu::from_canonical(alloc, value, &text) {
         Ok(pdu) => {
             let id = id_with_hash(alloc, &reference_digest(pdu.as_map()))?;
             Ok(Checked {
@@ -89,17 +88,5 @@ pub fn check_event(alloc: Global, bytes: &[u8]) -> Result<Checked, CheckError>
         }
         Err(PduError::Memory) => Err(CheckError::Memory),
         Err(PduError::NotAnEvent(cause)) => Err(CheckError::NotAnEvent(cause)),
-    }
-}
-
-// The canonical text of a value that has one.
-fn text_of(alloc: Global, value: &Value) -> Result<Vec<u8>, AllocError>
-    requires { canonical_error (view value.now) ≡ None }
-    ensures { IfOk result (λ bytes. bytes.items ≡ canonical_text (view value.now)) }
-{
-    match text(alloc, value) {
-        Ok(bytes) => Ok(bytes),
-        Err(CanonError::Memory) => Err(AllocError),
-        Err(CanonError::NotCanonical(_)) => unreachable!(),
     }
 }

@@ -15,7 +15,7 @@ returns-in-Ok-clause-ok c =
     let event : object (members_view c.as_map.result.now.entries) ≡ d = c.as_map.ensures.event ∙ c.in-Ok.ensures.ok in
     let id : c.in_ok-id-in-Ok.id ≡ event_id d = c.in_ok-id-in-Ok.ensures ∙ ap (λ h. 36 ∷ encode_of url_safe_no_pad h) (c.reference_digest.ensures ∙ ap reference_hash event) in
     let hash : c.hash_holds.result ≡ hash_holds d = c.hash_holds.ensures ∙ ap hash_holds c.in-Ok.ensures.ok in
-    (d, c.in_ok-value.ensures.json, formed-from-none d (sym c.in-Ok.ensures.format), id, hash, c.in_ok-text.ensures)
+    (d, c.in_ok-value.ensures.json, formed-from-none d (sym c.in-Ok.ensures.format), id, hash, c.in_ok-text.ensures.ok)
 
 pub returns-clause-not_an_event : goal.returns-clause-not_an_event
 returns-clause-not_an_event c = λ cause e.
