@@ -3,4 +3,5 @@ pub mod TextLemmas
 pub mod KeyLemmas
 pub mod CodePoints
 pub mod PieceLemmas
+pub mod PlainLemmas
 pub mod RunLemmas

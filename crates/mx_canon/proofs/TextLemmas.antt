@@ -15,7 +15,7 @@ escaped_same : (b : ℕ) → escaped b ≡ escape_byte b
 unfolding escape_byte
 escaped_same b = grind arith
 
-flat_map_escaped : (s : List ℕ) → flat_map escaped s ≡ flat_map escape_byte s
+pub flat_map_escaped : (s : List ℕ) → flat_map escaped s ≡ flat_map escape_byte s
 flat_map_escaped [] = refl
 flat_map_escaped (b ∷ s) = ap₂ (λ x y. x ++ y) (escaped_same b) (flat_map_escaped s)
 

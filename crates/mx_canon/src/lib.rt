@@ -3,6 +3,7 @@
 #![tactic(auto)]
 
 mod checking;
+mod plain;
 mod reading;
 mod sinks;
 mod streaming;

@@ -7,6 +7,7 @@ ghost use Rattle.mx_canon.specs.Pieces.{comma_if};
 ghost use Rattle.mx_canon.specs.Sinks.{counted};
 ghost use Rattle.mx_canon.specs.Canonical.{canonical_text, integer_text, string_text, escaped, value_text};
 
+use crate::plain::{BLOCK, is_plain};
 use crate::sinks::{TextLength, TextSink};
 use serde_json::{Map, Number, Value};
 
@@ -130,6 +131,18 @@ fn write_escaped_text<S: TextSink>(sink: &mut S, text: &[u8])
     ensures { (taken : List ℕ) → S.has_taken sink.old taken
         → S.has_taken sink.new (taken ++ flat_map escaped text.now) }
 {
+    if text.len() >= BLOCK && is_plain(text) {
+        sink.put(text);
+    } else {
+        write_runs(sink, text);
+    }
+}
+
+// Between two escaped bytes a run is one piece.
+fn write_runs<S: TextSink>(sink: &mut S, text: &[u8])
+    ensures { (taken : List ℕ) → S.has_taken sink.old taken
+        → S.has_taken sink.new (taken ++ flat_map escaped text.now) }
+{
     let mut start = 0;
     for (index, byte) in text.iter().enumerate() {
         if is_escaped(*byte) {
@@ -145,7 +158,7 @@ fn write_escaped_text<S: TextSink>(sink: &mut S, text: &[u8])
 fn is_escaped(byte: u8) -> bool
     ensures { result ≡ false → escaped byte ≡ byte ∷ [] }
 {
-    byte < b'#' && (byte < b' ' || byte == b'"') || byte == b'\\'
+    byte < 32 || byte == b'"' || byte == b'\\'
 }
 
 fn write_escaped<S: TextSink>(sink: &mut S, byte: u8)

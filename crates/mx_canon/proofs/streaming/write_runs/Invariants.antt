@@ -1,7 +1,7 @@
 use Rattle.std.proofs.Common.{◌≡◌, ◌++◌, ◌≤◌, ◌-◌, List, ℕ, take, drop, flat_map}
 use Rattle.mx_canon.specs.Canonical.{escaped}
 use Rattle.mx_canon.proofs.RunLemmas.{IsPlain}
-use Rattle.mx_canon.proofs.streaming.write_escaped_text.Given as goal
+use Rattle.mx_canon.proofs.streaming.write_runs.Given as goal
 
 -- what was written up to the start of the run, and the run
 abbrev pub invariant-loop-index : goal.invariant-loop-index

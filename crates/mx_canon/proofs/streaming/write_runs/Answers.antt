@@ -3,8 +3,8 @@ use Rattle.std.proofs.Math.Nat.{sub_self}
 use Rattle.std.specs.List.{flat_map}
 use Rattle.mx_canon.specs.Canonical.{escaped}
 use Rattle.mx_canon.proofs.RunLemmas.{IsPlain, IsPlain-more, run_and_byte, run_then_byte, run_more}
-use Rattle.mx_canon.proofs.streaming.write_escaped_text.Goals.{then-is_escaped, else-is_escaped}
-use Rattle.mx_canon.proofs.streaming.write_escaped_text.Goals as goal
+use Rattle.mx_canon.proofs.streaming.write_runs.Goals.{then-is_escaped, else-is_escaped}
+use Rattle.mx_canon.proofs.streaming.write_runs.Goals as goal
 
 pub loop-index-preserved : goal.loop-index-preserved
 loop-index-preserved g c =
