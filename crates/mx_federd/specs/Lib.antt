@@ -1,1 +1,3 @@
 pub mod CheckErrors
+pub mod Failures
+pub mod Lines

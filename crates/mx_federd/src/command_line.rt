@@ -19,6 +19,11 @@ pub(crate) enum CommandLineError {
 }
 
 impl From<AllocError> for CommandLineError {
+    ghost use Rattle.std.specs.Prelude.{◌≡◌};
+    ghost use Rattle.mx_federd.specs.declared.command_line.CommandLineError.TheVariants.{Memory};
+
+    ghost from_gives = { λ _ e. e ≡ Memory };
+
     fn from(_refused: AllocError) -> CommandLineError {
         CommandLineError::Memory
     }

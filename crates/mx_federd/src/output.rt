@@ -1,4 +1,8 @@
 // What the program says, and its exit statuses.
+ghost use Rattle.std.specs.Prelude.{◌≡◌, ◌↔◌, IfOk};
+ghost use Rattle.std.specs.IoError.{error_kind};
+ghost use Rattle.mx_federd.specs.Lines.{check_lines};
+
 use crate::checking::{CheckError, Checked};
 use crate::input::InputError;
 use std::alloc::{AllocError, Global};
@@ -25,7 +29,10 @@ pub enum Failure {
 
 impl Failure {
     /// Why the words of the command line could not be had.
-    pub fn of_words(error: &io::Error) -> Failure {
+    pub fn of_words(error: &io::Error) -> Failure
+        ensures memory { (result ≡ Failure.Memory) ↔ (error_kind error.now ≡ ErrorKind.OutOfMemory) }
+        ensures other { (result ≡ Failure.ReadOrWrite) ↔ ¬ (error_kind error.now ≡ ErrorKind.OutOfMemory) }
+    {
         match error.kind() {
             ErrorKind::OutOfMemory => Failure::Memory,
             _ => Failure::ReadOrWrite,
@@ -34,12 +41,22 @@ impl Failure {
 }
 
 impl From<AllocError> for Failure {
+    ghost use Rattle.std.specs.Prelude.{◌≡◌};
+    ghost use Rattle.mx_federd.specs.declared.output.Failure.TheVariants.{Memory};
+
+    ghost from_gives = { λ _ e. e ≡ Memory };
+
     fn from(_refused: AllocError) -> Failure {
         Failure::Memory
     }
 }
 
 impl From<InputError> for Failure {
+    ghost use Rattle.std.specs.Prelude.{◌≡◌};
+    ghost use Rattle.mx_federd.specs.Failures.{of_input};
+
+    ghost from_gives = { λ error failure. failure ≡ of_input error };
+
     fn from(error: InputError) -> Failure {
         match error {
             InputError::Memory => Failure::Memory,
@@ -49,19 +66,28 @@ impl From<InputError> for Failure {
 }
 
 impl From<CheckError> for Failure {
+    ghost use Rattle.std.specs.Prelude.{◌≡◌};
+    ghost use Rattle.mx_federd.specs.declared.output.Failure.TheVariants as variants;
+
+    ghost from_gives = { λ error failure. failure ≡ variants.Check error };
+
     fn from(error: CheckError) -> Failure {
         Failure::Check(error)
     }
 }
 
 /// Says in one line on `err` what failed, where that can be written, and gives the exit status.
-pub fn report<E: Write>(failure: Failure, err: &mut E) -> u8 {
+pub fn report<E: Write>(failure: Failure, err: &mut E) -> u8
+    ensures { result ≡ REFUSED }
+{
     let _ = writeln!(err, "{failure}");
     REFUSED
 }
 
 /// The three lines of `check`.
-pub fn lines_of(alloc: Global, checked: &Checked) -> Result<Vec<u8>, AllocError> {
+pub fn lines_of(alloc: Global, checked: &Checked) -> Result<Vec<u8>, AllocError>
+    ensures { IfOk result (λ lines. lines.items ≡ check_lines checked.now.id checked.now.hash_holds checked.now.text.items) }
+{
     let hash = if checked.hash_holds { "good" } else { "bad" };
     let id = checked.id.as_str();
     let head = format!(in alloc; "id {id}\nhash {hash}\ncanonical ")?;
