@@ -1,6 +1,6 @@
 -- The text of a reference hash is that of an event id.
 use Rattle.std.proofs.Common.{◌≡◌, ℕ, List, ◌∷◌, length, refl, ap, ◌∙◌, append-nil}
-use Rattle.std.specs.Prelude.{Option, None}
+use Rattle.std.specs.Prelude.{None}
 use Rattle.base64.specs.GeneralPurpose.{encode_of, engine_symbols}
 use Rattle.base64.specs.Engines.{url_safe_no_pad}
 use Rattle.base64.specs.Rfc4648.{unpadded_len, encode_symbols}

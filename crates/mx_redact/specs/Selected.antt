@@ -1,5 +1,5 @@
 -- Parts of an event, each by one filter, for private clauses.
-use Rattle.std.specs.Prelude.{ℕ, Bool, false, not, ◌&&◌, List, ◌++◌, codes, bytes_eq, if◌then◌else◌, Option, Some, None}
+use Rattle.std.specs.Prelude.{ℕ, Bool, false, not, ◌&&◌, List, codes, bytes_eq, if◌then◌else◌, Option, Some, None}
 use Rattle.serde_json.specs.Data.{Data, null, boolean, number, string, array, object, Members, no_members, member}
 use Rattle.mx_redact.specs.Fields.{words}
 use Rattle.mx_redact.specs.Redaction.{is_among, kept_keys, members_where}

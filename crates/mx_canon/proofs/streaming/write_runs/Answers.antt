@@ -1,4 +1,4 @@
-use Rattle.std.proofs.Common.{◌≡◌, ℕ, ◌+◌, ◌-◌, ◌++◌, ◌∷◌, [], List, get_or, length, take, drop, refl, sym, ap, ◌∙◌, arith, subst, ◌≤◌, ◌<◌}
+use Rattle.std.proofs.Common.{◌+◌, ◌-◌, ◌++◌, get_or, length, take, drop, refl, sym, ap, ◌∙◌, arith, subst, ◌<◌}
 use Rattle.std.proofs.Math.Nat.{sub_self}
 use Rattle.std.specs.List.{flat_map}
 use Rattle.mx_canon.specs.Canonical.{escaped}
