@@ -1,4 +1,4 @@
-use Rattle.std.proofs.Common.{◌≡◌, IsTrue, sym, ap, ◌∙◌, subst, is_none}
+use Rattle.std.proofs.Common.{IsTrue, sym, ap, ◌∙◌, subst, is_none}
 use Rattle.serde_json.specs.Data.{Data}
 use Rattle.serde_json.specs.View.{view}
 use Rattle.mx_canon.specs.Keys.{KeysRise}
