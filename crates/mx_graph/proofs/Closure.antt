@@ -1,7 +1,7 @@
 -- What is reached is the least closed set.
-use Rattle.std.proofs.Common.{◌≡◌, ℕ, zero, suc, ◌+◌, ◌==◌, ◌≤◌, ◌<◌, Bool, true, false, cond, ◌||◌, ◌⊎◌, inl, inr, List, [], ◌∷◌, ◌++◌, filter, flat_map, length, refl, sym, ◌∙◌, arith, eq-eqb, eqb-true}
+use Rattle.std.proofs.Common.{◌≡◌, ℕ, zero, suc, ◌+◌, ◌==◌, ◌≤◌, ◌<◌, Bool, true, false, cond, ◌||◌, ◌⊎◌, inl, inr, List, [], ◌∷◌, ◌++◌, filter, flat_map, length, slice_index_or, refl, sym, ap, subst, ◌∙◌, arith, eq-eqb, eqb-true}
 use Rattle.std.proofs.lemmas.Bool.{eqb-false}
-use Rattle.std.specs.List.{range_with_len}
+use Rattle.std.specs.List.{All, list_any, range_with_len}
 use Rattle.mx_graph.specs.Record.{Row, places, events_where, is_in}
 use Rattle.mx_graph.specs.Graph.{reached_within, reached, IsClosed, IsLeastClosed, CitesDown}
 use Rattle.mx_graph.proofs.Members.{In, in_append-left, in_append-right, in_append-cases, in_filter, in_filter-parts, in_flat_map, in_flat_map-from}
@@ -33,6 +33,15 @@ is_in-to x (y ∷ ys) e = by (λ k. is_in-to x ys k) (or_cases (y == x) (is_in y
     by later (inl k) = inl (sym (eqb-true y x k))
     by later (inr k) = inr (later k)
 
+is_in-index : (xs : List ℕ) (k d : ℕ) → k < length xs → is_in xs (slice_index_or xs k d) ≡ true
+is_in-index [] k d h = absurd (omega arith)
+is_in-index (x ∷ xs) zero d h = or_left (x == x) _ (eq-eqb x x refl)
+is_in-index (x ∷ xs) (suc k) d h = or_right (x == slice_index_or xs k d) _ (is_in-index xs k d (omega arith))
+
+-- what holds of each number that is in a list holds of each element
+pub all-in : (P : ℕ → Type 0) (xs : List ℕ) → ((y : ℕ) → is_in xs y ≡ true → P y) → All P xs
+all-in P xs h k d l = h (slice_index_or xs k d) (is_in-index xs k d l)
+
 -- ---- the places
 
 in_range : (a n x : ℕ) → a ≤ x → x < a + n → In x (range_with_len a n)
@@ -48,6 +57,15 @@ in_range a (suc n) x h k = by (λ l. in_range (a + 1) n x l (omega arith)) (x ==
 
 pub in_places : (rows : List Row) (x : ℕ) → x < length rows → In x (places rows)
 in_places rows x h = in_range 0 (length rows) x (omega arith) (omega arith)
+
+pub range-parts : (a n x : ℕ) → In x (range_with_len a n) → (a ≤ x) × (x < a + n)
+range-parts a zero x h = absurd h
+range-parts a (suc n) x (inl e) = (omega arith, omega arith)
+range-parts a (suc n) x (inr h) =
+    let b = range-parts (a + 1) n x h in
+    let low : a + 1 ≤ x = b.0 in
+    let high : x < a + 1 + n = b.1 in
+    (omega arith, omega arith)
 
 -- ---- the rounds
 
@@ -110,6 +128,17 @@ module _ (rows : List Row) (cites : ℕ → List ℕ) (starts : List ℕ) where
 pub reached-is_least : (rows : List Row) (cites : ℕ → List ℕ) (starts : List ℕ) → CitesDown rows cites → IsLeastClosed cites starts (is_in (reached rows cites starts))
 reached-is_least rows cites starts down = (closed rows cites starts down, λ other c p h. least rows cites starts other c (length rows) p (is_in-to p (reached rows cites starts) h))
 
+pub within-below : (rows : List Row) (cites : ℕ → List ℕ) (starts : List ℕ) (n y : ℕ) → In y (reached_within rows cites starts n) → y < length rows
+within-below rows cites starts zero y h = absurd h
+within-below rows cites starts (suc n) y h =
+    let high : y < 0 + length rows = (range-parts 0 (length rows) y ((in_filter-parts (is_in (flat_map cites (starts ++ reached_within rows cites starts n))) y (places rows) h).0)).1 in
+    omega arith
+
+-- each event that is reached is one of the rows
+pub reached-below : (rows : List Row) (cites : ℕ → List ℕ) (starts : List ℕ) → All (λ p. p < length rows) (reached rows cites starts)
+reached-below rows cites starts =
+    all-in (λ p. p < length rows) (reached rows cites starts) (λ y e. within-below rows cites starts (length rows) y (is_in-to y (reached rows cites starts) e))
+
 -- ---- the same set by another test
 
 pub same_tests : (f g : ℕ → Bool) (xs : List ℕ) → ((p : ℕ) → In p xs → f p ≡ g p) → filter f xs ≡ filter g xs
@@ -120,15 +149,6 @@ one_answer : (a b : Bool) → (a ≡ true → b ≡ true) → (b ≡ true → a 
 one_answer true b f g = sym (f refl)
 one_answer false true f g = g refl
 one_answer false false f g = refl
-
-pub range-parts : (a n x : ℕ) → In x (range_with_len a n) → (a ≤ x) × (x < a + n)
-range-parts a zero x h = absurd h
-range-parts a (suc n) x (inl e) = (omega arith, omega arith)
-range-parts a (suc n) x (inr h) =
-    let b = range-parts (a + 1) n x h in
-    let low : a + 1 ≤ x = b.0 in
-    let high : x < a + 1 + n = b.1 in
-    (omega arith, omega arith)
 
 -- a filter of the places is the events that are among it
 filter-members : (rows : List Row) (test : ℕ → Bool) → filter test (places rows) ≡ events_where rows (is_in (filter test (places rows)))
@@ -154,3 +174,52 @@ pub reached-by : (rows : List Row) (cites : ℕ → List ℕ) (starts : List ℕ
 reached-by rows cites starts test down l =
     same_tests test (is_in (reached rows cites starts)) (places rows) (λ p k. same_closed cites starts test (is_in (reached rows cites starts)) l (reached-is_least rows cites starts down) p)
     ∙ sym (reached-members rows cites starts (length rows))
+
+-- ---- what several reach is what each reaches
+
+list_any-from : (test : ℕ → Bool) (x : ℕ) (xs : List ℕ) → In x xs → test x ≡ true → list_any test xs ≡ true
+list_any-from test x [] h e = absurd h
+list_any-from test x (y ∷ ys) (inl k) e = or_left (test y) _ (sym (ap test k) ∙ e)
+list_any-from test x (y ∷ ys) (inr h) e = or_right (test y) _ (list_any-from test x ys h e)
+
+list_any-to : (test : ℕ → Bool) (xs : List ℕ) → list_any test xs ≡ true → (x : ℕ) × In x xs × (test x ≡ true)
+list_any-to test [] e = absurd (cc e)
+list_any-to test (y ∷ ys) e = by (list_any-to test ys) (or_cases (test y) (list_any test ys) e)
+  where
+    by : (list_any test ys ≡ true → (x : ℕ) × In x ys × (test x ≡ true)) → (test y ≡ true) ⊎ (list_any test ys ≡ true) → (x : ℕ) × In x (y ∷ ys) × (test x ≡ true)
+    by later (inl k) = (y, inl refl, k)
+    by later (inr k) = let r = later k in (r.0, inr r.1, r.2)
+
+module _ (rows : List Row) (cites : ℕ → List ℕ) (down : CitesDown rows cites) (starts : List ℕ) where
+  abbrev some_reaches : ℕ → Bool
+  some_reaches p = list_any (λ x. is_in (reached rows cites (x ∷ [])) p) starts
+
+  some-closed : IsClosed cites starts some_reaches
+  some-closed x y h k = by (or_cases (is_in starts x) (some_reaches x) h)
+    where
+      at : (s : ℕ) → In s starts → (is_in (s ∷ []) x || is_in (reached rows cites (s ∷ [])) x) ≡ true → some_reaches y ≡ true
+      at s m e = list_any-from (λ s. is_in (reached rows cites (s ∷ [])) y) s starts m ((reached-is_least rows cites (s ∷ []) down).0 x y e k)
+
+      by : (is_in starts x ≡ true) ⊎ (some_reaches x ≡ true) → some_reaches y ≡ true
+      by (inl e) = at x (is_in-to x starts e) (or_left (is_in (x ∷ []) x) _ (is_in-from x (x ∷ []) (inl refl)))
+      by (inr e) = let r = list_any-to (λ s. is_in (reached rows cites (s ∷ [])) x) starts e in at r.0 r.1 (or_right (is_in (r.0 ∷ []) x) _ r.2)
+
+  some-least : (other : ℕ → Bool) → IsClosed cites starts other → (p : ℕ) → some_reaches p ≡ true → other p ≡ true
+  some-least other c p e =
+      let r = list_any-to (λ s. is_in (reached rows cites (s ∷ [])) p) starts e in
+      (reached-is_least rows cites (r.0 ∷ []) down).1 other (narrower r.0 r.1) p r.2
+    where
+      narrower : (s : ℕ) → In s starts → IsClosed cites (s ∷ []) other
+      narrower s m x y h k = c x y (by (or_cases (is_in (s ∷ []) x) (other x) h)) k
+        where
+          single : In x (s ∷ []) → is_in starts x ≡ true
+          single (inl e) = is_in-from x starts (subst (λ w. In w starts) (sym e) m)
+          single (inr e) = absurd e
+
+          by : (is_in (s ∷ []) x ≡ true) ⊎ (other x ≡ true) → (is_in starts x || other x) ≡ true
+          by (inl e) = or_left (is_in starts x) (other x) (single (is_in-to x (s ∷ []) e))
+          by (inr e) = or_right (is_in starts x) (other x) e
+
+  -- the chain of a list is the union of the chains of its members
+  pub reached-each : (p : ℕ) → is_in (reached rows cites starts) p ≡ list_any (λ x. is_in (reached rows cites (x ∷ [])) p) starts
+  reached-each p = same_closed cites starts (is_in (reached rows cites starts)) some_reaches (reached-is_least rows cites starts down) (some-closed, some-least) p

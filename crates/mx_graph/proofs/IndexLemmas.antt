@@ -1,10 +1,10 @@
 -- What is kept beside the rows agrees with them, with no row and with one more.
-use Rattle.std.proofs.Common.{◌≡◌, ℕ, zero, suc, ◌+◌, ◌==◌, ◌≤◌, ◌<◌, nat_le, Bool, true, false, cond, not, List, [], ◌∷◌, ◌++◌, length, filter_map, bytes_eq, Option, Some, None, is_some, refl, sym, ap, subst, ◌∙◌, arith, eqb-true, length-append, Vec}
+use Rattle.std.proofs.Common.{◌≡◌, ℕ, zero, suc, ◌+◌, ◌==◌, ◌≤◌, ◌<◌, nat_le, Bool, true, false, cond, not, List, [], ◌∷◌, ◌++◌, length, slice_index_or, filter_map, bytes_eq, Option, Some, None, is_some, refl, sym, ap, subst, ◌∙◌, arith, eqb-true, length-append, Vec}
 use Rattle.std.proofs.lemmas.Bool.Decides.{nat_tests}
 use Rattle.std.proofs.lemmas.Map.Text.{is_eq-slice_cmp}
 use Rattle.std.proofs.lemmas.Slice.Eq.{bytes_eq-Decides}
 use Rattle.std.specs.Cmp.Lexicographic.{slice_cmp}
-use Rattle.std.specs.List.{list_all}
+use Rattle.std.specs.List.{All, list_all}
 use Rattle.std.specs.Map.{lookup}
 use Rattle.std.specs.Option.{option_or}
 use Rattle.std.specs.Ordering.{nat_cmp, is_eq}
@@ -17,6 +17,7 @@ use Rattle.mx_graph.specs.Edges.{cited, LeadDown}
 use Rattle.mx_graph.specs.Graph.{CitesDown, IsSound}
 use Rattle.mx_graph.specs.Inside.{IsIndexed}
 use Rattle.mx_graph.specs.Record.{Row, row, event, place_of, is_in, prev_events, auth_events}
+use Rattle.mx_graph.proofs.Closure.{all-in}
 use Rattle.mx_graph.proofs.RowLemmas.{place_of-push, place_of-known, row-new, row-other, places-known, all-known, places-below}
 
 -- ---- no rows
@@ -210,3 +211,12 @@ indexed-sound rows prev auth numbers indexed =
 
 pub lead-down : (rows : List Row) (cites : ℕ → List ℕ) (edges : List (Vec ℕ Global)) → CitesDown rows cites → ((p : ℕ) → cited edges p ≡ cites p) → LeadDown (cited edges)
 lead-down rows cites edges down agree x y h = (down x y (subst (λ ys. is_in ys y ≡ true) (agree x) h)).1
+
+-- the edges at a place, as an index reads them
+pub edges-at : (edges : List (Vec ℕ Global)) (p : ℕ) (v : Vec ℕ Global) → p < length edges → v ≡ slice_index_or edges p v → v.items ≡ cited edges p
+edges-at [] p v h e = absurd (omega arith)
+edges-at (w ∷ edges) zero v h e = ap (λ u. u.items) e
+edges-at (w ∷ edges) (suc p) v h e = edges-at edges p v (omega arith) e
+
+pub cites-lower : (rows : List Row) (cites : ℕ → List ℕ) → CitesDown rows cites → (x : ℕ) (ys : List ℕ) → ys ≡ cites x → All (λ y. y < x) ys
+cites-lower rows cites down x ys e = all-in (λ y. y < x) ys (λ y m. (down x y (subst (λ zs. is_in zs y ≡ true) e m)).1)

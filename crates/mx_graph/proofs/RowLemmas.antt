@@ -1,5 +1,5 @@
 -- Rows with one more at the end.
-use Rattle.std.proofs.Common.{◌≡◌, ℕ, suc, ◌+◌, ◌-◌, ◌==◌, ◌≤◌, ◌<◌, nat_lt, Bool, true, false, cond, ◌&&◌, ◌⊎◌, inl, inr, List, [], ◌∷◌, ◌++◌, length, get_or, filter_map, position, bytes_eq, Option, Some, None, is_some, refl, sym, ap, subst, ◌∙◌, arith, eqb-true, length-append}
+use Rattle.std.proofs.Common.{◌≡◌, ℕ, suc, ◌+◌, ◌-◌, ◌==◌, ◌≤◌, ◌<◌, nat_lt, Bool, true, false, cond, ◌&&◌, ◌⊎◌, inl, inr, List, [], ◌∷◌, ◌++◌, length, get_or, filter_map, position, bytes_eq, Option, Some, None, IfSome, is_some, refl, sym, ap, subst, ◌∙◌, arith, eqb-true, length-append}
 use Rattle.std.proofs.Math.ListN.{get_or-eq_default}
 use Rattle.std.proofs.lemmas.Bool.{and_parts, cases_lt, eqb-false}
 use Rattle.std.proofs.lemmas.Bool.Decides.{nat_tests}
@@ -37,6 +37,13 @@ place_of-known rows r id e = place_of-push rows r id ∙ option_or-known (place_
 
 pub place_of-below : (rows : List Row) (id : List ℕ) (p : ℕ) → place_of rows id ≡ Some p → p < length rows
 place_of-below rows id p e = (position-Some (λ s. bytes_eq s.id id) rows p (row rows (length rows)) e).0
+
+pub place-bound : (rows : List Row) (id : List ℕ) → IfSome (place_of rows id) (λ p. p < length rows)
+place-bound rows id = by (place_of rows id) refl
+  where
+    by : (o : Option ℕ) → place_of rows id ≡ o → IfSome o (λ p. p < length rows)
+    by None e = tt
+    by (Some p) e = place_of-below rows id p e
 
 -- ---- the row at a place
 

@@ -1,8 +1,9 @@
 // The graph of a room.
-ghost use Rattle.std.specs.Prelude.{◌≡◌, ◌+◌, ◌<◌, ◌≤◌, ◌↔◌, IfOk, IsErrOf, IsTrue, None, OnErr, OnOk, Some, [], ◌∷◌, ◌++◌, filter_map, length};
+ghost use Rattle.std.specs.Prelude.{◌≡◌, ◌+◌, ◌<◌, ◌≤◌, ◌↔◌, All, IfOk, IfSome, IsErrOf, IsTrue, None, OnErr, OnOk, Some, [], ◌∷◌, ◌++◌, filter_map, length};
 ghost use Rattle.std.specs.List.{list_all};
 ghost use Rattle.std.specs.Result.{result_err};
 ghost use Rattle.mx_graph.specs.Adding.{add_error, is_known};
+ghost use Rattle.mx_graph.specs.Edges.{Rises};
 ghost use Rattle.mx_graph.specs.Graph as closure;
 ghost use Rattle.mx_graph.specs.Record as definition;
 ghost use Rattle.mx_graph.specs.declared.refusals.NotAdded.{NotAdded as Cause};
@@ -167,7 +168,8 @@ impl Graph {
 
     /// The number of the event with this id. It takes no memory, and the time is logarithmic in the rows.
     pub fn find(&self, id: &EventId) -> Option<EventNo>
-        ensures { result ≡ definition.place_of self.now id.now }
+        ensures place { result ≡ definition.place_of self.now id.now }
+        ensures below { IfSome result (λ number. number < length self.now) }
     {
         self.numbers.get(id).copied()
     }
@@ -183,7 +185,8 @@ impl Graph {
     /// The prev events of the event with this number, in its order: each has a lower number.
     pub fn prev_events(&self, number: EventNo) -> &[EventNo]
         requires { number < length self.now }
-        ensures { result.now ≡ definition.prev_events self.now (definition.event self.now number) }
+        ensures cited { result.now ≡ definition.prev_events self.now (definition.event self.now number) }
+        ensures lower { All (λ other. other < number) result.now }
     {
         &self.prev_edges[number.index()]
     }
@@ -191,7 +194,8 @@ impl Graph {
     /// The auth events of the event with this number, in its order: each has a lower number.
     pub fn auth_events(&self, number: EventNo) -> &[EventNo]
         requires { number < length self.now }
-        ensures { result.now ≡ definition.auth_events self.now (definition.event self.now number) }
+        ensures cited { result.now ≡ definition.auth_events self.now (definition.event self.now number) }
+        ensures lower { All (λ other. other < number) result.now }
     {
         &self.auth_edges[number.index()]
     }
@@ -201,7 +205,9 @@ impl Graph {
     ///
     /// The time is that of the edges from the given events down, times a logarithm.
     pub fn ancestors(&self, alloc: Global, starts: &[EventNo]) -> Result<Vec<EventNo>, AllocError>
-        ensures { IfOk result (λ found. found.items ≡ closure.ancestors self.now starts.now) }
+        ensures set { IfOk result (λ found. found.items ≡ closure.ancestors self.now starts.now) }
+        ensures rises { IfOk result (λ found. Rises found.items) }
+        ensures below { IfOk result (λ found. All (λ number. number < length self.now) found.items) }
     {
         let found = reached(alloc, &self.prev_edges, starts)?;
         Ok(found)
@@ -213,7 +219,9 @@ impl Graph {
     /// The time is that of the edges from the given events down, times a logarithm. Source: the Matrix specification,
     /// Room Version 2, "State resolution", auth chain.
     pub fn auth_chain(&self, alloc: Global, starts: &[EventNo]) -> Result<Vec<EventNo>, AllocError>
-        ensures { IfOk result (λ found. found.items ≡ closure.auth_chain self.now starts.now) }
+        ensures set { IfOk result (λ found. found.items ≡ closure.auth_chain self.now starts.now) }
+        ensures rises { IfOk result (λ found. Rises found.items) }
+        ensures below { IfOk result (λ found. All (λ number. number < length self.now) found.items) }
     {
         let found = reached(alloc, &self.auth_edges, starts)?;
         Ok(found)
