@@ -1,7 +1,8 @@
 -- Worked examples: ancestors and auth chains, and which rows are refused.
-use Rattle.std.specs.Prelude.{◌≡◌, List, ℕ, [], ◌∷◌, codes, false, refl, Some, None}
+use Rattle.std.specs.Prelude.{◌≡◌, List, ℕ, ◌-◌, [], ◌∷◌, map, codes, false, refl, Some, None}
+use Rattle.std.specs.List.{range_with_len}
 use Rattle.serde_json.specs.Data.{string, array, object, Items, no_items, item, no_members, member}
-use Rattle.mx_graph.specs.declared.refusals.NotAdded.TheVariants.{Known, MissingPrevEvent, MissingAuthEvent}
+use Rattle.mx_graph.specs.declared.refusals.NotAdded.TheVariants.{Known, MissingPrevEvent, MissingAuthEvent, Full}
 use Rattle.mx_graph.specs.Record.{Row}
 use Rattle.mx_graph.specs.Graph.{ancestors, auth_chain}
 use Rattle.mx_graph.specs.Adding.{add_error}
@@ -59,3 +60,24 @@ add-missing_auth = refl
 add-free : add_error base (a_row (codes "$7") (codes "$6" ∷ codes "$6" ∷ []) (codes "$1" ∷ [])) ≡ None
 unfolding add_error
 add-free = refl
+
+-- ---- the most rows, each after the one before it
+
+-- the id of a place
+abbrev place_id : ℕ → List ℕ
+place_id n = 36 ∷ n ∷ []
+
+-- a row that cites the row before it and the first one
+abbrev next_row : ℕ → Row
+next_row n = a_row (place_id n) (place_id (n - 1) ∷ []) (place_id 0 ∷ [])
+
+abbrev rows_to : ℕ → List Row
+rows_to n = a_row (place_id 0) [] [] ∷ map next_row (range_with_len 1 (n - 1))
+
+add-last : add_error (rows_to 49999) (next_row 49999) ≡ None
+unfolding add_error
+add-last = refl
+
+add-full : add_error (rows_to 50000) (next_row 50000) ≡ Some Full
+unfolding add_error
+add-full = refl
