@@ -1,9 +1,9 @@
 -- The check of cited events, over the events that a program holds.
-use Rattle.std.proofs.Common.{◌≡◌, ℕ, ◌+◌, ◌<◌, refl, sym, ap, ap₂, ◌∙◌, subst, get_or, drop, length, map, Bool, true, false, List, [], ◌∷◌}
+use Rattle.std.proofs.Common.{◌≡◌, ℕ, ◌+◌, ◌<◌, refl, sym, ap, ap₂, ◌∙◌, get_or, drop, length, map, Bool, true, false, List, [], ◌∷◌}
 use Rattle.std.specs.Prelude.{◌||◌, not, bytes_eq, codes, filter_map, if◌then◌else◌, Option, None}
 use Rattle.std.specs.List.{list_any}
 use Rattle.std.proofs.lemmas.List.{drop_more}
-use Rattle.mx_redact.specs.Fields.{Event, is_some_and}
+use Rattle.mx_redact.specs.Fields.{Event}
 use Rattle.mx_pdu.specs.Event.{has_kind, auth_ids}
 use Rattle.mx_auth.specs.Rules.{Cited, Key, reject_if, first_line, auth_lines, auth_rules, key_of, same_key, has_repeat, is_selected, cited_keys}
 use Rattle.mx_auth.specs.Keys.{cited_shown, repeats_key, is_cited_again}

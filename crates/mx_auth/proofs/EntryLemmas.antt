@@ -1,10 +1,10 @@
 -- Entries of the maps of levels in a content.
-use Rattle.std.proofs.Common.{◌≡◌, ℕ, refl, sym, ap, ap₂, ◌∙◌, Bool, true, false, List, []}
+use Rattle.std.proofs.Common.{◌≡◌, ℕ, refl, sym, ap, ◌∙◌, Bool, false, List, []}
 use Rattle.std.specs.Prelude.{ℤ, not, ◌&&◌, bytes_eq, codes, Option, Some, None, unwrap_or, option_and_then}
 use Rattle.std.specs.List.{list_any}
 use Rattle.serde_json.specs.Data.{Data, null, boolean, number, string, array, object, Members}
 use Rattle.serde_json.specs.Find.{as_object}
-use Rattle.mx_redact.specs.Fields.{field, value_at, keys_of, object_keys}
+use Rattle.mx_redact.specs.Fields.{field, keys_of, object_keys}
 use Rattle.mx_levels.specs.Level.{level_at}
 use Rattle.mx_auth.specs.Rules.{same_level, is_above, is_at_or_above, some_above, some_other_user}
 use Rattle.mx_auth.specs.Entries.{level_in, is_altered_above, is_other_user_altered}

@@ -1,13 +1,12 @@
 -- The rules, by what the tests before their blocks say.
-use Rattle.std.proofs.Common.{◌≡◌, ℕ, refl, sym, ap, ap₂, ◌∙◌, Bool, true, false, List, [], ◌∷◌, ◌++◌}
-use Rattle.std.specs.Prelude.{codes, not, ◌&&◌, Option, Some, None, is_none}
+use Rattle.std.proofs.Common.{◌≡◌, refl, ap, ap₂, ◌∙◌, Bool, true, false, List, ◌∷◌, ◌++◌}
+use Rattle.std.specs.Prelude.{codes, not, ◌&&◌, Option, Some, is_none}
 use Rattle.mx_ident.specs.Identifier.{begins_with}
 use Rattle.mx_redact.specs.Fields.{Event, is_some_and, kind}
 use Rattle.mx_pdu.specs.Event.{has_kind, sender_of, is_state}
 use Rattle.mx_levels.specs.Level.{required_level}
 use Rattle.mx_auth.specs.StateView.{StateView, create_of, power_of, is_joined}
 use Rattle.mx_auth.specs.Rules.{Line, reject_if, where_so, first_line, create_lines, member_lines, third_party_invite_lines, power_lines, other_lines, rules, is_kept_out, reaches, target_of, is_own}
-use Rattle.mx_auth.specs.declared.refusals.Rule.{Rule}
 use Rattle.mx_auth.specs.declared.refusals.Rule.TheVariants.{StateWithoutCreate, RoomNotFederated, SenderNotJoined, SenderLevelTooLow, StateKeyOfAnotherUser}
 use Rattle.mx_auth.proofs.LineLemmas.{create_lines-decide, member_lines-decide, third_party_invite_lines-decide}
 

@@ -1,5 +1,5 @@
 -- The values that stand for keys of a state and for cited events.
-use Rattle.std.specs.Prelude.{Bool, List, map, take, filter_map, option_map}
+use Rattle.std.specs.Prelude.{Bool, List, map, take, filter_map}
 use Rattle.std.specs.List.{list_any}
 use Rattle.mx_redact.specs.Fields.{Event, is_some_and}
 use Rattle.mx_auth.specs.Rules.{Key, Cited, key_of, same_key, has_repeat}

@@ -29,6 +29,8 @@ const EVENTS: &str = r#"{
 "B to 40":{"type":"m.room.power_levels","state_key":"","sender":"@b:b.example","content":{"users":{"@a:a.example":100,"@b:b.example":40,"@c:c.example":50}},"prev_events":["$6"],"auth_events":[]},
 "B to 51":{"type":"m.room.power_levels","state_key":"","sender":"@b:b.example","content":{"users":{"@a:a.example":100,"@b:b.example":51,"@c:c.example":50}},"prev_events":["$6"],"auth_events":[]},
 "B to 1 0":{"type":"m.room.power_levels","state_key":"","sender":"@b:b.example","content":{"users":{"@a:a.example":100,"@b:b.example":"1 0","@c:c.example":50}},"prev_events":["$6"],"auth_events":[]},
+"B to 2^53":{"type":"m.room.power_levels","state_key":"","sender":"@b:b.example","content":{"users":{"@a:a.example":100,"@b:b.example":"9007199254740992","@c:c.example":50}},"prev_events":["$6"],"auth_events":[]},
+"B to +0050":{"type":"m.room.power_levels","state_key":"","sender":"@b:b.example","content":{"users":{"@a:a.example":100,"@b:b.example":" +0050 ","@c:c.example":50}},"prev_events":["$6"],"auth_events":[]},
 "cites 1 2 3 3":{"type":"m.room.message","sender":"@a:a.example","content":{"body":"m"},"prev_events":["$6"],"auth_events":["$1","$2","$3","$3"]},
 "cites 1 2 3 4":{"type":"m.room.message","sender":"@a:a.example","content":{"body":"m"},"prev_events":["$6"],"auth_events":["$1","$2","$3","$4"]},
 "cites 1 2 3":{"type":"m.room.message","sender":"@a:a.example","content":{"body":"m"},"prev_events":["$6"],"auth_events":["$1","$2","$3"]},
@@ -50,6 +52,8 @@ const JUDGED: &str = r#"[
 [["1","2","3","4","5","6"],"B to 40",""],
 [["1","2","3","4","5","6"],"B to 51","A9.7"],
 [["1","2","3","4","5","6"],"B to 1 0","A9.1"],
+[["1","2","3","4","5","6"],"B to 2^53","A9.1"],
+[["1","2","3","4","5","6"],"B to +0050",""],
 [[],"1",""],
 [[],"2","A0"]
 ]"#;
