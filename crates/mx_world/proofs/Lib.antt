@@ -1,0 +1,10 @@
+pub mod Refusals
+pub mod NextStep
+pub mod Alike
+pub mod RunLemmas
+pub mod Places
+pub mod RoomLemmas
+pub mod ShardLemmas
+pub mod BodyLemmas
+pub mod BookLemmas
+pub mod TransactionLemmas

@@ -1,0 +1,42 @@
+use Rattle.std.proofs.Common.{◌≡◌, ◌++◌, ◌+◌, [], ◌∷◌, take, ap, sym, ◌∙◌, arith}
+use Rattle.std.proofs.lemmas.Bool.{eqb-true}
+use Rattle.std.proofs.lemmas.List.{take_more, take_all, nil_from_length}
+use Rattle.mx_world.specs.Tables.{start}
+use Rattle.mx_world.proofs.Alike.{told-alone}
+use Rattle.mx_world.proofs.RunLemmas.{after_none, replies_more}
+use Rattle.mx_world.proofs.runs.run.Goals as goal
+
+pub returns-in_default-clause-err : goal.returns-in_default-clause-err
+returns-in_default-clause-err c = after_none c.args.world.now c.requires
+
+pub loop-step-init : goal.loop-step-init
+loop-step-init c = record {
+  told = rw (c.reserve.ensures.items ∙ c.new-replies.ensures.items) tt;
+  now = after_none c.args.world.now c.requires;
+  count = omega arith;
+  room = omega (arith, c.in-Ok.ensures.ok);
+}
+
+-- one more reply is by the steps so far, and what is kept is what one more step leaves
+pub loop-step-preserved : goal.loop-step-preserved
+loop-step-preserved c =
+    let more : take (c.loop-step.step-index + 1) c.args.steps.now ≡ take c.loop-step.step-index c.args.steps.now ++ c.step-item.result ∷ [] =
+    take_more c.args.steps.now c.loop-step.step-index c.step-item.result c.loop-step-test.true
+    ∙ ap (λ x. take c.loop-step.step-index c.args.steps.now ++ x ∷ []) (sym c.step-item.is) in
+    let next = c.in-Ok-step.ensures.next (start c.args.world.now) (take c.loop-step.step-index c.args.steps.now) c.loop-step.invariant.now in
+    record {
+      told = rw (more, c.push_reserved.ensures.items)
+          (replies_more (start c.args.world.now) [] (take c.loop-step.step-index c.args.steps.now) c.loop-step.replies.items c.step-item.result c.in-Ok-step.reply c.loop-step.invariant.told next.0);
+      now = rw more next.1;
+      count = omega arith;
+      room = omega arith;
+    }
+
+pub returns-clause-alone : goal.returns-clause-alone
+returns-clause-alone c = λ apart room.
+    told-alone (start c.args.world.now) room [] c.args.steps.now c.loop-step.replies.items (rw (take_all c.loop-step.step-index c.args.steps.now c.loop-step-test.false) at c.loop-step.invariant.told) apart
+
+pub returns-then-is_empty-clause-after : goal.returns-then-is_empty-clause-after
+returns-then-is_empty-clause-after c =
+    let none : c.args.steps.now ≡ [] = nil_from_length c.args.steps.now (eqb-true _ _ (sym c.is_empty.ensures ∙ c.if-is_empty.true)) in
+    rw none (after_none c.args.world.now c.requires)

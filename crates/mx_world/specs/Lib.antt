@@ -1,0 +1,16 @@
+pub mod Pairs
+pub mod PairLaws
+pub mod Labels
+pub mod Create
+pub mod Offer
+pub mod LoneRoom
+pub mod Calls
+pub mod Replies
+pub mod Agree
+pub mod Moves
+pub mod Bodies
+pub mod Tables
+pub mod Rooms
+pub mod Shards
+pub mod Transactions
+pub mod Codes

@@ -1,0 +1,143 @@
+-- The reply to each step, by the steps before it (our own), with the texts of Server-Server API, transactions.
+use Rattle.std.specs.Prelude.{ℕ, ◌≡◌, if◌then◌else◌, List, [], ◌∷◌, ◌++◌, codes, length, fold, Option, Some, None, Ok, Err}
+use Rattle.serde_json.specs.Data.{Data, string, object, no_members, member, put}
+use Rattle.mx_canon.specs.Canonical.{canonical_text}
+use Rattle.mx_pdu.specs.Event.{room_of}
+use Rattle.mx_world.specs.Offer.{Offered}
+use Rattle.mx_world.specs.LoneRoom.{Call, to_host, to_offer, to_ask, call_room, answer}
+use Rattle.mx_world.specs.Pairs.{same}
+use Rattle.mx_world.specs.Calls.{Start, Opening, opening, left, left_of, is_closed, record_after}
+use Rattle.mx_world.specs.declared.outcomes.KeptEvent.{KeptEvent}
+use Rattle.mx_world.specs.declared.outcomes.Outcome.{Outcome}
+use Rattle.mx_world.specs.declared.outcomes.Outcome.TheVariants.{Kept, Known, Refused}
+use Rattle.mx_world.specs.declared.outcomes.Refusal.{Refusal}
+use Rattle.mx_world.specs.declared.outcomes.Refusal.TheVariants.{SecondCreate, Signature, MissingEvents, RoomFull}
+use Rattle.mx_world.specs.declared.queries.Denied.TheVariants.{NotFound}
+use Rattle.mx_world.specs.declared.answers.Answer.{Answer}
+use Rattle.mx_world.specs.declared.answers.Answer.TheVariants.{ToOffered, ToAsked}
+use Rattle.mx_world.specs.declared.answers.Told.{Told}
+use Rattle.mx_world.specs.declared.pairs.Pair.{Pair}
+use Rattle.mx_world.specs.declared.steps.Step.{Step}
+use Rattle.mx_world.specs.declared.steps.Step.TheVariants.{Host, Open, Next, Close, Ask}
+use Rattle.mx_world.specs.declared.steps.StepReply.{StepReply}
+use Rattle.mx_world.specs.declared.steps.StepReply.TheVariants.{OfRoom, Opened, Replayed, Busy, NotOpen, NoMore, OfEvent, MoreLeft, Closed}
+
+-- ---- Server-Server API, transactions: the processing result of each event
+
+abbrev pub error_text : List ℕ → Data
+error_text s = object (member (codes "error") (string s) no_members)
+
+abbrev pub no_error : Data
+no_error = object no_members
+
+abbrev pub refusal_text : Refusal → List ℕ
+refusal_text SecondCreate = codes "second create"
+refusal_text Signature = codes "signature"
+refusal_text MissingEvents = codes "missing events"
+refusal_text RoomFull = codes "room full"
+
+abbrev pub outcome_text : Outcome → Data
+outcome_text Kept = no_error
+outcome_text Known = no_error
+outcome_text (Refused r) = error_text (refusal_text r)
+
+-- the text for an answer to an offered event
+abbrev pub text_of : Answer → Data
+text_of (ToOffered o) = outcome_text o
+text_of _ = error_text (codes "unknown room")
+
+-- each id's text; of an id that is told twice the last text stands
+abbrev pub texts_of : List Told → Data
+texts_of told = object (fold (λ ms t. put t.id (text_of t.answer) ms) no_members told)
+
+-- the body of a transaction's reply
+unfoldable pub body_of : List Told → List ℕ
+body_of told = canonical_text (object (member (codes "pdus") (texts_of told) no_members))
+
+-- ---- what is known of a transaction
+
+-- the answers that the events of p among the later steps get, after the earlier ones
+abbrev pub told_of : (List ℕ → List KeptEvent) → List ℕ → Offered → Told
+told_of rows origin o = record { id = o.id; answer = answer (rows (room_of o.pdu)) (to_offer origin o) }
+
+abbrev pub first_told : (List ℕ → List KeptEvent) → List ℕ → List Offered → List Told
+first_told rows origin [] = []
+first_told rows origin (o ∷ rest) = told_of rows origin o ∷ []
+
+abbrev pub told_by : Pair → (List ℕ → List KeptEvent) → List Offered → Step → List Told
+told_by p rows rest (Next q) = if same p q then first_told rows p.origin rest else []
+told_by p rows rest step = []
+
+abbrev pub told_from : Start → Pair → List Step → List Step → List Told
+told_from s p earlier [] = []
+told_from s p earlier (step ∷ later) =
+    told_by p (record_after s earlier) (left s earlier p) step ++ told_from s p (earlier ++ step ∷ []) later
+
+abbrev pub told_after : Start → List Step → Pair → List Told
+told_after s steps p = told_from s p [] steps
+
+-- a transaction has events left and answers so far, or its reply is kept for good
+pub data Status : Type 0 where
+  unopened : Status
+  waiting : (rest : List Offered) (told : List Told) → Status
+  ended : (body : List ℕ) → Status
+
+abbrev pub status_by : Pair → Option (List ℕ) → Option Opening → List Told → Status
+status_by p (Some body) o told = ended body
+status_by p None None told = unopened
+status_by p None (Some o) told =
+    if is_closed p (length o.events) o.since then ended (body_of told) else waiting (left_of p (Some o)) told
+
+abbrev pub status_after : Start → List Step → Pair → Status
+status_after s steps p = status_by p (s.kept_at p) (opening s p steps) (told_after s steps p)
+
+-- ---- replies
+
+abbrev pub open_reply : List Offered → Status → StepReply
+open_reply events unopened = Opened (length events)
+open_reply events (waiting rest told) = Busy
+open_reply events (ended body) = Replayed body
+
+abbrev pub next_reply : (List ℕ → List KeptEvent) → List ℕ → Status → StepReply
+next_reply rows origin unopened = NotOpen
+next_reply rows origin (waiting [] told) = NoMore
+next_reply rows origin (waiting (o ∷ rest) told) = OfEvent (told_of rows origin o)
+next_reply rows origin (ended body) = NotOpen
+
+abbrev pub close_reply : Status → StepReply
+close_reply unopened = NotOpen
+close_reply (waiting [] told) = Closed (body_of told)
+close_reply (waiting (o ∷ rest) told) = MoreLeft (length (o ∷ rest))
+close_reply (ended body) = NotOpen
+
+-- what some room shows; not found only where each room answers so
+abbrev pub IsShown : (List ℕ → List KeptEvent) → Call → Answer → Type 0
+IsShown rows call (ToAsked (Ok reply)) = (room : List ℕ) × (answer (rows room) call ≡ ToAsked (Ok reply))
+IsShown rows call (ToAsked (Err denied)) =
+    (denied ≡ NotFound) × ((room : List ℕ) → answer (rows room) call ≡ ToAsked (Err NotFound))
+IsShown rows call other = ⊥
+
+-- the answer of the room that the call is put to, else what some room shows
+abbrev pub IsAnswer : (List ℕ → List KeptEvent) → Call → Option (List ℕ) → Answer → Type 0
+IsAnswer rows call (Some room) a = a ≡ answer (rows room) call
+IsAnswer rows call None a = IsShown rows call a
+
+abbrev pub IsAnswered : (List ℕ → List KeptEvent) → Call → StepReply → Type 0
+IsAnswered rows call (OfRoom a) = IsAnswer rows call (call_room call) a
+IsAnswered rows call other = ⊥
+
+-- the reply to a step, where the rooms have these records and the pairs this status
+abbrev pub IsReply : (List ℕ → List KeptEvent) → (Pair → Status) → Step → StepReply → Type 0
+IsReply rows status (Host o) reply = IsAnswered rows (to_host o) reply
+IsReply rows status (Open p events) reply = reply ≡ open_reply events.items (status p)
+IsReply rows status (Next p) reply = reply ≡ next_reply rows p.origin (status p)
+IsReply rows status (Close p) reply = reply ≡ close_reply (status p)
+IsReply rows status (Ask origin now q) reply = IsAnswered rows (to_ask origin now q) reply
+
+-- each reply is by the steps before it
+abbrev pub AreReplies : Start → List Step → List Step → List StepReply → Type 0
+AreReplies s earlier [] [] = Unit {0}
+AreReplies s earlier (step ∷ later) (reply ∷ replies) =
+    IsReply (record_after s earlier) (status_after s earlier) step reply × AreReplies s (earlier ++ step ∷ []) later replies
+AreReplies s earlier [] (reply ∷ replies) = ⊥
+AreReplies s earlier (step ∷ later) [] = ⊥

@@ -1,0 +1,46 @@
+// Steps and the replies to them.
+use crate::answers::{Answer, Told};
+use crate::bodies::Body;
+use crate::pairs::Pair;
+use crate::queries::Query;
+use mx_ident::ServerName;
+use mx_pdu::Offered;
+
+/// One step of a server of rooms.
+///
+/// `Host`: host the room that this create event makes. `Open`: a server begins a transaction with these events. `Next`:
+/// the next event of a transaction that is open goes to its room. `Close`: a transaction whose events all went to their
+/// rooms gets its reply, which is kept for good. `Ask`: a server's query, at a time in milliseconds since 1970.
+///
+/// Source: the Matrix specification, Server-Server API, "Transactions" and "Retrieving events".
+#[derive(Debug, Drop)]
+pub enum Step {
+    Host(Offered),
+    Open(Pair, Vec<Offered>),
+    Next(Pair),
+    Close(Pair),
+    Ask {
+        origin: ServerName,
+        now: u64,
+        query: Query,
+    },
+}
+
+/// The reply to a step.
+///
+/// `OfRoom`: a room's answer. `Opened`: a transaction was opened with so many events. `Replayed`: it was closed before,
+/// and this is its reply. `Busy`: it is open already. `NotOpen`: it isn't open. `NoMore`: none of its events is left.
+/// `OfEvent`: its next event, and the room's answer. `MoreLeft`: so many of its events are left, so that it stays open.
+/// `Closed`: it is closed from now on, and this is its reply. `Busy`, `NotOpen`, `NoMore` and `MoreLeft` change nothing.
+#[derive(Debug, Drop)]
+pub enum StepReply {
+    OfRoom(Answer),
+    Opened(usize),
+    Replayed(Body),
+    Busy,
+    NotOpen,
+    NoMore,
+    OfEvent(Told),
+    MoreLeft(usize),
+    Closed(Body),
+}
