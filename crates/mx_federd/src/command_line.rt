@@ -1,13 +1,20 @@
 // The words of the command line.
+use clap::builder::ValueParser;
 use clap::error::ErrorKind;
-use clap::{ArgMatches, Error};
+use clap::{Arg, ArgAction, ArgMatches, Error};
+use mx_ident::ServerName;
 use std::alloc::{AllocError, Global};
+
+/// How many shards a server has at most.
+const MOST_SHARDS: u64 = 64;
 
 /// What the program is asked to do.
 #[derive(Debug, Drop)]
 pub(crate) enum Command {
     // One event from standard input, to its id.
     Check,
+    // A log of steps from standard input, to the answers.
+    Replay,
 }
 
 /// Why the words ask for nothing.
@@ -35,13 +42,11 @@ fn refusal(alloc: Global, error: &Error) -> Result<String, AllocError> {
 
 /// What the words ask for. The first is the program's name.
 pub(crate) fn parse(alloc: Global, words: &[String]) -> Result<Command, CommandLineError> {
-    let check = clap::Command::new(alloc, "check").about(
-        "Reads one event from standard input, and prints its id, whether its content hash holds, and its canonical text",
-    );
     let program = clap::Command::new(alloc, "mx_federd")
         .about("A Matrix federation room server")
         .subcommand_required(true)
-        .subcommand(check)?;
+        .subcommand(check_words(alloc))?
+        .subcommand(replay_words(alloc)?)?;
     match program.try_get_matches_from(words) {
         Ok(matches) => chosen(alloc, &matches),
         Err(error) if error.kind() == ErrorKind::OutOfMemory => Err(CommandLineError::Memory),
@@ -49,12 +54,47 @@ pub(crate) fn parse(alloc: Global, words: &[String]) -> Result<Command, CommandL
     }
 }
 
+fn check_words<'a>(alloc: Global) -> clap::Command<'a> {
+    clap::Command::new(alloc, "check").about(
+        "Reads one event from standard input, and prints its id, whether its content hash holds, and its canonical text",
+    )
+}
+
+fn replay_words<'a>(alloc: Global) -> Result<clap::Command<'a>, AllocError> {
+    let name = Arg::new(alloc, "name")
+        .long("name")
+        .required(true)
+        .action(ArgAction::Set)
+        .help("The name of the server");
+    let shards = Arg::new(alloc, "shards")
+        .long("shards")
+        .default_value("1")
+        .action(ArgAction::Set)
+        .value_parser(ValueParser::unsigned(1, MOST_SHARDS))
+        .help("How many shards hold the rooms, 1 to 64; no answer depends on it");
+    clap::Command::new(alloc, "replay")
+        .about("Reads a log of steps from standard input, and prints what a server answers to each")
+        .arg(name)?
+        .arg(shards)
+}
+
 fn chosen(alloc: Global, matches: &ArgMatches) -> Result<Command, CommandLineError> {
     match matches.subcommand() {
         Some(("check", _)) => Ok(Command::Check),
-        _ => {
-            let text = String::from_str(alloc, "no subcommand\n")?;
-            Err(CommandLineError::Misused(text))
-        }
+        Some(("replay", given)) => replay_of(alloc, given),
+        _ => misused(alloc, "no subcommand\n"),
     }
+}
+
+// `replay`, where the name is a server name.
+fn replay_of(alloc: Global, given: &ArgMatches) -> Result<Command, CommandLineError> {
+    match given.get_str("name") {
+        Some(name) if ServerName::is(name) => Ok(Command::Replay),
+        _ => misused(alloc, "the name is no server name\n"),
+    }
+}
+
+fn misused(alloc: Global, text: &str) -> Result<Command, CommandLineError> {
+    let text = String::from_str(alloc, text)?;
+    Err(CommandLineError::Misused(text))
 }

@@ -1,21 +1,28 @@
 //! `mx_federd`: a Matrix federation room server. `check` reads one event from standard input and prints its id,
-//! whether its content hash holds, and its canonical text.
+//! whether its content hash holds, and its canonical text. `replay` reads a log of steps from standard input and prints
+//! what a server answers to each.
 #![tactic(auto)]
 
 mod checking;
 mod command_line;
 mod input;
+mod lines;
 mod output;
+mod replaying;
+mod reply_lines;
 
 use checking::check_event;
 use command_line::{Command, CommandLineError};
 use input::read_all;
 use output::{Failure, MISUSED, SUCCESS, lines_of, report, write_to};
+use replaying::replay;
 use std::alloc::{AllocError, Global};
 use std::env;
 use std::io::{self, Read, Write};
 use std::process::ExitCode;
 
+#[cfg(test)]
+mod replay_tests;
 #[cfg(test)]
 mod tests;
 
@@ -30,7 +37,7 @@ pub fn main_with<R: Read, W: Write, E: Write>(
     err: &mut E,
 ) -> u8 {
     match command_line::parse(alloc, words) {
-        Ok(Command::Check) => match check(alloc, input, out) {
+        Ok(command) => match run(alloc, command, input, out) {
             Ok(()) => SUCCESS,
             Err(failure) => report(failure, err),
         },
@@ -42,10 +49,23 @@ pub fn main_with<R: Read, W: Write, E: Write>(
     }
 }
 
-// Checks the event that the input holds.
-fn check<R: Read, W: Write>(alloc: Global, input: &mut R, out: &mut W) -> Result<(), Failure> {
+// Does what the command line asks for with the whole input.
+fn run<R: Read, W: Write>(
+    alloc: Global,
+    command: Command,
+    input: &mut R,
+    out: &mut W,
+) -> Result<(), Failure> {
     let bytes = read_all(alloc, input)?;
-    let checked = check_event(alloc, &bytes)?;
+    match command {
+        Command::Check => check(alloc, &bytes, out),
+        Command::Replay => replay(alloc, &bytes, out),
+    }
+}
+
+// Checks the event that the bytes hold.
+fn check<W: Write>(alloc: Global, bytes: &[u8], out: &mut W) -> Result<(), Failure> {
+    let checked = check_event(alloc, bytes)?;
     let lines = lines_of(alloc, &checked)?;
     write_to(out, &lines)
 }
@@ -68,7 +88,7 @@ fn main(rt: HostRuntime) -> ExitCode {
             &mut rt.stdout(),
             &mut rt.stderr(),
         ),
-        Err(error) => report(Failure::of_words(&error), &mut rt.stderr()),
+        Err(error) => report(Failure::of_io(error), &mut rt.stderr()),
     };
     ExitCode::from(status)
 }

@@ -28,10 +28,10 @@ pub enum Failure {
 }
 
 impl Failure {
-    /// Why the words of the command line could not be had.
-    pub fn of_words(error: &io::Error) -> Failure
-        ensures memory { (result ≡ Failure.Memory) ↔ (error_kind error.now ≡ ErrorKind.OutOfMemory) }
-        ensures other { (result ≡ Failure.ReadOrWrite) ↔ ¬ (error_kind error.now ≡ ErrorKind.OutOfMemory) }
+    /// Why the words of the command line could not be had, or a writer.
+    pub fn of_io(error: io::Error) -> Failure
+        ensures memory { (result ≡ Failure.Memory) ↔ (error_kind error ≡ ErrorKind.OutOfMemory) }
+        ensures other { (result ≡ Failure.ReadOrWrite) ↔ ¬ (error_kind error ≡ ErrorKind.OutOfMemory) }
     {
         match error.kind() {
             ErrorKind::OutOfMemory => Failure::Memory,
@@ -105,15 +105,11 @@ pub fn lines_of(alloc: Global, checked: &Checked) -> Result<Vec<u8>, AllocError>
 
 /// Writes all of the bytes.
 pub fn write_to<W: Write>(out: &mut W, bytes: &[u8]) -> Result<(), Failure> {
-    match out.write_all(bytes) {
-        Ok(()) => flushed(out),
-        Err(_) => Err(Failure::ReadOrWrite),
-    }
+    out.write_all(bytes).map_err(Failure::of_io)?;
+    flushed(out)
 }
 
-fn flushed<W: Write>(out: &mut W) -> Result<(), Failure> {
-    match out.flush() {
-        Ok(()) => Ok(()),
-        Err(_) => Err(Failure::ReadOrWrite),
-    }
+/// Writes out what a writer holds back.
+pub fn flushed<W: Write>(out: &mut W) -> Result<(), Failure> {
+    out.flush().map_err(Failure::of_io)
 }

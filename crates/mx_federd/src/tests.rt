@@ -11,22 +11,32 @@ const SPELLED_OTHERWISE: &str =
 
 const HEAD: &str = "id $T88qUID58cSwgtjrzS_C35dNVOdZei7Dk6AJtTNbu9U\nhash bad\ncanonical ";
 
+// What a run of the program leaves.
 #[derive(Drop)]
-struct Outcome {
-    status: u8,
-    out: Vec<u8>,
-    err: Vec<u8>,
+pub(crate) struct Outcome {
+    pub(crate) status: u8,
+    pub(crate) out: Vec<u8>,
+    pub(crate) err: Vec<u8>,
 }
 
-fn run(alloc: Global, word: &str, input: &[u8]) -> Result<Outcome, AllocError> {
-    let mut words = Vec::new(alloc);
-    words.push(String::from_str(alloc, "mx_federd")?)?;
-    words.push(String::from_str(alloc, word)?)?;
+pub(crate) fn run_words(
+    alloc: Global,
+    words: &[&str],
+    input: &[u8],
+) -> Result<Outcome, AllocError> {
+    let mut all = Vec::new(alloc);
+    for word in words {
+        all.push(String::from_str(alloc, word)?)?;
+    }
     let mut out = Vec::new(alloc);
     let mut err = Vec::new(alloc);
     let mut reader = input;
-    let status = main_with(alloc, &words, &mut reader, &mut out, &mut err);
+    let status = main_with(alloc, &all, &mut reader, &mut out, &mut err);
     Ok(Outcome { status, out, err })
+}
+
+fn run(alloc: Global, word: &str, input: &[u8]) -> Result<Outcome, AllocError> {
+    run_words(alloc, &["mx_federd", word], input)
 }
 
 #[test]
@@ -122,6 +132,22 @@ impl Write for Broken {
     fn flush(&mut self) -> io::Result<()> {
         Ok(())
     }
+}
+
+#[test]
+fn failed_writes_of_answers(rt: HostRuntime) -> Result<(), Fail> {
+    let alloc = rt.alloc();
+    let words = vec![in alloc;
+        String::from_str(alloc, "mx_federd")?,
+        String::from_str(alloc, "replay")?,
+        String::from_str(alloc, "--name=hub.example")?,
+    ]?;
+    let mut reader = b"{}\n".as_slice();
+    let mut err = Vec::new(alloc);
+    let status = main_with(alloc, &words, &mut reader, &mut Broken, &mut err);
+    assert_eq!(rt; err.as_slice(), b"failed read or write\n".as_slice());
+    assert_eq!(rt; status, 1);
+    Ok(())
 }
 
 #[test]

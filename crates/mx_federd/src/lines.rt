@@ -1,0 +1,154 @@
+// The lines of a log.
+use mx_ident::{IdError, ServerName};
+use mx_pdu::{Offered, Pdu, PduError, PresenceVerifier};
+use mx_redact::text_at;
+use mx_world::{Pair, Step};
+use serde_json::{Map, Value};
+use std::alloc::{AllocError, Global};
+
+/// How many events one transaction has at most.
+///
+/// Source: the Matrix specification, Server-Server API, "Transactions".
+pub(crate) const MOST_EVENTS: usize = 50;
+
+/// What a line of a log asks for.
+#[derive(Debug, Drop)]
+pub(crate) enum Line {
+    // One step of the server.
+    Step(Step),
+    // To host a room by an event that is malformed.
+    HostsMalformed,
+}
+
+/// Why a line asks for nothing.
+#[derive(Clone, Copy, Debug, PartialEq, Eq, Drop)]
+pub(crate) enum LineError {
+    Memory,
+    // It has the form of no line.
+    Bad,
+}
+
+impl From<AllocError> for LineError {
+    ghost use Rattle.std.specs.Prelude.{◌≡◌};
+    ghost use Rattle.mx_federd.specs.declared.lines.LineError.TheVariants.{Memory};
+
+    ghost from_gives = { λ _ e. e ≡ Memory };
+
+    fn from(_refused: AllocError) -> LineError {
+        LineError::Memory
+    }
+}
+
+#[derive(Clone, Copy, Debug, PartialEq, Eq, Drop)]
+enum LineKind {
+    Host,
+    Open,
+    Next,
+    Close,
+}
+
+fn of_json(error: serde_json::Error) -> LineError {
+    if error.is_memory() {
+        LineError::Memory
+    } else {
+        LineError::Bad
+    }
+}
+
+/// What a line asks for. A key beyond its form makes it bad, and of a key that is repeated the last value stands.
+pub(crate) fn read_line(alloc: Global, line: &[u8]) -> Result<Line, LineError> {
+    match Value::from_slice(alloc, line).map_err(of_json)? {
+        Value::Object(members) => read_members(alloc, members),
+        _ => Err(LineError::Bad),
+    }
+}
+
+fn read_members(alloc: Global, mut members: Map<String, Value>) -> Result<Line, LineError> {
+    match kind_of(&members) {
+        Some(LineKind::Host) => read_host(alloc, &mut members),
+        Some(LineKind::Open) => read_open(alloc, &mut members),
+        Some(LineKind::Next) => {
+            let pair = pair_of(alloc, &members)?;
+            Ok(Line::Step(Step::Next(pair)))
+        }
+        Some(LineKind::Close) => {
+            let pair = pair_of(alloc, &members)?;
+            Ok(Line::Step(Step::Close(pair)))
+        }
+        None => Err(LineError::Bad),
+    }
+}
+
+// By its `step`, and how many keys such a line has.
+fn kind_of(members: &Map<String, Value>) -> Option<LineKind> {
+    match (text_at(members, "step")?, members.len()) {
+        ("host", 2) => Some(LineKind::Host),
+        ("open", 4) => Some(LineKind::Open),
+        ("next", 3) => Some(LineKind::Next),
+        ("close", 3) => Some(LineKind::Close),
+        _ => None,
+    }
+}
+
+fn read_host(alloc: Global, members: &mut Map<String, Value>) -> Result<Line, LineError> {
+    let Some(event) = members.remove("event") else {
+        return Err(LineError::Bad);
+    };
+    match offered_of(alloc, event)? {
+        Some(offered) => Ok(Line::Step(Step::Host(offered))),
+        None => Ok(Line::HostsMalformed),
+    }
+}
+
+fn read_open(alloc: Global, members: &mut Map<String, Value>) -> Result<Line, LineError> {
+    let Some(Value::Array(events)) = members.remove("pdus") else {
+        return Err(LineError::Bad);
+    };
+    if events.len() > MOST_EVENTS {
+        return Err(LineError::Bad);
+    }
+    let pair = pair_of(alloc, members)?;
+    let events = offered_among(alloc, events)?;
+    Ok(Line::Step(Step::Open(pair, events)))
+}
+
+// The origin, which is a server name, and the number of a transaction, which is any text.
+fn pair_of(alloc: Global, members: &Map<String, Value>) -> Result<Pair, LineError> {
+    let Some(origin) = text_at(members, "origin") else {
+        return Err(LineError::Bad);
+    };
+    let Some(txn) = text_at(members, "txn") else {
+        return Err(LineError::Bad);
+    };
+    match ServerName::parse(alloc, origin) {
+        Ok(origin) => {
+            let txn = String::from_str(alloc, txn)?;
+            Ok(Pair { origin, txn })
+        }
+        Err(IdError::Memory) => Err(LineError::Memory),
+        Err(IdError::NotAnId(_)) => Err(LineError::Bad),
+    }
+}
+
+// The events that are well formed, in their order.
+fn offered_among(alloc: Global, events: Vec<Value>) -> Result<Vec<Offered>, AllocError> {
+    let mut all = Vec::with_capacity(alloc, events.len())?;
+    for event in events {
+        if let Some(offered) = offered_of(alloc, event)? {
+            all.push(offered)?;
+        }
+    }
+    Ok(all)
+}
+
+// The event as it is offered, if it is well formed.
+fn offered_of(alloc: Global, event: Value) -> Result<Option<Offered>, AllocError> {
+    match Pdu::from_value(alloc, event) {
+        Ok(pdu) => {
+            let offered = Offered::of(alloc, pdu, &PresenceVerifier)?;
+            Ok(Some(offered))
+        }
+        Err(PduError::Memory) => Err(AllocError),
+        Err(PduError::NotAnEvent(_)) => Ok(None),
+    }
+}

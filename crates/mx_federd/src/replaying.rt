@@ -1,0 +1,65 @@
+// `replay`: a log of steps, one line out for each line of it.
+ghost use Rattle.std.specs.Prelude.{◌<◌, length};
+
+use crate::lines::{Line, LineError, read_line};
+use crate::output::{Failure, flushed};
+use crate::reply_lines::{BAD_LINE, MALFORMED, NO_MEMORY, reply_line};
+use mx_world::World;
+use std::alloc::Global;
+use std::io::{BufWriter, Write};
+
+/// Replays the log on a server that hosts no room, and writes one line for each of its lines, in their order. A line
+/// for which memory runs out is answered so, and those after it are read.
+pub(crate) fn replay<W: Write>(alloc: Global, log: &[u8], out: &mut W) -> Result<(), Failure> {
+    let mut world = World::new(alloc);
+    let mut answers = BufWriter::new(alloc, out).map_err(Failure::of_io)?;
+    let mut rest = log;
+    while !rest.is_empty() {
+        let (line, after) = first_line(rest);
+        write_answer(alloc, &mut world, line, &mut answers)?;
+        rest = after;
+    }
+    flushed(&mut answers)
+}
+
+// The first line with its newline, and what comes after it.
+fn first_line(bytes: &[u8]) -> (&[u8], &[u8])
+    ensures { 0 < length bytes.now → length result.1.now < length bytes.now }
+{
+    match bytes.iter().position(|byte| *byte == b'\n') {
+        Some(place) => bytes.split_at(place + 1),
+        None => bytes.split_at(bytes.len()),
+    }
+}
+
+fn write_answer<W: Write>(
+    alloc: Global,
+    world: &mut World,
+    line: &[u8],
+    out: &mut W,
+) -> Result<(), Failure> {
+    match answer_to(alloc, world, line) {
+        Ok(answer) => write_line(out, &answer),
+        Err(LineError::Bad) => write_line(out, BAD_LINE),
+        Err(LineError::Memory) => write_line(out, NO_MEMORY),
+    }
+}
+
+fn answer_to(alloc: Global, world: &mut World, line: &[u8]) -> Result<Vec<u8>, LineError> {
+    match read_line(alloc, line)? {
+        Line::Step(step) => {
+            let reply = world.step(alloc, &step)?;
+            let answer = reply_line(alloc, &reply)?;
+            Ok(answer)
+        }
+        Line::HostsMalformed => {
+            let answer = Vec::from_slice(alloc, MALFORMED)?;
+            Ok(answer)
+        }
+    }
+}
+
+fn write_line<W: Write>(out: &mut W, line: &[u8]) -> Result<(), Failure> {
+    out.write_all(line).map_err(Failure::of_io)?;
+    out.write_all(b"\n").map_err(Failure::of_io)
+}
