@@ -4,7 +4,18 @@ use std::alloc::{AllocError, Global};
 use std::test::Fail;
 
 fn replayed(alloc: Global, log: &[u8]) -> Result<Outcome, AllocError> {
-    run_words(alloc, &["mx_federd", "replay", "--name", "hub.example", "--shards", "64"], log)
+    run_words(
+        alloc,
+        &[
+            "mx_federd",
+            "replay",
+            "--name",
+            "hub.example",
+            "--shards",
+            "64",
+        ],
+        log,
+    )
 }
 
 const HOST_REFUSALS: (&str, &str) = (
@@ -110,7 +121,10 @@ fn empty_logs(rt: HostRuntime) -> Result<(), Fail> {
     for (log, wanted) in [
         ("", ""),
         ("\n", "{\"error\":\"bad line\"}\n"),
-        (" { \"txn\" : \"t\", \"step\":\"next\",\"origin\":\"a.example\",\"txn\":\"u\"}\r", "{\"not_open\":true}\n"),
+        (
+            " { \"txn\" : \"t\", \"step\":\"next\",\"origin\":\"a.example\",\"txn\":\"u\"}\r",
+            "{\"not_open\":true}\n",
+        ),
     ] {
         let ran = replayed(rt.alloc(), log.as_bytes())?;
         assert_eq!(rt; ran.out.as_slice(), wanted.as_bytes());
@@ -124,7 +138,10 @@ fn a_long_line(rt: HostRuntime) -> Result<(), Fail> {
     let alloc = rt.alloc();
     let log = vec![in alloc; b'['; 8 << 20]?;
     let ran = replayed(alloc, &log)?;
-    assert_eq!(rt; ran.out.as_slice(), b"{\"error\":\"bad line\"}\n".as_slice());
+    assert_eq!(rt;
+        ran.out.as_slice(),
+        b"{\"error\":\"bad line\"}\n".as_slice()
+    );
     Ok(())
 }
 
