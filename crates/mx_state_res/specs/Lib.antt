@@ -1,3 +1,0 @@
-pub mod Resolution
-pub mod Places
-pub mod StateCode
