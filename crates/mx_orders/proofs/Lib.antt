@@ -1,0 +1,14 @@
+pub mod Members
+pub mod Permutations
+pub mod LeastOrder
+pub mod PowerOrderLaws
+pub mod SortedLaws
+pub mod StateLemmas
+pub mod MainlineLemmas
+pub mod CountLemmas
+pub mod PlaceLemmas
+pub mod CandidateLemmas
+pub mod Taken
+pub mod WaitingLemmas
+pub mod OrdersOnExamples
+pub mod OrderRows

@@ -1,0 +1,7 @@
+pub mod Lists
+pub mod StateMap
+pub mod PowerOrder
+pub mod Mainline
+pub mod Places
+pub mod Candidates
+pub mod Waiting

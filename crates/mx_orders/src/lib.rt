@@ -1,0 +1,17 @@
+//! The orders in which state resolution takes the events of a conflict (Matrix specification, Room Version 2, state
+//! resolution).
+#![tactic(auto)]
+
+mod candidates;
+mod citing;
+mod levels;
+mod mainline_ordering;
+mod mainlines;
+mod power_ordering;
+
+pub use mainline_ordering::mainline_order;
+pub use mainlines::Mainline;
+pub use power_ordering::power_order;
+
+#[cfg(test)]
+mod tests;

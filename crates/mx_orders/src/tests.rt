@@ -1,0 +1,201 @@
+use crate::{Mainline, mainline_order, power_order};
+use mx_graph::{EventNo, Graph, GraphRow};
+use mx_ident::EventId;
+use mx_pdu::Pdu;
+use serde_json::Value;
+use std::alloc::Global;
+use std::test::Fail;
+
+// An event by A: its id, type, state key, time, auth events and content.
+type Written = (
+    &'static str,
+    &'static str,
+    &'static str,
+    i64,
+    &'static str,
+    &'static str,
+);
+
+const CREATE: Written = (
+    "$c",
+    "m.room.create",
+    "",
+    100,
+    "[]",
+    "{\"creator\":\"@a:a.example\"}",
+);
+
+const LEVELS: &str = "{\"users\":{\"@a:a.example\":100}}";
+
+// The row of an event, or nothing where no memory is left.
+fn row(alloc: Global, written: Written) -> Option<GraphRow> {
+    let (id, kind, key, time, auth_events, content) = written;
+    let json = format!(in alloc;
+        "{{\"auth_events\":{auth_events},\"content\":{content},\"depth\":1,\"hashes\":{{}},\"origin_server_ts\":{time},\"prev_events\":[],\"room_id\":\"!r:a.example\",\"sender\":\"@a:a.example\",\"signatures\":{{}},\"state_key\":\"{key}\",\"type\":\"{kind}\"}}"
+    );
+    let value = Value::from_str(alloc, json.ok()?.as_str()).ok()?;
+    let event = Pdu::from_value(alloc, value).ok()?;
+    let id = EventId::parse(alloc, id).ok()?;
+    Some(GraphRow {
+        id,
+        event,
+        rejected: false,
+    })
+}
+
+fn graph(alloc: Global, rows: &[Written]) -> Option<Graph> {
+    let mut graph = Graph::new(alloc);
+    for written in rows {
+        let row = row(alloc, *written)?;
+        graph.add(row).ok()?;
+    }
+    Some(graph)
+}
+
+fn power_graph(alloc: Global) -> Option<Graph> {
+    let power = "m.room.power_levels";
+    let rules = "m.room.join_rules";
+    graph(
+        alloc,
+        &[
+            CREATE,
+            (
+                "$m",
+                "m.room.member",
+                "@a:a.example",
+                100,
+                "[\"$c\"]",
+                "{\"membership\":\"join\"}",
+            ),
+            ("$z", power, "", 100, "[\"$c\",\"$m\"]", LEVELS),
+            ("$y", power, "", 100, "[\"$c\",\"$m\",\"$z\"]", LEVELS),
+            ("$a", power, "", 100, "[\"$c\",\"$m\",\"$y\"]", LEVELS),
+            ("$b", rules, "", 100, "[\"$c\",\"$m\",\"$z\"]", "{}"),
+            ("$d", rules, "", 50, "[\"$c\",\"$m\",\"$a\"]", "{}"),
+            ("$e", rules, "", 100, "[\"$c\",\"$m\"]", "{}"),
+        ],
+    )
+}
+
+fn mainline_graph(alloc: Global) -> Option<Graph> {
+    let power = "m.room.power_levels";
+    let rules = "m.room.join_rules";
+    graph(
+        alloc,
+        &[
+            CREATE,
+            ("$p1", power, "", 100, "[\"$c\"]", LEVELS),
+            ("$p2", power, "", 250, "[\"$p1\"]", LEVELS),
+            ("$p3", power, "", 100, "[\"$p2\"]", LEVELS),
+            ("$q", rules, "", 900, "[\"$c\"]", "{}"),
+            ("$r", rules, "", 300, "[\"$p1\"]", "{}"),
+            ("$s", rules, "", 200, "[\"$p1\"]", "{}"),
+            ("$t", rules, "", 100, "[\"$p3\"]", "{}"),
+            ("$u", rules, "", 100, "[\"$p3\"]", "{}"),
+        ],
+    )
+}
+
+// The numbers of events by their ids, or nothing where no memory is left.
+fn numbers(alloc: Global, graph: &Graph, ids: &[&str]) -> Option<Vec<EventNo>> {
+    let mut found = Vec::new(alloc);
+    for id in ids {
+        let id = EventId::parse(alloc, id).ok()?;
+        let number = graph.find(&id)?;
+        found.push(number).ok()?;
+    }
+    Some(found)
+}
+
+#[test]
+fn least_power_order(rt: HostRuntime) -> Result<(), Fail> {
+    let alloc = rt.alloc();
+    let graph = power_graph(alloc).ok_or("no memory")?;
+    for events in [
+        ["$z", "$a", "$b", "$d", "$e"],
+        ["$d", "$e", "$z", "$b", "$a"],
+    ] {
+        let events = numbers(alloc, &graph, &events).ok_or("no memory")?;
+        assert_eq!(rt;
+            power_order(alloc, &graph, &events)?,
+            numbers(alloc, &graph, &["$e", "$z", "$a", "$d", "$b"]).ok_or("no memory")?
+        );
+    }
+    assert!(rt; power_order(alloc, &graph, &[])?.is_empty());
+    Ok(())
+}
+
+#[test]
+fn mainline_positions(rt: HostRuntime) -> Result<(), Fail> {
+    let alloc = rt.alloc();
+    let graph = mainline_graph(alloc).ok_or("no memory")?;
+    let power = graph.find(&EventId::parse(alloc, "$p3")?);
+    let mainline = Mainline::of(alloc, &graph, power)?;
+    for (id, position) in [
+        ("$q", None),
+        ("$r", Some(2)),
+        ("$s", Some(2)),
+        ("$p2", Some(2)),
+        ("$t", Some(0)),
+        ("$u", Some(0)),
+    ] {
+        let event = graph.find(&EventId::parse(alloc, id)?).ok_or("unknown")?;
+        assert_eq!(rt; mainline.position(&graph, event), position, "at {id}");
+    }
+    Ok(())
+}
+
+#[test]
+fn mainline_order_by_positions(rt: HostRuntime) -> Result<(), Fail> {
+    let alloc = rt.alloc();
+    let graph = mainline_graph(alloc).ok_or("no memory")?;
+    let power = graph.find(&EventId::parse(alloc, "$p3")?);
+    let mainline = Mainline::of(alloc, &graph, power)?;
+    let events = numbers(alloc, &graph, &["$p2", "$q", "$r", "$s", "$t", "$u"]).ok_or("no memory")?;
+    assert_eq!(rt;
+        mainline_order(alloc, &graph, &mainline, &events)?,
+        numbers(alloc, &graph, &["$q", "$s", "$p2", "$r", "$t", "$u"]).ok_or("no memory")?
+    );
+    Ok(())
+}
+
+#[test]
+fn mainline_order_without_power_levels(rt: HostRuntime) -> Result<(), Fail> {
+    let alloc = rt.alloc();
+    let rules = "m.room.join_rules";
+    let graph = graph(
+        alloc,
+        &[
+            ("$j", rules, "", 5, "[]", "{}"),
+            ("$k", rules, "", 5, "[]", "{}"),
+            ("$l", rules, "", 3, "[]", "{}"),
+        ],
+    )
+    .ok_or("no memory")?;
+    let mainline = Mainline::of(alloc, &graph, None)?;
+    let events = numbers(alloc, &graph, &["$k", "$j", "$l"]).ok_or("no memory")?;
+    assert_eq!(rt;
+        mainline_order(alloc, &graph, &mainline, &events)?,
+        numbers(alloc, &graph, &["$l", "$j", "$k"]).ok_or("no memory")?
+    );
+    Ok(())
+}
+
+#[test]
+fn orders_or_no_memory(rt: HostRuntime) {
+    let alloc = rt.alloc();
+    let Some(graph) = power_graph(alloc) else {
+        return;
+    };
+    let Some(events) = numbers(alloc, &graph, &["$z", "$a", "$e"]) else {
+        return;
+    };
+    if let Ok(order) = power_order(alloc, &graph, &events) {
+        assert_eq!(rt; order.len(), 3);
+    }
+    if let Ok(mainline) = Mainline::of(alloc, &graph, events.first().copied()) {
+        if let Ok(order) = mainline_order(alloc, &graph, &mainline, &events) {
+            assert_eq!(rt; order.len(), 3);
+        }
+    }
+}
