@@ -10,5 +10,9 @@ pub mod PlaceLemmas
 pub mod CandidateLemmas
 pub mod Taken
 pub mod WaitingLemmas
+pub mod ReadyLemmas
+pub mod RankLemmas
+pub mod RankedOrder
+pub mod FollowLemmas
 pub mod OrdersOnExamples
 pub mod OrderRows

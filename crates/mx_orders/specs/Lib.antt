@@ -5,3 +5,4 @@ pub mod Mainline
 pub mod Places
 pub mod Candidates
 pub mod Waiting
+pub mod Ranks

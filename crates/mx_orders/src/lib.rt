@@ -4,10 +4,14 @@
 
 mod candidates;
 mod citing;
+mod following;
 mod levels;
 mod mainline_ordering;
 mod mainlines;
+mod plain_ordering;
 mod power_ordering;
+mod ranking;
+mod readiness;
 
 pub use mainline_ordering::mainline_order;
 pub use mainlines::Mainline;

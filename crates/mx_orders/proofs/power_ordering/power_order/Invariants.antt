@@ -1,15 +1,16 @@
-use Rattle.std.proofs.Common.{◌≡◌, ◌++◌, map, length}
-use Rattle.mx_graph.specs.Graph.{IsSound}
+use Rattle.std.proofs.Common.{◌≡◌, ◌-◌, length, slice_index}
+use Rattle.std.specs.BTreeSet.{contains}
+use Rattle.std.specs.Ordering.{nat_cmp}
+use Rattle.mx_graph.specs.Edges.{cited}
 use Rattle.mx_orders.specs.PowerOrder as definition
-use Rattle.mx_orders.proofs.WaitingLemmas.{IsLeft}
+use Rattle.mx_orders.proofs.RankedOrder.{IsUnderway}
 use Rattle.mx_orders.proofs.power_ordering.power_order.Given as goal
 
--- the list so far, and the order of what is left, are the order of all
-abbrev pub invariant-loop-place : goal.invariant-loop-place
-invariant-loop-place l = record {
-  left : IsLeft l.graph l.rest.items;
-  so_far : l.order.items ++ definition.power_order l.graph (map (λ waiting. waiting.number) l.rest.items) ≡ definition.power_order l.graph l.fn.events;
+abbrev pub invariant-loop-rank : goal.invariant-loop-rank
+invariant-loop-rank l = record {
+  len : length l.awaited.items ≡ length l.numbers.items;
+  underway : IsUnderway l.graph l.numbers.items (cited l.followers.items) (slice_index l.awaited.items) (contains nat_cmp l.ready) l.order.items (definition.power_order l.graph l.numbers.items);
 }
 
-abbrev pub decreases-loop-place : goal.decreases-loop-place
-decreases-loop-place l = length l.rest.items
+abbrev pub decreases-loop-rank : goal.decreases-loop-rank
+decreases-loop-rank l = length l.numbers.items - length l.order.items

@@ -2,7 +2,7 @@ use Rattle.std.proofs.Common.{rules, ◌≡◌, ◌<◌, All, subst, None, Some,
 use Rattle.mx_orders.specs.PowerOrder.{power_order}
 use Rattle.mx_orders.specs.Waiting.{is_free}
 use Rattle.mx_orders.proofs.WaitingLemmas.{sorted-known, left-sorted, order-sorted, still_left, one_more, all_done}
-use Rattle.mx_orders.proofs.power_ordering.power_order.Goals as goal
+use Rattle.mx_orders.proofs.plain_ordering.plain_power_order.Goals as goal
 
 pub waiting_of-requires : goal.waiting_of-requires
 waiting_of-requires c =

@@ -1,6 +1,6 @@
 use Rattle.std.proofs.Common.{◌≡◌, All, map, take}
 use Rattle.mx_orders.specs.Waiting.{IsWaiting}
-use Rattle.mx_orders.proofs.power_ordering.waiting_of.Given as goal
+use Rattle.mx_orders.proofs.plain_ordering.waiting_of.Given as goal
 
 -- the events so far, each with its chain
 abbrev pub invariant-loop-event : goal.invariant-loop-event
