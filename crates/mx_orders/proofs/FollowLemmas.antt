@@ -130,7 +130,7 @@ cited-set : (lists : Lists) (i u : ℕ) (v : Vec ℕ Global) → i < length list
 cited-set lists i u v h true k = ap (cited (set lists i v)) (sym (eqb-true i u k)) ∙ cited-set_same lists i v h
 cited-set lists i u v h false k = cited-set_other lists i u v (λ e. absurd (cc (sym (eq-eqb i u e) ∙ k)))
 
-cited-at : (lists : Lists) (i : ℕ) (d : Vec ℕ Global) → i < length lists → d ≡ slice_index_or lists i d → cited lists i ≡ d.items
+pub cited-at : (lists : Lists) (i : ℕ) (d : Vec ℕ Global) → i < length lists → d ≡ slice_index_or lists i d → cited lists i ≡ d.items
 cited-at [] i d h e = absurd (omega (arith, h))
 cited-at (w ∷ ws) zero d h e = λ j. (sym e j).items
 cited-at (w ∷ ws) (suc i) d h e = let l : i < length ws = omega (arith, h) in cited-at ws i d l e

@@ -1,20 +1,27 @@
 -- The power order by ranks: the least rank that is ready comes next.
-use Rattle.std.proofs.Common.{◌≡◌, ℕ, suc, ◌+◌, ◌-◌, ◌≤◌, ◌<◌, Bool, true, false, cond, ◌&&◌, ◌||◌, ◌==◌, ◌⊎◌, inl, inr, List, [], ◌∷◌, ◌++◌, map, length, slice_index, nat_lt, refl, sym, ap, subst, ◌∙◌, arith, append_assoc, lt-ltb, ltb-true, eq-eqb, eqb-true}
+use Rattle.std.proofs.Common.{◌≡◌, ℕ, suc, ◌+◌, ◌-◌, ◌≤◌, ◌<◌, Bool, true, false, cond, ◌&&◌, ◌||◌, ◌==◌, ◌⊎◌, inl, inr, List, [], ◌∷◌, ◌++◌, map, length, slice_index, slice_index_or, take, nat_lt, refl, sym, ap, subst, ◌∙◌, arith, append_assoc, lt-ltb, ltb-true, eq-eqb, eqb-true}
 use Rattle.std.specs.Ordering.{is_gt, is_eq, nat_cmp}
 use Rattle.std.proofs.lemmas.List.{append-nil, length-append}
 use Rattle.std.proofs.lemmas.List.FromFn.{length-range_with_len}
 use Rattle.std.proofs.lemmas.Bool.{and_parts}
+use Rattle.std.specs.List.{All, range_with_len}
+use Rattle.std.specs.Prelude.{Vec}
+use Rattle.std.specs.declared.alloc.Global.{Global}
+use Rattle.std.proofs.Math.Seq.{take-append_seam}
+use Rattle.mx_graph.specs.Edges.{cited}
 use Rattle.mx_graph.specs.Record.{Row, is_in}
 use Rattle.mx_graph.specs.Graph.{IsSound}
-use Rattle.mx_graph.proofs.Closure.{is_in-from, is_in-to}
+use Rattle.mx_graph.proofs.Closure.{all-in}
 use Rattle.mx_orders.specs.PowerOrder.{power_cmp, power_order}
-use Rattle.mx_orders.specs.Ranks.{before as before_by_rank, ranks, times, total}
+use Rattle.mx_orders.specs.Ranks.{before as before_by_rank, ranks, times, total, total_of}
 use Rattle.mx_orders.proofs.Members.{In, Distinct, in_map, in_map-from}
 use Rattle.mx_orders.proofs.Permutations.{cut, cut-cases, cut-distinct, cut-gone, cut-length, cut-within}
 use Rattle.mx_orders.proofs.LeastOrder.{IsReady, IsNext, IsRest, lowest, lowest-ready}
-use Rattle.mx_orders.proofs.SortedLaws.{Rising}
-use Rattle.mx_orders.proofs.PowerOrderLaws.{before, power_cmp-total, chain-below, power_order-next}
-use Rattle.mx_orders.proofs.RankLemmas.{at_most, in_at, distinct-at, distinct-map, rising-at, map-ranks, in_ranks, ranks-below, distinct-ranks}
+use Rattle.mx_orders.proofs.SortedLaws.{Rising, sorted-rising, sorted-permutes}
+use Rattle.mx_orders.proofs.CountLemmas.{all-at}
+use Rattle.mx_orders.specs.Mainline.{sorted}
+use Rattle.mx_orders.proofs.PowerOrderLaws.{before, power_cmp-total, chain-below, power_order-next, power_order-permutes}
+use Rattle.mx_orders.proofs.RankLemmas.{at_any, at_most, total_of-ranks, in_at, distinct-at, distinct-map, rising-at, map-ranks, in_ranks, ranks-below, distinct-ranks}
 use Rattle.mx_orders.proofs.ReadyLemmas.{IsWaiting, ready-follows_none, ready-from, taken, rest}
 
 -- events of the record, each once, in the order of their power
@@ -35,6 +42,39 @@ pub record IsUnderway (rows : List Row) (xs : List ℕ) (followers : ℕ → Lis
   pub below : (p : ℕ) → In p left → p < length xs
   pub so_far : order ++ power_order rows (map (slice_index xs) left) ≡ all
   pub count : length order + length left ≡ length xs
+
+-- a rank that is ready is one of the list, and something is left then
+pub rank-below : (rows : List Row) (xs : List ℕ) (followers : ℕ → List ℕ) (awaited : ℕ → ℕ) (ready : ℕ → Bool) (order all : List ℕ) → IsUnderway rows xs followers awaited ready order all → (r : ℕ) → ready r ≡ true → r < length xs
+rank-below rows xs followers awaited ready order all d r here = d.below r (d.waiting.free r here).0
+
+pub fewer_left : (rows : List Row) (xs : List ℕ) (followers : ℕ → List ℕ) (awaited : ℕ → ℕ) (ready : ℕ → Bool) (order more all : List ℕ) (x : ℕ) → IsUnderway rows xs followers awaited ready order all → (r : ℕ) → ready r ≡ true → more ≡ order ++ x ∷ []
+    → length xs - length more < length xs - length order
+fewer_left rows xs followers awaited ready order more all x d r here e =
+    let some = member-length r d.left (d.waiting.free r here).0 in
+    let n = d.count in
+    let l = ap length e in
+    let m = length-append order (x ∷ []) in
+    omega (arith, some, n, l, m)
+  where
+    member-length : (y : ℕ) (ys : List ℕ) → In y ys → 0 < length ys
+    member-length y [] h = absurd h
+    member-length y (z ∷ zs) h = omega arith
+
+-- sorted events are in the order of their power
+pub by_power : (rows : List Row) (events xs : List ℕ) → IsSound rows → All (λ x. x < length rows) events → Distinct events → xs ≡ sorted (power_cmp rows) events → IsByPower rows xs
+by_power rows events xs sound known d e =
+    let p = sorted-permutes (power_cmp rows) (power_cmp-total rows) events d in
+    subst (IsByPower rows) (sym e) (record {
+      sound = sound;
+      known = λ x k. all-at (λ x. x < length rows) events known x (p.within x k);
+      distinct = p.distinct;
+      rises = sorted-rising (power_cmp rows) (power_cmp-total rows) events;
+    })
+
+pub same_order : (rows : List Row) (events xs : List ℕ) → IsSound rows → All (λ x. x < length rows) events → Distinct events → xs ≡ sorted (power_cmp rows) events → power_order rows xs ≡ power_order rows events
+same_order rows events xs sound known d e =
+    ap (power_order rows) e
+    ∙ sym (power_order-permutes rows sound events (sorted (power_cmp rows) events) (λ z k. all-at (λ x. x < length rows) events known z k) d (sorted-permutes (power_cmp rows) (power_cmp-total rows) events d))
 
 module _ (rows : List Row) (xs : List ℕ) (followers : ℕ → List ℕ) (s : IsByPower rows xs) (follow : Follow rows xs followers) where
   abbrev at : ℕ → ℕ
@@ -113,7 +153,13 @@ module _ (rows : List Row) (xs : List ℕ) (followers : ℕ → List ℕ) (s : I
 
   -- ---- the loop
 
-  pub begins : (awaited : ℕ → ℕ) (ready : ℕ → Bool) (order : List ℕ) → order ≡ [] → ((p : ℕ) → awaited p ≡ total followers (ranks xs) p) → ((p : ℕ) → ready p ≡ (is_in (ranks xs) p && (awaited p == 0)))
+  pub followers-below : (r : ℕ) → r < length xs → (fs : List ℕ) → fs ≡ followers r → (n : ℕ) → n ≡ length xs → All (λ p. p < n) fs
+  followers-below r l fs e n m = all-in (λ p. p < n) fs (λ p k. below p (ltb-true p (length xs) ((and_parts _ _ (sym (follow r p l) ∙ ap (λ ys. is_in ys p) (sym e) ∙ k)).0)))
+    where
+      below : (p : ℕ) → p < length xs → p < n
+      below p h = omega (arith, h, m)
+
+  pub begins : (awaited : ℕ → ℕ) (ready : ℕ → Bool) (order : List ℕ) → order ≡ [] → ((p : ℕ) → awaited p ≡ total followers (ranks xs) p) → ((p : ℕ) → ready p ≡ (nat_lt p (length xs) && (awaited p == 0)))
       → IsUnderway rows xs followers awaited ready order (power_order rows xs)
   begins awaited ready order empty counted free = record {
     left = ranks xs;
@@ -121,8 +167,8 @@ module _ (rows : List Row) (xs : List ℕ) (followers : ℕ → List ℕ) (s : I
       distinct = distinct-ranks xs;
       closed = λ u p m e. in_ranks xs p (ltb-true p (length xs) ((and_parts _ _ (sym (follow u p (ranks-below xs u m)) ∙ e)).0));
       counted = counted;
-      free = λ p e. let k = and_parts _ _ (sym (free p) ∙ e) in (is_in-to p (ranks xs) k.0, eqb-true (awaited p) 0 k.1);
-      waits = λ p m e. free p ∙ (λ i. is_in-from p (ranks xs) m i && eq-eqb (awaited p) 0 e i);
+      free = λ p e. let k = and_parts _ _ (sym (free p) ∙ e) in (in_ranks xs p (ltb-true p (length xs) k.0), eqb-true (awaited p) 0 k.1);
+      waits = λ p m e. free p ∙ (λ i. lt-ltb p (length xs) (ranks-below xs p m) i && eq-eqb (awaited p) 0 e i);
     };
     below = λ p m. ranks-below xs p m;
     so_far = ap (λ ys. ys ++ power_order rows (map at (ranks xs))) empty ∙ ap (power_order rows) (map-ranks xs);
@@ -151,3 +197,26 @@ module _ (rows : List Row) (xs : List ℕ) (followers : ℕ → List ℕ) (s : I
   pub ends : (awaited : ℕ → ℕ) (ready : ℕ → Bool) (order all : List ℕ) → IsUnderway rows xs followers awaited ready order all → ((q : ℕ) → ready q ≡ false) → order ≡ all
   unfolding power_order
   ends awaited ready order all d none = sym (append-nil order) ∙ ap (λ us. order ++ power_order rows (map at us)) (sym (none_left d.left awaited ready d.waiting d.below none)) ∙ d.so_far
+
+-- ---- the loop, by its lists
+
+pub counted_by_rank : (xs awaited : List ℕ) (lists : List (Vec ℕ Global)) → length lists ≡ length xs → ((p : ℕ) → slice_index awaited p ≡ total_of lists p) → (p : ℕ) → slice_index awaited p ≡ total (cited lists) (ranks xs) p
+counted_by_rank xs awaited lists e h p = h p ∙ total_of-ranks lists p ∙ ap (λ n. total (cited lists) (range_with_len 0 n) p) e
+
+pub ready_by_rank : (xs awaited given : List ℕ) (ready : ℕ → Bool) → given ≡ awaited → length awaited ≡ length xs → ((p : ℕ) → ready p ≡ (nat_lt p (length given) && (slice_index given p == 0))) → (p : ℕ) → ready p ≡ (nat_lt p (length xs) && (slice_index awaited p == 0))
+ready_by_rank xs awaited given ready e l h p = h p ∙ ap (λ ys. nat_lt p (length ys) && (slice_index ys p == 0)) e ∙ ap (λ n. nat_lt p n && (slice_index awaited p == 0)) l
+
+-- a slice that was lent and came back with its length
+pub refilled : (n : ℕ) (new rest : List ℕ) → n ≡ length new → take n (new ++ rest) ≡ new
+refilled n new rest e = ap (λ k. take k (new ++ rest)) e ∙ take-append_seam new rest
+
+pub next_underway : (rows : List Row) (xs : List ℕ) (lists : List (Vec ℕ Global)) → IsByPower rows xs → Follow rows xs (cited lists) → (awaited given new kept : List ℕ) (ready mid later : ℕ → Bool) (order more all : List ℕ) (r x : ℕ) (fs : List ℕ)
+    → IsUnderway rows xs (cited lists) (slice_index awaited) ready order all → ready r ≡ true → ((q : ℕ) → ready q ≡ true → is_gt (nat_cmp r q) ≡ false) → ((q : ℕ) → mid q ≡ cond (is_eq (nat_cmp r q)) false (ready q))
+    → given ≡ awaited → fs ≡ cited lists r → ((p : ℕ) → slice_index new p ≡ slice_index given p - times p fs) → ((p : ℕ) → later p ≡ (mid p || (is_in fs p && (slice_index new p == 0)))) → kept ≡ new → x ≡ slice_index_or xs r x → more ≡ order ++ x ∷ []
+    → IsUnderway rows xs (cited lists) (slice_index kept) later more all
+next_underway rows xs lists s follow awaited given new kept ready mid later order more all r x fs d here least popped e f lowered freed k g m =
+    subst (λ ys. IsUnderway rows xs (cited lists) (slice_index ys) later more all) (sym k)
+    (goes_on rows xs (cited lists) s follow (slice_index awaited) (slice_index new) ready mid later order more all r d here least popped
+    (λ p. lowered p ∙ (λ i. slice_index (e i) p - times p (f i)))
+    (λ p. freed p ∙ (λ i. mid p || (is_in (f i) p && (slice_index new p == 0))))
+    (m ∙ ap (λ y. order ++ y ∷ []) (at_any xs r x (d.below r (d.waiting.free r here).0) g)))

@@ -1,9 +1,9 @@
 // Ranks that wait for none.
-ghost use Rattle.std.specs.Prelude.{◌≡◌, ◌-◌, ◌<◌, ◌==◌, ◌&&◌, ◌||◌, ℕ, All, IfOk, OnOk, length, slice_index};
+ghost use Rattle.std.specs.Prelude.{◌≡◌, ◌-◌, ◌<◌, ◌==◌, ◌&&◌, ◌||◌, ℕ, All, IfOk, OnOk, length, nat_lt, slice_index};
 ghost use Rattle.std.specs.BTreeSet.{contains};
 ghost use Rattle.std.specs.Ordering.{nat_cmp};
 ghost use Rattle.mx_graph.specs.Record.{is_in};
-ghost use Rattle.mx_orders.specs.Ranks.{ranks, times};
+ghost use Rattle.mx_orders.specs.Ranks.{times};
 
 use std::alloc::{AllocError, Global};
 use std::collections::BTreeSet;
@@ -14,11 +14,14 @@ pub(crate) fn ready_at_first(
     awaited: &[usize],
 ) -> Result<BTreeSet<usize>, AllocError>
     ensures { IfOk result (λ ready. (p : ℕ)
-        → contains nat_cmp ready p ≡ (is_in (ranks awaited.now) p && (slice_index awaited.now p == 0))) }
+        → contains nat_cmp ready p ≡ (nat_lt p (length awaited.now) && (slice_index awaited.now p == 0))) }
 {
-    let ranks: Vec<usize> = (0..awaited.len()).collect(alloc)?;
     let mut ready = BTreeSet::new(alloc);
-    add_ready(&mut ready, awaited, &ranks)?;
+    for rank in 0..awaited.len() {
+        if awaited[rank] == 0 {
+            ready.insert(rank)?;
+        }
+    }
     Ok(ready)
 }
 
