@@ -41,10 +41,11 @@ distinct-at (x ∷ xs) (suc u) (suc v) d h k e =
 
 pub distinct-map : (xs us : List ℕ) → Distinct xs → ((u : ℕ) → In u us → u < length xs) → Distinct us → Distinct (map (slice_index xs) us)
 distinct-map xs [] d h k = tt
-distinct-map xs (u ∷ us) d h k =
-    (λ m. let r = in_map-from (slice_index xs) (slice_index xs u) us m in
-    k.0 (subst (λ w. In w us) (sym (distinct-at xs u r.0 d (h u (inl refl)) (h r.0 (inr r.1)) r.2)) r.1),
-    distinct-map xs us d (λ v m. h v (inr m)) k.1)
+distinct-map xs (u ∷ us) d h k = (
+  λ m. let r = in_map-from (slice_index xs) (slice_index xs u) us m in
+      k.0 (subst (λ w. In w us) (sym (distinct-at xs u r.0 d (h u (inl refl)) (h r.0 (inr r.1)) r.2)) r.1),
+  distinct-map xs us d (λ v m. h v (inr m)) k.1,
+)
 
 module _ (cmp : ℕ → ℕ → Ordering) (o : IsTotalOrder cmp) where
   pub rising-at : (xs : List ℕ) (u v : ℕ) → Rising cmp o xs → u ≤ v → v < length xs → is_gt (cmp (slice_index xs u) (slice_index xs v)) ≡ false

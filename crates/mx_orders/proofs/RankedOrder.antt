@@ -21,6 +21,7 @@ use Rattle.mx_orders.proofs.SortedLaws.{Rising, sorted-rising, sorted-permutes}
 use Rattle.mx_orders.proofs.CountLemmas.{all-at}
 use Rattle.mx_orders.specs.Mainline.{sorted}
 use Rattle.mx_orders.proofs.PowerOrderLaws.{before, power_cmp-total, chain-below, power_order-next, power_order-permutes}
+use Rattle.mx_orders.proofs.FollowLemmas.{cited-at}
 use Rattle.mx_orders.proofs.RankLemmas.{at_any, at_most, total_of-ranks, in_at, distinct-at, distinct-map, rising-at, map-ranks, in_ranks, ranks-below, distinct-ranks}
 use Rattle.mx_orders.proofs.ReadyLemmas.{IsWaiting, ready-follows_none, ready-from, taken, rest}
 
@@ -43,22 +44,9 @@ pub record IsUnderway (rows : List Row) (xs : List ℕ) (followers : ℕ → Lis
   pub so_far : order ++ power_order rows (map (slice_index xs) left) ≡ all
   pub count : length order + length left ≡ length xs
 
--- a rank that is ready is one of the list, and something is left then
-pub rank-below : (rows : List Row) (xs : List ℕ) (followers : ℕ → List ℕ) (awaited : ℕ → ℕ) (ready : ℕ → Bool) (order all : List ℕ) → IsUnderway rows xs followers awaited ready order all → (r : ℕ) → ready r ≡ true → r < length xs
+-- a rank that is ready is one of the list
+rank-below : (rows : List Row) (xs : List ℕ) (followers : ℕ → List ℕ) (awaited : ℕ → ℕ) (ready : ℕ → Bool) (order all : List ℕ) → IsUnderway rows xs followers awaited ready order all → (r : ℕ) → ready r ≡ true → r < length xs
 rank-below rows xs followers awaited ready order all d r here = d.below r (d.waiting.free r here).0
-
-pub fewer_left : (rows : List Row) (xs : List ℕ) (followers : ℕ → List ℕ) (awaited : ℕ → ℕ) (ready : ℕ → Bool) (order more all : List ℕ) (x : ℕ) → IsUnderway rows xs followers awaited ready order all → (r : ℕ) → ready r ≡ true → more ≡ order ++ x ∷ []
-    → length xs - length more < length xs - length order
-fewer_left rows xs followers awaited ready order more all x d r here e =
-    let some = member-length r d.left (d.waiting.free r here).0 in
-    let n = d.count in
-    let l = ap length e in
-    let m = length-append order (x ∷ []) in
-    omega (arith, some, n, l, m)
-  where
-    member-length : (y : ℕ) (ys : List ℕ) → In y ys → 0 < length ys
-    member-length y [] h = absurd h
-    member-length y (z ∷ zs) h = omega arith
 
 -- sorted events are in the order of their power
 pub by_power : (rows : List Row) (events xs : List ℕ) → IsSound rows → All (λ x. x < length rows) events → Distinct events → xs ≡ sorted (power_cmp rows) events → IsByPower rows xs
@@ -144,7 +132,7 @@ module _ (rows : List Row) (xs : List ℕ) (followers : ℕ → List ℕ) (s : I
               by (inl k) = inl (e ∙ ap at k)
               by (inr k) = inr (subst (λ y. In y (map at (cut r left member))) (sym e) (in_map at u (cut r left member) k))
 
-      pub order-step : power_order rows (map at left) ≡ at r ∷ power_order rows (map at (cut r left member))
+      order-step : power_order rows (map at left) ≡ at r ∷ power_order rows (map at (cut r left member))
       order-step =
           power_order-next rows s.sound (map at left) (map at (cut r left member)) (at r) (λ z k. known z (in_map-from at z left k)) (distinct-map xs left s.distinct below w.distinct) next without
         where
@@ -153,13 +141,13 @@ module _ (rows : List Row) (xs : List ℕ) (followers : ℕ → List ℕ) (s : I
 
   -- ---- the loop
 
-  pub followers-below : (r : ℕ) → r < length xs → (fs : List ℕ) → fs ≡ followers r → (n : ℕ) → n ≡ length xs → All (λ p. p < n) fs
+  followers-below : (r : ℕ) → r < length xs → (fs : List ℕ) → fs ≡ followers r → (n : ℕ) → n ≡ length xs → All (λ p. p < n) fs
   followers-below r l fs e n m = all-in (λ p. p < n) fs (λ p k. below p (ltb-true p (length xs) ((and_parts _ _ (sym (follow r p l) ∙ ap (λ ys. is_in ys p) (sym e) ∙ k)).0)))
     where
       below : (p : ℕ) → p < length xs → p < n
       below p h = omega (arith, h, m)
 
-  pub begins : (awaited : ℕ → ℕ) (ready : ℕ → Bool) (order : List ℕ) → order ≡ [] → ((p : ℕ) → awaited p ≡ total followers (ranks xs) p) → ((p : ℕ) → ready p ≡ (nat_lt p (length xs) && (awaited p == 0)))
+  begins : (awaited : ℕ → ℕ) (ready : ℕ → Bool) (order : List ℕ) → order ≡ [] → ((p : ℕ) → awaited p ≡ total followers (ranks xs) p) → ((p : ℕ) → ready p ≡ (nat_lt p (length xs) && (awaited p == 0)))
       → IsUnderway rows xs followers awaited ready order (power_order rows xs)
   begins awaited ready order empty counted free = record {
     left = ranks xs;
@@ -178,7 +166,7 @@ module _ (rows : List Row) (xs : List ℕ) (followers : ℕ → List ℕ) (s : I
       count : (order : List ℕ) → order ≡ [] → length order + length (ranks xs) ≡ length xs
       count order e = let l : length order ≡ 0 = ap length e in let n = length-range_with_len 0 (length xs) in omega (arith, l, n)
 
-  pub goes_on : (awaited fewer : ℕ → ℕ) (ready mid later : ℕ → Bool) (order more all : List ℕ) (r : ℕ) → IsUnderway rows xs followers awaited ready order all → ready r ≡ true → ((q : ℕ) → ready q ≡ true → is_gt (nat_cmp r q) ≡ false)
+  goes_on : (awaited fewer : ℕ → ℕ) (ready mid later : ℕ → Bool) (order more all : List ℕ) (r : ℕ) → IsUnderway rows xs followers awaited ready order all → ready r ≡ true → ((q : ℕ) → ready q ≡ true → is_gt (nat_cmp r q) ≡ false)
       → ((q : ℕ) → mid q ≡ cond (is_eq (nat_cmp r q)) false (ready q)) → ((p : ℕ) → fewer p ≡ awaited p - times p (followers r)) → ((p : ℕ) → later p ≡ (mid p || (is_in (followers r) p && (fewer p == 0)))) → more ≡ order ++ at r ∷ []
       → IsUnderway rows xs followers fewer later more all
   goes_on awaited fewer ready mid later order more all r d here least popped lowered freed e = record {
@@ -194,23 +182,23 @@ module _ (rows : List Row) (xs : List ℕ) (followers : ℕ → List ℕ) (s : I
       count : suc (length (cut r d.left (d.waiting.free r here).0)) ≡ length d.left → length order + length d.left ≡ length xs → length more ≡ length order + 1 → length more + length (cut r d.left (d.waiting.free r here).0) ≡ length xs
       count a b c = omega arith
 
-  pub ends : (awaited : ℕ → ℕ) (ready : ℕ → Bool) (order all : List ℕ) → IsUnderway rows xs followers awaited ready order all → ((q : ℕ) → ready q ≡ false) → order ≡ all
+  ends : (awaited : ℕ → ℕ) (ready : ℕ → Bool) (order all : List ℕ) → IsUnderway rows xs followers awaited ready order all → ((q : ℕ) → ready q ≡ false) → order ≡ all
   unfolding power_order
   ends awaited ready order all d none = sym (append-nil order) ∙ ap (λ us. order ++ power_order rows (map at us)) (sym (none_left d.left awaited ready d.waiting d.below none)) ∙ d.so_far
 
 -- ---- the loop, by its lists
 
-pub counted_by_rank : (xs awaited : List ℕ) (lists : List (Vec ℕ Global)) → length lists ≡ length xs → ((p : ℕ) → slice_index awaited p ≡ total_of lists p) → (p : ℕ) → slice_index awaited p ≡ total (cited lists) (ranks xs) p
+counted_by_rank : (xs awaited : List ℕ) (lists : List (Vec ℕ Global)) → length lists ≡ length xs → ((p : ℕ) → slice_index awaited p ≡ total_of lists p) → (p : ℕ) → slice_index awaited p ≡ total (cited lists) (ranks xs) p
 counted_by_rank xs awaited lists e h p = h p ∙ total_of-ranks lists p ∙ ap (λ n. total (cited lists) (range_with_len 0 n) p) e
 
-pub ready_by_rank : (xs awaited given : List ℕ) (ready : ℕ → Bool) → given ≡ awaited → length awaited ≡ length xs → ((p : ℕ) → ready p ≡ (nat_lt p (length given) && (slice_index given p == 0))) → (p : ℕ) → ready p ≡ (nat_lt p (length xs) && (slice_index awaited p == 0))
+ready_by_rank : (xs awaited given : List ℕ) (ready : ℕ → Bool) → given ≡ awaited → length awaited ≡ length xs → ((p : ℕ) → ready p ≡ (nat_lt p (length given) && (slice_index given p == 0))) → (p : ℕ) → ready p ≡ (nat_lt p (length xs) && (slice_index awaited p == 0))
 ready_by_rank xs awaited given ready e l h p = h p ∙ ap (λ ys. nat_lt p (length ys) && (slice_index ys p == 0)) e ∙ ap (λ n. nat_lt p n && (slice_index awaited p == 0)) l
 
 -- a slice that was lent and came back with its length
-pub refilled : (n : ℕ) (new rest : List ℕ) → n ≡ length new → take n (new ++ rest) ≡ new
+refilled : (n : ℕ) (new rest : List ℕ) → n ≡ length new → take n (new ++ rest) ≡ new
 refilled n new rest e = ap (λ k. take k (new ++ rest)) e ∙ take-append_seam new rest
 
-pub next_underway : (rows : List Row) (xs : List ℕ) (lists : List (Vec ℕ Global)) → IsByPower rows xs → Follow rows xs (cited lists) → (awaited given new kept : List ℕ) (ready mid later : ℕ → Bool) (order more all : List ℕ) (r x : ℕ) (fs : List ℕ)
+next_underway : (rows : List Row) (xs : List ℕ) (lists : List (Vec ℕ Global)) → IsByPower rows xs → Follow rows xs (cited lists) → (awaited given new kept : List ℕ) (ready mid later : ℕ → Bool) (order more all : List ℕ) (r x : ℕ) (fs : List ℕ)
     → IsUnderway rows xs (cited lists) (slice_index awaited) ready order all → ready r ≡ true → ((q : ℕ) → ready q ≡ true → is_gt (nat_cmp r q) ≡ false) → ((q : ℕ) → mid q ≡ cond (is_eq (nat_cmp r q)) false (ready q))
     → given ≡ awaited → fs ≡ cited lists r → ((p : ℕ) → slice_index new p ≡ slice_index given p - times p fs) → ((p : ℕ) → later p ≡ (mid p || (is_in fs p && (slice_index new p == 0)))) → kept ≡ new → x ≡ slice_index_or xs r x → more ≡ order ++ x ∷ []
     → IsUnderway rows xs (cited lists) (slice_index kept) later more all
@@ -220,3 +208,56 @@ next_underway rows xs lists s follow awaited given new kept ready mid later orde
     (λ p. lowered p ∙ (λ i. slice_index (e i) p - times p (f i)))
     (λ p. freed p ∙ (λ i. mid p || (is_in (f i) p && (slice_index new p == 0))))
     (m ∙ ap (λ y. order ++ y ∷ []) (at_any xs r x (d.below r (d.waiting.free r here).0) g)))
+
+-- the state of the loop
+pub record IsTaking (rows : List Row) (xs : List ℕ) (lists : List (Vec ℕ Global)) (awaited : List ℕ) (ready : ℕ → Bool) (order : List ℕ) : Type 0 where
+  pub by_power : IsByPower rows xs
+  pub follow : Follow rows xs (cited lists)
+  pub followed : length lists ≡ length xs
+  pub len : length awaited ≡ length xs
+  pub underway : IsUnderway rows xs (cited lists) (slice_index awaited) ready order (power_order rows xs)
+
+pub taking-begins : (rows : List Row) (xs given : List ℕ) (lists : List (Vec ℕ Global)) (awaited handed : List ℕ) (ready : ℕ → Bool) (order : List ℕ) → IsByPower rows xs → given ≡ xs → length lists ≡ length given → Follow rows given (cited lists)
+    → length awaited ≡ length given → ((p : ℕ) → slice_index awaited p ≡ total_of lists p) → handed ≡ awaited → ((p : ℕ) → ready p ≡ (nat_lt p (length handed) && (slice_index handed p == 0))) → order ≡ [] → IsTaking rows xs lists awaited ready order
+taking-begins rows xs given lists awaited handed ready order s e followed follow len counted h free empty =
+    let f = subst (λ ys. Follow rows ys (cited lists)) e follow in
+    let m = followed ∙ ap length e in
+    let l = len ∙ ap length e in
+    record {
+      by_power = s;
+      follow = f;
+      followed = m;
+      len = l;
+      underway = begins rows xs (cited lists) s f (slice_index awaited) ready order empty (counted_by_rank xs awaited lists m counted) (ready_by_rank xs awaited handed ready h l free);
+    }
+
+module _ (rows : List Row) (xs : List ℕ) (lists : List (Vec ℕ Global)) (awaited : List ℕ) (ready : ℕ → Bool) (order : List ℕ) (t : IsTaking rows xs lists awaited ready order) where
+  module _ (r : ℕ) (here : ready r ≡ true) where
+    pub rank-of : r < length xs
+    rank-of = rank-below rows xs (cited lists) (slice_index awaited) ready order (power_order rows xs) t.underway r here
+
+    pub rank-followed : r < length lists
+    rank-followed = let l = rank-of in let e = t.followed in omega (arith, l, e)
+
+    module _ (v : Vec ℕ Global) (given fs : List ℕ) (lent : given ≡ awaited) (at_rank : v ≡ slice_index_or lists r v) (items : fs ≡ v.items) where
+      its : fs ≡ cited lists r
+      its = items ∙ sym (cited-at lists r v rank-followed at_rank)
+
+      pub followers-known : All (λ p. p < length given) fs
+      followers-known = followers-below rows xs (cited lists) t.by_power t.follow r rank-of fs its (length given) (ap length lent ∙ t.len)
+
+      pub taking-goes : (n : ℕ) (new rest : List ℕ) (mid later : ℕ → Bool) (more : List ℕ) (x : ℕ) → n ≡ length awaited → length new ≡ length given → ((q : ℕ) → ready q ≡ true → is_gt (nat_cmp r q) ≡ false) → ((q : ℕ) → mid q ≡ cond (is_eq (nat_cmp r q)) false (ready q))
+          → ((p : ℕ) → slice_index new p ≡ slice_index given p - times p fs) → ((p : ℕ) → later p ≡ (mid p || (is_in fs p && (slice_index new p == 0)))) → x ≡ slice_index_or xs r x → more ≡ order ++ x ∷ [] → IsTaking rows xs lists (take n (new ++ rest)) later more
+      taking-goes n new rest mid later more x size kept least popped lowered freed g m =
+          let k = refilled n new rest (size ∙ ap length (sym lent) ∙ sym kept) in
+          record {
+            by_power = t.by_power;
+            follow = t.follow;
+            followed = t.followed;
+            len = ap length k ∙ kept ∙ ap length lent ∙ t.len;
+            underway =
+                next_underway rows xs lists t.by_power t.follow awaited given new (take n (new ++ rest)) ready mid later order more (power_order rows xs) r x fs t.underway here least popped lent its lowered freed k g m;
+          }
+
+  pub taking-ends : ((q : ℕ) → ready q ≡ false) → order ≡ power_order rows xs
+  taking-ends none = ends rows xs (cited lists) t.by_power t.follow (slice_index awaited) ready order (power_order rows xs) t.underway none

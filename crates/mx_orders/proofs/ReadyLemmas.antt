@@ -143,9 +143,10 @@ module _ (followers : ℕ → List ℕ) where
         where
           by : (b : Bool) → is_eq (nat_cmp r p) ≡ b → (ready p ≡ true) × (p ≡ r → ⊥)
           by true f = absurd (cc (sym e ∙ popped p ∙ ap (λ b. cond b false (ready p)) f))
-          by false f =
-              (sym (ap (λ b. cond b false (ready p)) f) ∙ sym (popped p) ∙ e,
-              λ g. absurd (cc (sym (subst (λ z. is_eq (nat_cmp r z) ≡ true) (sym g) (equal_from r)) ∙ f)))
+          by false f = (
+            sym (ap (λ b. cond b false (ready p)) f) ∙ sym (popped p) ∙ e,
+            λ g. absurd (cc (sym (subst (λ z. is_eq (nat_cmp r z) ≡ true) (sym g) (equal_from r)) ∙ f)),
+          )
 
       mid-from : (p : ℕ) → ready p ≡ true → (p ≡ r → ⊥) → mid p ≡ true
       mid-from p e n = popped p ∙ ap (λ b. cond b false (ready p)) (is_false (is_eq (nat_cmp r p)) (λ f. n (sym (equal_to r p f)))) ∙ e

@@ -16,7 +16,7 @@ index_mut-requires c =
 pub loop-event-preserved : goal.loop-event-preserved
 loop-event-preserved c =
     elim c.match-get.branch [
-      in-Some+in_ok-push w ↦
+      | in-Some+in_ok-push w ↦
           let h = subst (λ r. IfSome r (λ place. place < length c.args.followers.now.items)) (sym w.in-Some.ensures.value) (c.requires _) in
           let e = c.loop-event.invariant.so_far.len in
           record {
