@@ -1,16 +1,19 @@
 -- Events by their ranks: places in a list whose elements are distinct, and in order.
-use Rattle.std.proofs.Common.{◌≡◌, ℕ, zero, suc, ◌+◌, ◌≤◌, ◌<◌, ◌⊎◌, true, false, inl, inr, List, [], ◌∷◌, map, length, slice_index, slice_index_or, refl, sym, ap, subst, ◌∙◌, arith}
+use Rattle.std.proofs.Common.{◌≡◌, ℕ, zero, suc, ◌+◌, ◌≤◌, ◌<◌, ◌⊎◌, ◌==◌, ◌||◌, ◌++◌, Bool, true, false, cond, eq-eqb, inl, inr, List, [], ◌∷◌, map, length, slice_index, slice_index_or, refl, sym, ap, subst, ◌∙◌, arith}
 use Rattle.std.specs.declared.cmp.Ordering.{Ordering}
 use Rattle.std.specs.Ordering.{is_gt, nat_cmp}
 use Rattle.std.specs.Cmp.{IsTotalOrder, tied_itself}
 use Rattle.std.specs.Prelude.{Vec}
-use Rattle.std.specs.List.{range_with_len}
+use Rattle.std.specs.List.{All, range_with_len}
+use Rattle.std.proofs.lemmas.List.Elements.{All-push}
 use Rattle.std.specs.declared.alloc.Global.{Global}
 use Rattle.std.proofs.lemmas.Bool.Decides.{nat_tests}
 use Rattle.std.proofs.lemmas.List.FromFn.{fill_by_all}
 use Rattle.std.proofs.lemmas.List.Sums.{sum_by-cons}
 use Rattle.std.proofs.Math.Nat.{eq-or-lt_of_le}
 use Rattle.mx_graph.specs.Edges.{cited}
+use Rattle.mx_graph.specs.Record.{is_in}
+use Rattle.mx_graph.proofs.Members.{in_append-cases}
 use Rattle.mx_graph.proofs.Closure.{range-parts}
 use Rattle.mx_orders.proofs.Members.{In, Distinct, in_map, in_map-from}
 use Rattle.mx_orders.proofs.SortedLaws.{Below, Rising}
@@ -38,6 +41,25 @@ distinct-at (x ∷ xs) (suc u) (suc v) d h k e =
     let l : u < length xs = omega (arith, h) in
     let m : v < length xs = omega (arith, k) in
     ap suc (distinct-at xs u v d.1 l m e)
+
+-- one more, which is not there
+pub distinct-push : (xs : List ℕ) (x : ℕ) → Distinct xs → is_in xs x ≡ false → Distinct (xs ++ x ∷ [])
+distinct-push [] x d e = (λ k. k, tt)
+distinct-push (y ∷ ys) x d e = (λ k. apart (in_append-cases y ys (x ∷ []) k), distinct-push ys x d.1 (later (y == x) e))
+  where
+    later : (b : Bool) → (b || is_in ys x) ≡ false → is_in ys x ≡ false
+    later true k = absurd (cc k)
+    later false k = k
+
+    apart : In y ys ⊎ In y (x ∷ []) → ⊥
+    apart (inl m) = d.0 m
+    apart (inr (inl k)) = absurd (cc (sym (ap (λ b. b || is_in ys x) (eq-eqb y x k)) ∙ e))
+    apart (inr (inr m)) = m
+
+-- known events, each once, with one more or without it
+pub one_more_named : (b : Bool) (n x : ℕ) (xs ys : List ℕ) → ys ≡ cond b (xs ++ x ∷ []) xs → All (λ y. y < n) xs → Distinct xs → x < n → is_in xs x ≡ false → All (λ y. y < n) ys × Distinct ys
+one_more_named true n x xs ys e known d k a = subst (λ zs. All (λ y. y < n) zs × Distinct zs) (sym e) (All-push (λ y. y < n) xs x known k, distinct-push xs x d a)
+one_more_named false n x xs ys e known d k a = subst (λ zs. All (λ y. y < n) zs × Distinct zs) (sym e) (known, d)
 
 pub distinct-map : (xs us : List ℕ) → Distinct xs → ((u : ℕ) → In u us → u < length xs) → Distinct us → Distinct (map (slice_index xs) us)
 distinct-map xs [] d h k = tt

@@ -67,7 +67,8 @@ fn is_free(waiting: &Waiting, rest: &[Waiting]) -> bool
         .all(|other| !stands_in(&waiting.chain, other.number))
 }
 
-fn stands_in(chain: &[EventNo], event: EventNo) -> bool
+// Whether an event is in a list.
+pub(crate) fn stands_in(chain: &[EventNo], event: EventNo) -> bool
     ensures { result ≡ is_in chain.now event }
 {
     chain.iter().any(|other| *other == event)

@@ -1,3 +1,7 @@
+ghost use Rattle.std.specs.Prelude.{◌<◌, All, IfSome, length};
+ghost use Rattle.mx_orders.specs.Lists.{Distinct};
+
+use crate::plain_ordering::{plain_power_order, stands_in};
 use crate::{Mainline, mainline_order, power_order};
 use mx_graph::{EventNo, Graph, GraphRow};
 use mx_ident::EventId;
@@ -96,12 +100,45 @@ fn mainline_graph(alloc: Global) -> Option<Graph> {
     )
 }
 
-// The numbers of events by their ids, or nothing where no memory is left.
-fn numbers(alloc: Global, graph: &Graph, ids: &[&str]) -> Option<Vec<EventNo>> {
+fn larger_graph(alloc: Global) -> Option<Graph> {
+    let power = "m.room.power_levels";
+    let rules = "m.room.join_rules";
+    graph(
+        alloc,
+        &[
+            CREATE,
+            ("$e1", rules, "", 52, "[\"$c\"]", "{}"),
+            ("$e2", rules, "", 54, "[\"$c\",\"$e1\"]", "{}"),
+            ("$e3", rules, "", 51, "[\"$c\",\"$e1\",\"$e2\"]", "{}"),
+            ("$e4", power, "", 53, "[\"$c\",\"$e1\",\"$e2\"]", LEVELS),
+            ("$e5", rules, "", 50, "[\"$c\",\"$e1\",\"$e2\"]", "{}"),
+            ("$e6", rules, "", 52, "[\"$c\",\"$e2\",\"$e5\"]", "{}"),
+            ("$e7", rules, "", 54, "[\"$c\",\"$e3\"]", "{}"),
+            ("$e8", power, "", 51, "[\"$c\",\"$e4\"]", LEVELS),
+            ("$e9", rules, "", 53, "[\"$c\",\"$e5\",\"$e8\"]", "{}"),
+            ("$e10", rules, "", 50, "[\"$c\",\"$e5\",\"$e6\"]", "{}"),
+            ("$e11", rules, "", 52, "[\"$c\",\"$e5\",\"$e7\"]", "{}"),
+            ("$e12", power, "", 54, "[\"$c\",\"$e8\",\"$e11\"]", LEVELS),
+            ("$e13", rules, "", 51, "[\"$c\",\"$e6\",\"$e9\"]", "{}"),
+            ("$e14", rules, "", 53, "[\"$c\",\"$e7\",\"$e10\"]", "{}"),
+            ("$e15", rules, "", 50, "[\"$c\",\"$e11\",\"$e14\"]", "{}"),
+            ("$e16", power, "", 52, "[\"$c\",\"$e8\",\"$e12\"]", LEVELS),
+        ],
+    )
+}
+
+// The numbers of events by their ids, or nothing where one is not there or is there twice, or no memory is left.
+fn numbers(alloc: Global, graph: &Graph, ids: &[&str]) -> Option<Vec<EventNo>>
+    ensures known { IfSome result (λ found. All (λ event. event < length graph.now) found.items) }
+    ensures distinct { IfSome result (λ found. Distinct found.items) }
+{
     let mut found = Vec::new(alloc);
     for id in ids {
         let id = EventId::parse(alloc, id).ok()?;
         let number = graph.find(&id)?;
+        if stands_in(&found, number) {
+            return None;
+        }
         found.push(number).ok()?;
     }
     Some(found)
@@ -111,17 +148,36 @@ fn numbers(alloc: Global, graph: &Graph, ids: &[&str]) -> Option<Vec<EventNo>> {
 fn least_power_order(rt: HostRuntime) -> Result<(), Fail> {
     let alloc = rt.alloc();
     let graph = power_graph(alloc).ok_or("no memory")?;
+    let order = numbers(alloc, &graph, &["$e", "$z", "$a", "$d", "$b"]).ok_or("no memory")?;
     for events in [
         ["$z", "$a", "$b", "$d", "$e"],
         ["$d", "$e", "$z", "$b", "$a"],
     ] {
         let events = numbers(alloc, &graph, &events).ok_or("no memory")?;
-        assert_eq!(rt;
-            power_order(alloc, &graph, &events)?,
-            numbers(alloc, &graph, &["$e", "$z", "$a", "$d", "$b"]).ok_or("no memory")?
-        );
+        assert_eq!(rt; power_order(alloc, &graph, &events)?, order);
+        assert_eq!(rt; plain_power_order(alloc, &graph, &events)?, order);
     }
     assert!(rt; power_order(alloc, &graph, &[])?.is_empty());
+    Ok(())
+}
+
+#[test]
+fn one_order_by_both_bodies(rt: HostRuntime) -> Result<(), Fail> {
+    let alloc = rt.alloc();
+    let graph = larger_graph(alloc).ok_or("no memory")?;
+    for events in [
+        [
+            "$e16", "$e15", "$e14", "$e13", "$e12", "$e11", "$e10", "$e9", "$e8", "$e7", "$e6",
+            "$e5",
+        ],
+        [
+            "$e1", "$e16", "$e2", "$e15", "$e3", "$e14", "$e4", "$e13", "$e5", "$e12", "$c", "$e11",
+        ],
+    ] {
+        let events = numbers(alloc, &graph, &events).ok_or("no memory")?;
+        let order = power_order(alloc, &graph, &events)?;
+        assert_eq!(rt; order, plain_power_order(alloc, &graph, &events)?);
+    }
     Ok(())
 }
 
@@ -152,10 +208,8 @@ fn mainline_order_by_positions(rt: HostRuntime) -> Result<(), Fail> {
     let power = graph.find(&EventId::parse(alloc, "$p3")?);
     let mainline = Mainline::of(alloc, &graph, power)?;
     let events = numbers(alloc, &graph, &["$p2", "$q", "$r", "$s", "$t", "$u"]).ok_or("no memory")?;
-    assert_eq!(rt;
-        mainline_order(alloc, &graph, &mainline, &events)?,
-        numbers(alloc, &graph, &["$q", "$s", "$p2", "$r", "$t", "$u"]).ok_or("no memory")?
-    );
+    let order = numbers(alloc, &graph, &["$q", "$s", "$p2", "$r", "$t", "$u"]).ok_or("no memory")?;
+    assert_eq!(rt; mainline_order(alloc, &graph, &mainline, &events)?, order);
     Ok(())
 }
 
@@ -174,10 +228,8 @@ fn mainline_order_without_power_levels(rt: HostRuntime) -> Result<(), Fail> {
     .ok_or("no memory")?;
     let mainline = Mainline::of(alloc, &graph, None)?;
     let events = numbers(alloc, &graph, &["$k", "$j", "$l"]).ok_or("no memory")?;
-    assert_eq!(rt;
-        mainline_order(alloc, &graph, &mainline, &events)?,
-        numbers(alloc, &graph, &["$l", "$j", "$k"]).ok_or("no memory")?
-    );
+    let order = numbers(alloc, &graph, &["$l", "$j", "$k"]).ok_or("no memory")?;
+    assert_eq!(rt; mainline_order(alloc, &graph, &mainline, &events)?, order);
     Ok(())
 }
 
