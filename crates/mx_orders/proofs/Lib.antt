@@ -14,5 +14,6 @@ pub mod ReadyLemmas
 pub mod RankLemmas
 pub mod RankedOrder
 pub mod FollowLemmas
+pub mod FallingLemmas
 pub mod OrdersOnExamples
 pub mod OrderRows

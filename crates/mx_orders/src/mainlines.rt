@@ -2,6 +2,7 @@
 ghost use Rattle.std.specs.Prelude.{◌≡◌, ◌==◌, ◌<◌, ◌≤◌, IfOk, IfSome, length, position};
 ghost use Rattle.mx_graph.specs.Graph.{IsSound};
 ghost use Rattle.mx_graph.specs.Record as record_of;
+ghost use Rattle.mx_orders.specs.Lists.{Falls};
 ghost use Rattle.mx_orders.specs.Mainline as definition;
 ghost use Rattle.mx_orders.specs.StateMap.{auth_event_at};
 
@@ -20,13 +21,14 @@ pub struct Mainline {
 }
 
 impl Model for Mainline {
-    ghost use Rattle.std.specs.Prelude.{◌≤◌, ◌^◌, ℕ, List, length};
+    ghost use Rattle.std.specs.Prelude.{ℕ, List};
+    ghost use Rattle.mx_orders.specs.Lists.{IsLine};
 
     ghost Value = { List ℕ };
 
     ghost view = { λ mainline. mainline.line.items };
 
-    ghost invariant = { λ mainline. length mainline.line.items ≤ 2 ^ 32 };
+    ghost invariant = { λ mainline. IsLine mainline.line.items };
 }
 
 impl Mainline {
@@ -45,7 +47,8 @@ impl Mainline {
 
     /// The place in the mainline, from 0, of the first power levels event that lies there of those that an event rests
     /// on: the one among its auth events, the one among that one's, and so on. The event itself does not count. `None`
-    /// where none lies there: the position is infinite. It takes no memory.
+    /// where none lies there: the position is infinite. It takes no memory, and the time is that of the auth events of
+    /// these, times a logarithm of the mainline.
     pub fn position(&self, graph: &Graph, event: EventNo) -> Option<u32>
         ensures { result ≡ definition.mainline_position graph.now self.now event }
     {
@@ -68,12 +71,13 @@ impl Mainline {
     }
 }
 
-// The place of an event in a list.
+// The place of an event in a list that falls.
 fn place_in(line: &[EventNo], event: EventNo) -> Option<usize>
+    requires { Falls line.now }
     ensures place { result ≡ position (λ other. other == event) line.now }
     ensures below { IfSome result (λ place. place < length line.now) }
 {
-    line.iter().position(|other| *other == event)
+    line.binary_search_by(|other| event.cmp(other)).ok()
 }
 
 // The power levels event among the auth events of an event.
