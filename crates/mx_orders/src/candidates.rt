@@ -5,6 +5,7 @@ ghost use Rattle.mx_orders.specs.Mainline.{sorted};
 ghost use Rattle.mx_orders.specs.PowerOrder.{power_cmp};
 
 use crate::levels::sender_level;
+use crate::soundness::graph_is_sound;
 use mx_graph::{EventNo, Graph};
 use mx_ident::EventId;
 use std::alloc::{AllocError, Global};
@@ -29,7 +30,7 @@ pub(crate) fn by_power(
     ensures { IfOk result (λ numbers. numbers.items ≡ sorted (power_cmp graph.now) events.now) }
 {
     // Each id is there once, so that no two events tie.
-    let _ = graph.len();
+    graph_is_sound(graph);
     let mut candidates = candidates_of(alloc, graph, events)?;
     candidates.sort_by(|a, b| compare(a, b))?;
     let numbers = numbers_of(alloc, &candidates)?;

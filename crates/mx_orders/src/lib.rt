@@ -12,6 +12,7 @@ mod plain_ordering;
 mod power_ordering;
 mod ranking;
 mod readiness;
+mod soundness;
 
 pub use mainline_ordering::mainline_order;
 pub use mainlines::Mainline;

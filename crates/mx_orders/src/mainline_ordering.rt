@@ -4,6 +4,7 @@ ghost use Rattle.mx_orders.specs.Mainline as definition;
 ghost use Rattle.mx_orders.specs.Places.{IsPlace, place_cmp};
 
 use crate::mainlines::Mainline;
+use crate::soundness::graph_is_sound;
 use mx_graph::{EventNo, Graph};
 use mx_ident::EventId;
 use std::alloc::{AllocError, Global};
@@ -33,7 +34,7 @@ pub fn mainline_order(
     ensures { IfOk result (λ order. order.items ≡ definition.mainline_order graph.now mainline.now events.now) }
 {
     // Each id is there once, so that no two events tie.
-    let _ = graph.len();
+    graph_is_sound(graph);
     let mut places = places_of(alloc, graph, mainline, events)?;
     places.sort_by(|a, b| compare(a, b))?;
     let order = numbers_of(alloc, &places)?;

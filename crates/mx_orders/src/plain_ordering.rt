@@ -6,6 +6,7 @@ ghost use Rattle.mx_orders.specs.PowerOrder as definition;
 ghost use Rattle.mx_orders.specs.Waiting.{IsWaiting, is_free as is_free_of};
 
 use crate::candidates::by_power;
+use crate::soundness::graph_is_sound;
 use mx_graph::{EventNo, Graph};
 use std::alloc::{AllocError, Global};
 
@@ -26,7 +27,7 @@ pub(crate) fn plain_power_order(
     requires distinct { Distinct events.now }
     ensures { IfOk result (λ order. order.items ≡ definition.power_order graph.now events.now) }
 {
-    let _ = graph.len();
+    graph_is_sound(graph);
     let numbers = by_power(alloc, graph, events)?;
     let mut rest = waiting_of(alloc, graph, &numbers)?;
     let mut order = Vec::with_capacity(alloc, events.len())?;

@@ -6,6 +6,7 @@ ghost use Rattle.mx_orders.specs.PowerOrder as definition;
 use crate::candidates::by_power;
 use crate::following::{Following, following_of};
 use crate::readiness::{ready_at_first, release};
+use crate::soundness::graph_is_sound;
 use mx_graph::{EventNo, Graph};
 use std::alloc::{AllocError, Global};
 
@@ -25,7 +26,7 @@ pub fn power_order(
     ensures { IfOk result (λ order. order.items ≡ definition.power_order graph.now events.now) }
 {
     // Each id is there once, so that no two events tie.
-    let _ = graph.len();
+    graph_is_sound(graph);
     let numbers = by_power(alloc, graph, events)?;
     let Following {
         followers,

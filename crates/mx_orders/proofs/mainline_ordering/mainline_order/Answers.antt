@@ -9,7 +9,7 @@ use Rattle.mx_orders.proofs.mainline_ordering.mainline_order.Goals as goal
 pub returns : goal.returns
 returns c =
     c.in_ok-order.ensures ∙ ap (map (λ place. place.number)) c.deref.ensures.value
-    ∙ order-is c.args.graph.now c.args.mainline.now c.len.ensures.sound c.args.events.now c.in_ok-places.places.items c.sort_by.new.self.items c.requires
+    ∙ order-is c.args.graph.now c.args.mainline.now c.graph_is_sound.ensures c.args.events.now c.in_ok-places.places.items c.sort_by.new.self.items c.requires
     c.in_ok-places.ensures.numbers c.in_ok-places.ensures.placed c.in_ok-sort_by.ensures.permutation
     (c.in_ok-sort_by.ensures.sorted (λ a b. is_lt (place_cmp a b)) (ranks_by place_cmp-total (λ p. p))
     (always_returns_same _ (λ a r. is_lt r ≡ is_lt (place_cmp a.0.now a.1.0.now)) _ (λ a r f k. search rules)))

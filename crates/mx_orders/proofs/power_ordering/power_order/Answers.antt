@@ -8,12 +8,12 @@ use Rattle.mx_orders.proofs.RankedOrder.{by_power, same_order, taking-begins, ra
 use Rattle.mx_orders.proofs.power_ordering.power_order.Goals as goal
 
 pub following_of-requires : goal.following_of-requires
-following_of-requires c = subst Distinct (sym c.deref.ensures.value) (by_power c.args.graph.now c.args.events.now c.in_ok-numbers.numbers.items c.len.ensures.sound c.requires.known c.requires.distinct c.in_ok-numbers.ensures).distinct
+following_of-requires c = subst Distinct (sym c.deref.ensures.value) (by_power c.args.graph.now c.args.events.now c.in_ok-numbers.numbers.items c.graph_is_sound.ensures c.requires.known c.requires.distinct c.in_ok-numbers.ensures).distinct
 
 pub loop-rank-init : goal.loop-rank-init
 loop-rank-init c =
     taking-begins c.args.graph.now c.in_ok-numbers.numbers.items c.deref.result.now c.in_ok-followers.field-0.followers.items c.in_ok-followers.field-0.awaited.items c.deref-2.result.now (contains nat_cmp c.in_ok-ready.ready) c.in_ok-order.order.items
-    (by_power c.args.graph.now c.args.events.now c.in_ok-numbers.numbers.items c.len.ensures.sound c.requires.known c.requires.distinct c.in_ok-numbers.ensures) c.deref.ensures.value c.in_ok-followers.ensures.followed c.in_ok-followers.ensures.members
+    (by_power c.args.graph.now c.args.events.now c.in_ok-numbers.numbers.items c.graph_is_sound.ensures c.requires.known c.requires.distinct c.in_ok-numbers.ensures) c.deref.ensures.value c.in_ok-followers.ensures.followed c.in_ok-followers.ensures.members
     c.in_ok-followers.ensures.waiting c.in_ok-followers.ensures.counted c.deref-2.ensures.value c.in_ok-ready.ensures c.in_ok-order.ensures.items
 
 pub index-requires : goal.index-requires
@@ -44,4 +44,4 @@ pub returns : goal.returns
 returns c =
     taking-ends c.args.graph.now c.in_ok-numbers.numbers.items c.in_ok-followers.field-0.followers.items c.loop-rank.awaited.items (contains nat_cmp c.loop-rank.ready) c.loop-rank.order.items c.loop-rank.invariant
     (λ q. ap (list_any (λ p. is_eq (nat_cmp q p))) (empty-from c.loop-rank.ready.keys c.in_default.ensures.variant.1))
-    ∙ same_order c.args.graph.now c.args.events.now c.in_ok-numbers.numbers.items c.len.ensures.sound c.requires.known c.requires.distinct c.in_ok-numbers.ensures
+    ∙ same_order c.args.graph.now c.args.events.now c.in_ok-numbers.numbers.items c.graph_is_sound.ensures c.requires.known c.requires.distinct c.in_ok-numbers.ensures
