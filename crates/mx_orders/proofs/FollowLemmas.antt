@@ -1,7 +1,6 @@
 -- Steps of the loops that find which ranks follow which.
 use Rattle.std.proofs.Common.{◌≡◌, ℕ, zero, suc, ◌+◌, ◌==◌, ◌≤◌, ◌<◌, ◌⊎◌, Bool, true, false, cond, ◌||◌, ◌&&◌, if◌then◌else◌, inl, inr, List, [], ◌∷◌, ◌++◌, length, take, set, slice_index, slice_index_or, nat_lt, refl, sym, ap, subst, ◌∙◌, arith, eq-eqb, eqb-true, lt-ltb, ltb-true}
 use Rattle.std.specs.Prelude.{Vec, Option, Some, None, IfSome}
-use Rattle.std.specs.List.{sum_by, list_any}
 use Rattle.std.specs.Ordering.{nat_cmp, is_eq}
 use Rattle.std.specs.declared.alloc.Global.{Global}
 use Rattle.std.proofs.lemmas.List.Sums.{sum_by-set, sum_by_push}
@@ -15,7 +14,7 @@ use Rattle.mx_graph.specs.Edges.{cited}
 use Rattle.mx_graph.specs.Record.{Row, is_in}
 use Rattle.mx_graph.specs.Graph.{auth_chain}
 use Rattle.mx_graph.proofs.WalkLemmas.{equal_to, equal_from}
-use Rattle.mx_orders.proofs.Members.{In, Distinct}
+use Rattle.mx_orders.proofs.Members.{Distinct}
 use Rattle.mx_orders.proofs.RankLemmas.{at_any, distinct-at}
 use Rattle.mx_orders.specs.Ranks.{IsRanked, before, leads, times, total_of}
 

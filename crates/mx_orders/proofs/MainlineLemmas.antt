@@ -4,7 +4,7 @@ use Rattle.std.proofs.lemmas.List.{append-nil, length-append}
 use Rattle.std.specs.Prelude.{find as first_where, position, Option, Some, None, option_and_then, is_some, IfSome}
 use Rattle.std.specs.List.{list_any, position_from}
 use Rattle.std.proofs.lemmas.Iterator.Adapters.{position_from-zero}
-use Rattle.mx_graph.specs.Record.{Row, row, event, auth_events, is_in}
+use Rattle.mx_graph.specs.Record.{Row, event, auth_events, is_in}
 use Rattle.mx_graph.specs.Graph.{IsSound}
 use Rattle.mx_graph.proofs.Closure.{or_left, or_right}
 use Rattle.mx_orders.specs.StateMap.{auth_event_at}

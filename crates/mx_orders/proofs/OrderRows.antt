@@ -1,5 +1,5 @@
 -- Worked examples of the power order and of the mainline order.
-use Rattle.std.specs.Prelude.{◌≡◌, refl, ℕ, pos, false, List, [], ◌∷◌, codes, map, Option, Some, None}
+use Rattle.std.specs.Prelude.{◌≡◌, refl, ℕ, pos, false, List, [], ◌∷◌, codes, map, Some, None}
 use Prim.Native.String.{String}
 use Rattle.serde_json.specs.Data.{Data, array}
 use Rattle.mx_graph.specs.Record.{Row}

@@ -15,8 +15,8 @@ use Rattle.mx_graph.specs.Edges.{cited}
 use Rattle.mx_graph.specs.Record.{is_in}
 use Rattle.mx_graph.proofs.Members.{in_append-cases}
 use Rattle.mx_graph.proofs.Closure.{range-parts}
-use Rattle.mx_orders.proofs.Members.{In, Distinct, in_map, in_map-from}
-use Rattle.mx_orders.proofs.SortedLaws.{Below, Rising}
+use Rattle.mx_orders.proofs.Members.{In, Distinct, in_map-from}
+use Rattle.mx_orders.proofs.SortedLaws.{Rising}
 use Rattle.mx_orders.specs.Ranks.{ranks, times, total, total_of}
 
 pub at_most : (r q : ℕ) → is_gt (nat_cmp r q) ≡ false → r ≤ q

@@ -1,5 +1,5 @@
 -- The power order by ranks: the least rank that is ready comes next.
-use Rattle.std.proofs.Common.{◌≡◌, ℕ, suc, ◌+◌, ◌-◌, ◌≤◌, ◌<◌, Bool, true, false, cond, ◌&&◌, ◌||◌, ◌==◌, ◌⊎◌, inl, inr, List, [], ◌∷◌, ◌++◌, map, length, slice_index, slice_index_or, take, nat_lt, refl, sym, ap, subst, ◌∙◌, arith, append_assoc, lt-ltb, ltb-true, eq-eqb, eqb-true}
+use Rattle.std.proofs.Common.{◌≡◌, ℕ, suc, ◌+◌, ◌-◌, ◌<◌, Bool, true, false, cond, ◌&&◌, ◌||◌, ◌==◌, ◌⊎◌, inl, inr, List, [], ◌∷◌, ◌++◌, map, length, slice_index, slice_index_or, take, nat_lt, refl, sym, ap, subst, ◌∙◌, arith, append_assoc, lt-ltb, ltb-true, eq-eqb, eqb-true}
 use Rattle.std.specs.Ordering.{is_gt, is_eq, nat_cmp}
 use Rattle.std.proofs.lemmas.List.{append-nil, length-append}
 use Rattle.std.proofs.lemmas.List.FromFn.{length-range_with_len}

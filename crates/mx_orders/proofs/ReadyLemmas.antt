@@ -1,13 +1,12 @@
 -- Ranks that follow one another: which are left, how many of these each waits for, and which wait for none.
-use Rattle.std.proofs.Common.{◌≡◌, ℕ, zero, suc, ◌+◌, ◌-◌, ◌==◌, ◌≤◌, ◌<◌, Bool, true, false, cond, ◌&&◌, ◌||◌, ◌⊎◌, inl, inr, List, [], ◌∷◌, length, refl, sym, ap, subst, ◌∙◌, arith, eq-eqb, eqb-true}
+use Rattle.std.proofs.Common.{◌≡◌, ℕ, ◌+◌, ◌-◌, ◌==◌, ◌<◌, Bool, true, false, cond, ◌&&◌, ◌||◌, ◌⊎◌, inl, inr, List, [], ◌∷◌, refl, sym, ap, subst, ◌∙◌, arith, eq-eqb, eqb-true}
 use Rattle.std.specs.Ordering.{nat_cmp, is_eq}
 use Rattle.std.proofs.lemmas.List.Sums.{sum_by-cons}
-use Rattle.std.specs.List.{sum_by}
 use Rattle.mx_graph.specs.Record.{is_in}
 use Rattle.mx_graph.proofs.Closure.{or_cases, or_left, or_right}
 use Rattle.mx_graph.proofs.WalkLemmas.{equal_to, equal_from}
 use Rattle.mx_orders.proofs.Members.{In, Distinct}
-use Rattle.mx_orders.proofs.Permutations.{cut, cut-cases, cut-distinct, cut-gone, cut-length, cut-within}
+use Rattle.mx_orders.proofs.Permutations.{cut, cut-cases, cut-distinct, cut-gone, cut-within}
 use Rattle.mx_orders.specs.Ranks.{times, total}
 
 -- ---- how often a list has a number

@@ -3,7 +3,7 @@ use Rattle.std.proofs.Common.{◌≡◌, true, false, ◌⊎◌, inl, inr, List,
 use Rattle.std.specs.declared.cmp.Ordering.{Ordering}
 use Rattle.std.specs.declared.cmp.Ordering.TheVariants.{Less, Equal, Greater}
 use Rattle.std.specs.Ordering.{is_gt, ordering_reverse}
-use Rattle.std.specs.Cmp.{IsTotalOrder, upto, tied_itself}
+use Rattle.std.specs.Cmp.{IsTotalOrder, upto}
 use Rattle.std.specs.FinMap.Entries.{by_order}
 use Rattle.mx_orders.specs.Mainline.{put_in_order, sorted}
 use Rattle.mx_orders.proofs.Members.{In, Distinct}

@@ -1,6 +1,6 @@
 -- The state that some events make, by its entries.
-use Rattle.std.proofs.Common.{◌≡◌, ℕ, ◌<◌, Bool, true, false, cond, ◌&&◌, ◌||◌, List, [], ◌∷◌, refl, sym, ap, ap₂, ◌∙◌}
-use Rattle.std.specs.Prelude.{ℤ, bytes_eq, codes, find as first_where, Option, Some, None, option_map, unwrap_or, is_none, if◌then◌else◌, pos}
+use Rattle.std.proofs.Common.{◌≡◌, ℕ, Bool, cond, ◌&&◌, List, [], ◌∷◌, refl, sym, ap, ap₂, ◌∙◌}
+use Rattle.std.specs.Prelude.{ℤ, codes, find as first_where, Option, Some, None, option_map, unwrap_or, is_none, if◌then◌else◌, pos}
 use Rattle.std.specs.Ordering.{is_eq, eq_by_cmp, nat_cmp, ordering_then}
 use Rattle.std.specs.declared.cmp.Ordering.{Ordering}
 use Rattle.std.specs.declared.cmp.Ordering.TheVariants.{Less, Equal, Greater}
@@ -13,7 +13,7 @@ use Rattle.mx_pdu.specs.Event.{sender_of}
 use Rattle.mx_levels.specs.Level.{user_level}
 use Rattle.mx_auth.specs.Rules.{Key, key_of, same_key}
 use Rattle.mx_graph.specs.Record.{Row, event, auth_events}
-use Rattle.mx_orders.specs.StateMap.{key_cmp, State, entry, with_event, state_of, auth_event_at, view}
+use Rattle.mx_orders.specs.StateMap.{key_cmp, State, entry, state_of, auth_event_at}
 use Rattle.mx_orders.specs.PowerOrder.{sender_level}
 
 pub key_cmp-total : IsTotalOrder key_cmp

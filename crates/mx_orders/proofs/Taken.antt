@@ -1,7 +1,6 @@
 -- An element taken out of a list.
-use Rattle.std.proofs.Common.{◌≡◌, ℕ, ◌⊎◌, inl, inr, List, [], ◌∷◌, ◌++◌, false, sym, subst}
+use Rattle.std.proofs.Common.{◌≡◌, ◌⊎◌, inl, inr, List, [], ◌∷◌, ◌++◌, subst}
 use Rattle.std.specs.declared.cmp.Ordering.{Ordering}
-use Rattle.std.specs.Ordering.{is_gt}
 use Rattle.std.specs.Cmp.{IsTotalOrder}
 use Rattle.mx_graph.proofs.Members.{in_append-left, in_append-right, in_append-cases}
 use Rattle.mx_orders.proofs.Members.{In, Distinct}

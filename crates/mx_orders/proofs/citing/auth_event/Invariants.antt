@@ -1,9 +1,8 @@
-use Rattle.std.proofs.Common.{◌≡◌, ◌<◌, ◌≤◌, [], length, drop}
+use Rattle.std.proofs.Common.{◌≡◌, ◌<◌, [], drop}
 use Rattle.std.specs.Prelude.{find}
 use Rattle.std.specs.List.{All}
 use Rattle.mx_redact.specs.Fields.{is_some_and}
 use Rattle.mx_auth.specs.Rules.{key_of, same_key}
-use Rattle.mx_graph.specs.Graph.{IsSound}
 use Rattle.mx_graph.specs.Record as record_of
 use Rattle.mx_orders.specs.StateMap.{auth_event_at}
 use Rattle.mx_orders.proofs.citing.auth_event.Given as goal

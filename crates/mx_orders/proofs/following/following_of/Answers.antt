@@ -1,7 +1,7 @@
-use Rattle.std.proofs.Common.{sym, ap, ◌∙◌, ◌∷◌, []}
+use Rattle.std.proofs.Common.{◌∙◌}
 use Rattle.std.specs.BTreeMap.{get}
 use Rattle.std.specs.Ordering.{nat_cmp}
-use Rattle.mx_orders.proofs.FollowLemmas.{within, none_following, one_more_following}
+use Rattle.mx_orders.proofs.FollowLemmas.{within, one_more_following}
 use Rattle.mx_orders.proofs.following.following_of.Goals as goal
 
 pub follow-requires : goal.follow-requires

@@ -1,4 +1,4 @@
-use Rattle.std.proofs.Common.{rules, sym, ap, ◌∙◌}
+use Rattle.std.proofs.Common.{rules}
 use Rattle.mx_orders.proofs.StateLemmas.{sender_level-at}
 use Rattle.mx_orders.proofs.levels.sender_level.Goals as goal
 

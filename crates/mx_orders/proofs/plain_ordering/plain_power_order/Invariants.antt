@@ -1,5 +1,4 @@
 use Rattle.std.proofs.Common.{◌≡◌, ◌++◌, map, length}
-use Rattle.mx_graph.specs.Graph.{IsSound}
 use Rattle.mx_orders.specs.PowerOrder as definition
 use Rattle.mx_orders.proofs.WaitingLemmas.{IsLeft}
 use Rattle.mx_orders.proofs.plain_ordering.plain_power_order.Given as goal

@@ -1,6 +1,4 @@
-use Rattle.std.proofs.Common.{rules, arith, ◌≡◌, ◌∷◌, ◌++◌, [], Some, sym, ap, ◌∙◌, append_assoc}
-use Rattle.std.proofs.lemmas.List.{append-nil}
-use Rattle.mx_orders.specs.Mainline.{mainline}
+use Rattle.std.proofs.Common.{rules}
 use Rattle.mx_orders.proofs.MainlineLemmas.{mainline_more, fewer, mainline_done}
 use Rattle.mx_orders.proofs.FallingLemmas.{falls-more, below-more}
 use Rattle.mx_orders.proofs.mainlines.Mainline.of.Goals as goal

@@ -1,4 +1,4 @@
-use Rattle.std.proofs.Common.{◌≡◌, ◌<◌, ◌≤◌, ◌+◌, ℕ, suc, length, ◌++◌, Some, None, Option}
+use Rattle.std.proofs.Common.{◌≡◌, ◌<◌, ◌≤◌, ◌+◌, length, ◌++◌}
 use Rattle.mx_orders.specs.Mainline as definition
 use Rattle.mx_orders.specs.Lists.{Falls}
 use Rattle.mx_orders.proofs.MainlineLemmas.{left}
