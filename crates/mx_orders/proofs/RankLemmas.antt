@@ -17,7 +17,8 @@ use Rattle.mx_graph.proofs.Members.{in_append-cases}
 use Rattle.mx_graph.proofs.Closure.{range-parts}
 use Rattle.mx_orders.proofs.Members.{In, Distinct, in_map-from}
 use Rattle.mx_orders.proofs.SortedLaws.{Rising}
-use Rattle.mx_orders.specs.Ranks.{ranks, times, total, total_of}
+use Rattle.mx_orders.specs.Ranks.{times, total_of}
+use Rattle.mx_orders.proofs.ReadyLemmas.{total}
 
 pub at_most : (r q : ℕ) → is_gt (nat_cmp r q) ≡ false → r ≤ q
 at_most r q e = grind (arith, nat_tests)
@@ -81,6 +82,9 @@ module _ (cmp : ℕ → ℕ → Ordering) (o : IsTotalOrder cmp) where
       rising-at xs u v r.1 n m
 
 -- ---- all ranks
+
+abbrev pub ranks : List ℕ → List ℕ
+ranks xs = range_with_len 0 (length xs)
 
 pub map-ranks : (xs : List ℕ) → map (slice_index xs) (ranks xs) ≡ xs
 map-ranks xs = sym (fill_by_all (slice_index xs) xs (length xs) 0 refl (λ k h. refl))

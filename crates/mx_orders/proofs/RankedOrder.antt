@@ -13,7 +13,7 @@ use Rattle.mx_graph.specs.Record.{Row, is_in}
 use Rattle.mx_graph.specs.Graph.{IsSound}
 use Rattle.mx_graph.proofs.Closure.{all-in}
 use Rattle.mx_orders.specs.PowerOrder.{power_cmp, power_order}
-use Rattle.mx_orders.specs.Ranks.{before as before_by_rank, ranks, times, total, total_of}
+use Rattle.mx_orders.specs.Ranks.{before as before_by_rank, times, total_of}
 use Rattle.mx_orders.proofs.Members.{In, Distinct, in_map, in_map-from}
 use Rattle.mx_orders.proofs.Permutations.{cut, cut-cases, cut-distinct, cut-gone, cut-length, cut-within}
 use Rattle.mx_orders.proofs.LeastOrder.{IsReady, IsNext, IsRest, lowest, lowest-ready}
@@ -22,8 +22,8 @@ use Rattle.mx_orders.proofs.CountLemmas.{all-at}
 use Rattle.mx_orders.specs.Mainline.{sorted}
 use Rattle.mx_orders.proofs.PowerOrderLaws.{before, power_cmp-total, chain-below, power_order-next, power_order-permutes}
 use Rattle.mx_orders.proofs.FollowLemmas.{cited-at}
-use Rattle.mx_orders.proofs.RankLemmas.{at_any, at_most, total_of-ranks, in_at, distinct-at, distinct-map, rising-at, map-ranks, in_ranks, ranks-below, distinct-ranks}
-use Rattle.mx_orders.proofs.ReadyLemmas.{IsWaiting, ready-follows_none, ready-from, taken, rest}
+use Rattle.mx_orders.proofs.RankLemmas.{ranks, at_any, at_most, total_of-ranks, in_at, distinct-at, distinct-map, rising-at, map-ranks, in_ranks, ranks-below, distinct-ranks}
+use Rattle.mx_orders.proofs.ReadyLemmas.{total, IsWaiting, ready-follows_none, ready-from, taken, rest}
 
 -- events of the record, each once, in the order of their power
 pub record IsByPower (rows : List Row) (xs : List ℕ) : Type 0 where

@@ -2,12 +2,13 @@
 use Rattle.std.proofs.Common.{◌≡◌, ℕ, ◌+◌, ◌-◌, ◌==◌, ◌<◌, Bool, true, false, cond, ◌&&◌, ◌||◌, ◌⊎◌, inl, inr, List, [], ◌∷◌, refl, sym, ap, subst, ◌∙◌, arith, eq-eqb, eqb-true}
 use Rattle.std.specs.Ordering.{nat_cmp, is_eq}
 use Rattle.std.proofs.lemmas.List.Sums.{sum_by-cons}
+use Rattle.std.specs.List.{sum_by}
 use Rattle.mx_graph.specs.Record.{is_in}
 use Rattle.mx_graph.proofs.Closure.{or_cases, or_left, or_right}
 use Rattle.mx_graph.proofs.WalkLemmas.{equal_to, equal_from}
 use Rattle.mx_orders.proofs.Members.{In, Distinct}
 use Rattle.mx_orders.proofs.Permutations.{cut, cut-cases, cut-distinct, cut-gone, cut-within}
-use Rattle.mx_orders.specs.Ranks.{times, total}
+use Rattle.mx_orders.specs.Ranks.{times}
 
 -- ---- how often a list has a number
 
@@ -44,6 +45,9 @@ times-none p (x ∷ xs) e = by (x == p) refl (times-none p xs)
         omega arith
 
 -- ---- how often a rank is among the followers of those that are left
+
+abbrev pub total : (ℕ → List ℕ) → List ℕ → ℕ → ℕ
+total followers left p = sum_by (λ u. times p (followers u)) left
 
 module _ (followers : ℕ → List ℕ) where
   total-cons : (u : ℕ) (us : List ℕ) (p : ℕ) → total followers (u ∷ us) p ≡ times p (followers u) + total followers us p

@@ -1,13 +1,10 @@
 -- Events by their ranks, which are their places in a list, and which of these follow which, for private clauses.
 use Rattle.std.specs.Prelude.{◌≡◌, ℕ, ◌<◌, ◌==◌, Bool, List, [], ◌∷◌, length, slice_index, Option, Some, Vec}
-use Rattle.std.specs.List.{range_with_len, list_any, sum_by, count_by}
+use Rattle.std.specs.List.{list_any, sum_by, count_by}
 use Rattle.std.specs.declared.alloc.Global.{Global}
 use Rattle.mx_redact.specs.Fields.{is_some_and}
 use Rattle.mx_graph.specs.Record.{Row, is_in}
 use Rattle.mx_graph.specs.Graph.{auth_chain}
-
-abbrev pub ranks : List ℕ → List ℕ
-ranks xs = range_with_len 0 (length xs)
 
 -- the event of rank u stands in the auth chain of the event of rank p
 abbrev pub before : List Row → List ℕ → ℕ → ℕ → Bool
@@ -25,10 +22,6 @@ leads found u xs = list_any (λ x. is_some_and (λ v. v == u) (found x)) xs
 -- how often a list has a number
 abbrev pub times : ℕ → List ℕ → ℕ
 times p xs = count_by (λ x. x == p) xs
-
--- how often p is among the followers of these ranks
-abbrev pub total : (ℕ → List ℕ) → List ℕ → ℕ → ℕ
-total followers left p = sum_by (λ u. times p (followers u)) left
 
 -- how often p is in these lists
 abbrev pub total_of : List (Vec ℕ Global) → ℕ → ℕ

@@ -5,7 +5,7 @@ ghost use Rattle.std.specs.Ordering.{nat_cmp};
 ghost use Rattle.mx_graph.specs.Edges.{cited};
 ghost use Rattle.mx_graph.specs.Record.{is_in};
 ghost use Rattle.mx_orders.specs.Lists.{Distinct};
-ghost use Rattle.mx_orders.specs.Ranks.{before, leads, ranks, total, total_of};
+ghost use Rattle.mx_orders.specs.Ranks.{before, leads, total_of};
 
 use crate::ranking::ranks_of;
 use mx_graph::{EventNo, Graph};

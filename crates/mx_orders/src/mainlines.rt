@@ -47,8 +47,8 @@ impl Mainline {
 
     /// The place in the mainline, from 0, of the first power levels event that lies there of those that an event rests
     /// on: the one among its auth events, the one among that one's, and so on. The event itself does not count. `None`
-    /// where none lies there: the position is infinite. It takes no memory, and the time is that of the auth events of
-    /// these, times a logarithm of the mainline.
+    /// where none lies there: the position is infinite. It takes no memory. The time is that of the auth events of these
+    /// and of a search in the mainline for each, which is logarithmic.
     pub fn position(&self, graph: &Graph, event: EventNo) -> Option<u32>
         ensures { result ≡ definition.mainline_position graph.now self.now event }
     {

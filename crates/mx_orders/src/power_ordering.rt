@@ -14,8 +14,8 @@ use std::alloc::{AllocError, Global};
 /// greater level of its sender by the event's own auth events, then the one with the earlier `origin_server_ts`, then
 /// the one with the lesser event id by bytes.
 ///
-/// The time is that of the auth chains and of a sort of the events. Source: the Matrix specification, Room Version 2,
-/// "State resolution", reverse topological power ordering.
+/// The time is that of the auth chains of the events, times a logarithm, and of a sort of the events. Source: the Matrix
+/// specification, Room Version 2, "State resolution", reverse topological power ordering.
 pub fn power_order(
     alloc: Global,
     graph: &Graph,
