@@ -1,0 +1,188 @@
+-- Rising lists as sets of events.
+use Rattle.std.proofs.Common.{◌≡◌, ℕ, zero, suc, ◌+◌, ◌==◌, ◌≤◌, ◌<◌, Bool, true, false, cond, ◌&&◌, ◌||◌, ◌⊎◌, inl, inr, List, [], ◌∷◌, ◌++◌, length, filter, flat_map, map, refl, sym, ap, ap₂, subst, ◌∙◌, arith, eq-eqb, eqb-true}
+use Rattle.std.proofs.lemmas.Bool.{eqb-false}
+use Rattle.std.proofs.lemmas.Bool.Decides.{nat_tests}
+use Rattle.std.proofs.lemmas.List.Folds.{list_any-append}
+use Rattle.std.specs.declared.cmp.Ordering.TheVariants.{Less}
+use Rattle.std.specs.Ordering.{nat_cmp, is_eq}
+use Rattle.std.specs.List.{All, AllByRecursion, list_any, list_all, range_with_len}
+use Rattle.std.specs.List.Sorted.{IsStrictlySortedBy}
+use Rattle.mx_graph.specs.Record.{Row, is_in, places, events_where}
+use Rattle.mx_graph.specs.Edges.{Rises}
+use Rattle.mx_graph.proofs.Members.{In, in_filter-parts}
+use Rattle.mx_graph.proofs.Closure.{or_cases, or_left, or_right, same_tests, range-parts, is_in-from, is_in-to}
+use Rattle.mx_orders.specs.Lists.{Distinct}
+
+-- ---- members
+
+tied-is : (p x : ℕ) → is_eq (nat_cmp p x) ≡ (x == p)
+tied-is p x = grind (arith, nat_tests)
+
+pub contains-is : (xs : List ℕ) (p : ℕ) → list_any (λ k. is_eq (nat_cmp p k)) xs ≡ is_in xs p
+contains-is [] p = refl
+contains-is (x ∷ xs) p = ap₂ (λ a b. a || b) (tied-is p x) (contains-is xs p)
+
+pub is_in-append : (xs ys : List ℕ) (p : ℕ) → is_in (xs ++ ys) p ≡ (is_in xs p || is_in ys p)
+is_in-append xs ys p = list_any-append (λ x. x == p) xs ys
+
+in_cond : (b : Bool) (x : ℕ) (xs : List ℕ) (p : ℕ) → is_in (cond b (x ∷ xs) xs) p ≡ ((b && (x == p)) || is_in xs p)
+in_cond true x xs p = refl
+in_cond false x xs p = refl
+
+and-false : (s : Bool) → (s && false) ≡ false
+and-false true = refl
+and-false false = refl
+
+kept : (tx a s tp : Bool) → (a ≡ true → tx ≡ tp) → ((tx && a) || (s && tp)) ≡ ((a || s) && tp)
+kept true false s tp h = refl
+kept false false s tp h = refl
+kept true true s tp h = h refl
+kept false true s tp h = ap (λ z. s && z) (sym (h refl)) ∙ and-false s ∙ h refl
+
+pub is_in-filter : (test : ℕ → Bool) (xs : List ℕ) (p : ℕ) → is_in (filter test xs) p ≡ (is_in xs p && test p)
+is_in-filter test [] p = refl
+is_in-filter test (x ∷ xs) p =
+    in_cond (test x) x (filter test xs) p ∙ ap (λ b. (test x && (x == p)) || b) (is_in-filter test xs p)
+    ∙ kept (test x) (x == p) (is_in xs p) (test p) (λ e. ap test (eqb-true x p e))
+
+or-and : (a b t : Bool) → ((a && t) || (b && t)) ≡ ((a || b) && t)
+or-and true b true = refl
+or-and true true false = refl
+or-and true false false = refl
+or-and false b t = refl
+
+-- the members of some lists that pass a test
+pub is_in-gathered : (test : ℕ → Bool) (cs : List (List ℕ)) (p : ℕ) → is_in (flat_map (filter test) cs) p ≡ (list_any (λ c. is_in c p) cs && test p)
+is_in-gathered test [] p = refl
+is_in-gathered test (c ∷ cs) p =
+    is_in-append (filter test c) (flat_map (filter test) cs) p
+    ∙ ap₂ (λ a b. a || b) (is_in-filter test c p) (is_in-gathered test cs p)
+    ∙ or-and (is_in c p) (list_any (λ d. is_in d p) cs) (test p)
+
+module _ {A : Type 0} (P : A → Type 0) where
+  pub all-at : (xs : List A) → All P xs → (x : A) → In x xs → P x
+  all-at [] h x m = absurd m
+  all-at (y ∷ ys) h x (inl e) = subst P (sym e) (h zero y (omega arith))
+  all-at (y ∷ ys) h x (inr m) = all-at ys (λ k d l. h (suc k) d (omega arith)) x m
+
+  pub all-of : (xs : List A) → ((x : A) → In x xs → P x) → All P xs
+  all-of [] h k d l = absurd (omega arith)
+  all-of (x ∷ xs) h zero d l = h x (inl refl)
+  all-of (x ∷ xs) h (suc k) d l = all-of xs (λ y m. h y (inr m)) k d (omega arith)
+
+-- ---- lists by a map
+
+module _ {A B : Type 0} (f : A → B) where
+  pub list_all-map : (test : B → Bool) (xs : List A) → list_all (λ x. test (f x)) xs ≡ list_all test (map f xs)
+  list_all-map test [] = refl
+  list_all-map test (x ∷ xs) = ap (λ b. test (f x) && b) (list_all-map test xs)
+
+  pub flat_map-map : {C : Type 0} (g : B → List C) (xs : List A) → flat_map (λ x. g (f x)) xs ≡ flat_map g (map f xs)
+  flat_map-map g [] = refl
+  flat_map-map g (x ∷ xs) = ap (λ ys. g (f x) ++ ys) (flat_map-map g xs)
+
+  pub map-map : {C : Type 0} (g : B → C) (xs : List A) → map (λ x. g (f x)) xs ≡ map g (map f xs)
+  map-map g [] = refl
+  map-map g (x ∷ xs) = ap (λ ys. g (f x) ∷ ys) (map-map g xs)
+
+-- ---- rising lists
+
+less-from : (x z : ℕ) → nat_cmp x z ≡ Less → x < z
+less-from x z e = grind (arith, nat_tests)
+
+after_first : (x : ℕ) (xs : List ℕ) → AllByRecursion (λ y. nat_cmp x y ≡ Less) xs → (y : ℕ) → is_in xs y ≡ true → x < y
+after_first x [] h y e = absurd (cc e)
+after_first x (z ∷ zs) h y e = by (λ k. after_first x zs h.1 y k) (or_cases (z == y) (is_in zs y) e)
+  where
+    by : (is_in zs y ≡ true → x < y) → ((z == y) ≡ true) ⊎ (is_in zs y ≡ true) → x < y
+    by later (inl k) = let s : z ≡ y = eqb-true z y k in let l : x < z = less-from x z h.0 in omega arith
+    by later (inr k) = later k
+
+pub rises-from : (xs : List ℕ) → IsStrictlySortedBy nat_cmp xs → Rises xs
+unfolding IsStrictlySortedBy
+rises-from [] h = tt
+rises-from (x ∷ xs) h = (λ y m. after_first x xs h.0 y m, rises-from xs h.1)
+
+pub rises-distinct : (xs : List ℕ) → Rises xs → Distinct xs
+rises-distinct [] r = tt
+rises-distinct (x ∷ xs) r = (λ m. let l : x < x = r.0 x (is_in-from x xs m) in omega arith, rises-distinct xs r.1)
+
+no_numbers : (ns : List ℕ) → filter (is_in []) ns ≡ []
+no_numbers [] = refl
+no_numbers (n ∷ ns) = no_numbers ns
+
+-- a number that is before all of a rising list isn't in it
+not_in : (p : ℕ) (xs : List ℕ) → ((y : ℕ) → is_in xs y ≡ true → p < y) → is_in xs p ≡ false
+not_in p xs h = by (is_in xs p) refl
+  where
+    by : (b : Bool) → is_in xs p ≡ b → is_in xs p ≡ false
+    by true e = let l : p < p = h p e in absurd (omega arith)
+    by false e = e
+
+-- a rising list of the n numbers from a on is the part of them that is in it
+abbrev IsPart : ℕ → ℕ → Type 0
+IsPart a n = (xs : List ℕ) → Rises xs → ((y : ℕ) → is_in xs y ≡ true → (a ≤ y) × (y < a + n)) → filter (is_in xs) (range_with_len a n) ≡ xs
+
+rising-filter : (a n : ℕ) → IsPart a n
+rising-filter a n [] r h = no_numbers (range_with_len a n)
+rising-filter a zero (x ∷ xs) r h = let b = h x (or_left (x == x) _ (eq-eqb x x refl)) in let low : a ≤ x = b.0 in let high : x < a + 0 = b.1 in absurd (omega arith)
+rising-filter a (suc n) (x ∷ xs) r h = by (λ ys s k. rising-filter (a + 1) n ys s k) (x == a) refl
+  where
+    first : (a ≤ x) × (x < a + suc n)
+    first = h x (or_left (x == x) _ (eq-eqb x x refl))
+
+    later : (y : ℕ) → is_in xs y ≡ true → x < y
+    later = r.0
+
+    within : (y : ℕ) → is_in xs y ≡ true → (a ≤ y) × (y < a + suc n)
+    within y e = h y (or_right (x == y) (is_in xs y) e)
+
+    -- the first number is a
+    here : IsPart (a + 1) n → x ≡ a → filter (is_in (x ∷ xs)) (range_with_len (a + 1) n) ≡ xs
+    here next e =
+        same_tests (is_in (x ∷ xs)) (is_in xs) (range_with_len (a + 1) n)
+        (λ p k. ap (λ b. b || is_in xs p) (other p (range-parts (a + 1) n p k).0))
+        ∙ next xs r.1 (λ y m. above_first y m)
+      where
+        other : (p : ℕ) → a + 1 ≤ p → (x == p) ≡ false
+        other p l = grind (arith, nat_tests)
+
+        above_first : (y : ℕ) → is_in xs y ≡ true → (a + 1 ≤ y) × (y < a + 1 + n)
+        above_first y m = let l : x < y = later y m in let b = within y m in let u : y < a + suc n = b.1 in (omega arith, omega arith)
+
+    -- it is above a
+    past : IsPart (a + 1) n → a < x → filter (is_in (x ∷ xs)) (range_with_len (a + 1) n) ≡ x ∷ xs
+    past next l = next (x ∷ xs) r (λ y m. above_a y (or_cases (x == y) (is_in xs y) m))
+      where
+        above_a : (y : ℕ) → ((x == y) ≡ true) ⊎ (is_in xs y ≡ true) → (a + 1 ≤ y) × (y < a + 1 + n)
+        above_a y (inl e) = let f : x ≡ y = eqb-true x y e in let u : x < a + suc n = first.1 in (omega arith, omega arith)
+        above_a y (inr e) = let g : x < y = later y e in let b = within y e in let u : y < a + suc n = b.1 in (omega arith, omega arith)
+
+    by : IsPart (a + 1) n → (b : Bool) → (x == a) ≡ b → filter (is_in (x ∷ xs)) (range_with_len a (suc n)) ≡ x ∷ xs
+    by next true e =
+        ap (λ b. cond b (a ∷ filter (is_in (x ∷ xs)) (range_with_len (a + 1) n)) (filter (is_in (x ∷ xs)) (range_with_len (a + 1) n))) (or_left (x == a) (is_in xs a) e)
+        ∙ ap (λ ys. a ∷ ys) (here next (eqb-true x a e)) ∙ ap (λ w. w ∷ xs) (sym (eqb-true x a e))
+    by next false e =
+        let differ = eqb-false x a e in
+        let low : a ≤ x = first.0 in
+        let l : a < x = omega arith in
+        ap (λ b. cond b (a ∷ filter (is_in (x ∷ xs)) (range_with_len (a + 1) n)) (filter (is_in (x ∷ xs)) (range_with_len (a + 1) n)))
+        (not_in a (x ∷ xs) (λ y m. by_member l y (or_cases (x == y) (is_in xs y) m)))
+        ∙ past next l
+      where
+        by_member : a < x → (y : ℕ) → ((x == y) ≡ true) ⊎ (is_in xs y ≡ true) → a < y
+        by_member l y (inl f) = let g : x ≡ y = eqb-true x y f in omega arith
+        by_member l y (inr f) = let g : x < y = later y f in omega arith
+
+-- a rising list of events of a record, by the test of its members
+pub rising-is : (rows : List Row) (xs : List ℕ) (test : ℕ → Bool) → Rises xs → ((p : ℕ) → is_in xs p ≡ true → p < length rows) → ((p : ℕ) → is_in xs p ≡ test p) → xs ≡ events_where rows test
+rising-is rows xs test r h same =
+    sym (rising-filter 0 (length rows) xs r (λ y e. let l : y < length rows = h y e in (omega arith, omega arith)))
+    ∙ same_tests (is_in xs) test (places rows) (λ p k. same p)
+
+-- a set of events has events of the record alone
+pub where-known : (rows : List Row) (test : ℕ → Bool) (p : ℕ) → is_in (events_where rows test) p ≡ true → p < length rows
+where-known rows test p e =
+    let b = range-parts 0 (length rows) p (in_filter-parts test p (places rows) (is_in-to p (events_where rows test) e)).0 in
+    let high : p < 0 + length rows = b.1 in
+    omega arith

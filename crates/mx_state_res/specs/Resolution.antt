@@ -1,0 +1,101 @@
+-- State resolution, version 2 (Matrix specification, Room Version 2, state resolution).
+use Rattle.std.specs.Prelude.{ℕ, ◌==◌, Bool, not, ◌&&◌, ◌||◌, if◌then◌else◌, List, [], ◌∷◌, codes, map, filter, flat_map, fold, Option, None, Some, option_and_then, is_none}
+use Rattle.std.specs.Option.{option_or}
+use Rattle.std.specs.List.{list_any, list_all}
+use Rattle.std.specs.FinMap.Entries.{put}
+use Rattle.mx_redact.specs.Fields.{Event, is_some_and, is_text}
+use Rattle.mx_pdu.specs.Event.{has_kind, has_membership, is_state, sender_of, state_key_of}
+use Rattle.mx_auth.specs.StateView.{StateView}
+use Rattle.mx_auth.specs.Rules.{Key, same_key, needed_keys, rules}
+use Rattle.mx_graph.specs.Record.{Row, row, event, events_where, is_in}
+use Rattle.mx_graph.specs.Graph.{auth_chain}
+use Rattle.mx_orders.specs.StateMap.{State, key_cmp, entry, events_of, with_event, view_by, auth_event_at}
+use Rattle.mx_orders.specs.PowerOrder.{power_order}
+use Rattle.mx_orders.specs.Mainline.{power_key, mainline, mainline_order}
+
+-- ---- Definitions
+
+-- power events: power levels, join rules, and another user's leave or ban
+unfoldable pub is_removal : Event → Bool
+is_removal e =
+    has_kind (codes "m.room.member") e && (has_membership (codes "leave") e || has_membership (codes "ban") e)
+    && not (is_text (sender_of e) (state_key_of e))
+
+unfoldable pub is_power_event : Event → Bool
+is_power_event e =
+    is_state e && (has_kind (codes "m.room.power_levels") e || has_kind (codes "m.room.join_rules") e || is_removal e)
+
+abbrev pub has_entry : Key × ℕ → State → Bool
+has_entry e s = is_some_and (λ p. p == e.1) (entry s e.0)
+
+abbrev pub in_every : List State → Key × ℕ → Bool
+in_every states e = list_all (has_entry e) states
+
+-- the unconflicted state map: the entries that every state has
+unfoldable pub unconflicted : List State → State
+unconflicted [] = []
+unconflicted (s ∷ states) = filter (in_every states) s
+
+-- the conflicted state set: the events of all other entries
+unfoldable pub conflicted : List Row → List State → List ℕ
+conflicted rows states =
+    let others = flat_map (filter (λ e. not (in_every states e))) states in
+    events_where rows (is_in (events_of others))
+
+-- the auth difference: the events in the auth chains of some states that are not in those of all
+unfoldable pub auth_difference : List Row → List State → List ℕ
+auth_difference rows states =
+    let chains = map (λ s. auth_chain rows (events_of s)) states in
+    events_where rows (λ p. list_any (λ chain. is_in chain p) chains && not (list_all (λ chain. is_in chain p) chains))
+
+-- the full conflicted set
+unfoldable pub full_conflicted : List Row → List State → List ℕ
+full_conflicted rows states =
+    let events = conflicted rows states in
+    let difference = auth_difference rows states in
+    events_where rows (λ p. is_in events p || is_in difference p)
+
+-- ---- Iterative auth checks
+
+-- the event's auth event with a key that it needs, unless that one was rejected
+abbrev pub usable_auth_event : List Row → Event → Key → Option ℕ
+usable_auth_event rows e key =
+    if list_any (same_key key) (needed_keys e) then option_and_then (λ p. if (row rows p).rejected then None else Some p) (auth_event_at rows e key) else None
+
+-- the state in which an event is judged: what the state lacks is taken from the event's auth events
+abbrev pub judged_in : List Row → State → Event → StateView
+judged_in rows s e = view_by rows (λ key. option_or (entry s key) (usable_auth_event rows e key))
+
+-- the rules allow the event in that state
+unfoldable pub is_allowed : List Row → State → Event → Bool
+is_allowed rows s e = is_none (rules e (judged_in rows s e))
+
+unfoldable pub after_check : List Row → State → ℕ → State
+after_check rows s p = if is_state (event rows p) && is_allowed rows s (event rows p) then with_event s (event rows p) p else s
+
+-- the state with those of these events, in order, that are allowed
+abbrev pub iterative_auth_checks : List Row → State → List ℕ → State
+iterative_auth_checks rows s events = fold (after_check rows) s events
+
+-- ---- Algorithm
+
+-- the power events of the full conflicted set, and its events in their auth chains
+unfoldable pub power_events : List Row → List ℕ → List ℕ
+power_events rows full =
+    let power = filter (λ p. is_power_event (event rows p)) full in
+    let chain = auth_chain rows power in
+    filter (λ p. is_in power p || is_in chain p) full
+
+-- a state, with the entries of another put over it
+abbrev pub overwritten : State → State → State
+overwritten s others = fold (λ t e. put key_cmp e.0 e.1 t) s others
+
+-- the resolved state of these states
+unfoldable pub resolve : List Row → List State → State
+resolve rows states =
+    let full = full_conflicted rows states in
+    let power = power_events rows full in
+    let others = filter (λ p. not (is_in power p)) full in
+    let partial = iterative_auth_checks rows (unconflicted states) (power_order rows power) in
+    let checked = iterative_auth_checks rows partial (mainline_order rows (mainline rows (entry partial power_key)) others) in
+    overwritten checked (unconflicted states)

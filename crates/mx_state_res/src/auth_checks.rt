@@ -1,0 +1,51 @@
+// Iterative auth checks.
+ghost use Rattle.std.specs.Prelude.{◌≡◌, ◌<◌, All, OnOk, length};
+ghost use Rattle.mx_state_res.specs.Resolution as definition;
+
+use crate::judged_states::is_allowed;
+use crate::state_maps::StateMap;
+use mx_graph::{EventNo, Graph};
+use std::alloc::AllocError;
+
+/// Puts each of these events, in order, into a state that allows it, if it is a state event.
+pub(crate) fn check_each(
+    graph: &Graph,
+    state: &mut StateMap,
+    events: &[EventNo],
+) -> Result<(), AllocError>
+    requires events { All (λ event. event < length graph.now) events.now }
+    requires known { All (λ e. e.1 < length graph.now) state.old }
+    ensures ok { OnOk result (state.new ≡ definition.iterative_auth_checks graph.now state.old events.now) }
+    ensures known { OnOk result (All (λ e. e.1 < length graph.now) state.new) }
+{
+    for event in events {
+        check(graph, state, *event)?;
+    }
+    Ok(())
+}
+
+#[tactic(auto, unfolding(crate::specs::Resolution::after_check))]
+fn check(graph: &Graph, state: &mut StateMap, number: EventNo) -> Result<(), AllocError>
+    requires number { number < length graph.now }
+    requires known { All (λ e. e.1 < length graph.now) state.old }
+    ensures ok { OnOk result (state.new ≡ definition.after_check graph.now state.old number) }
+    ensures known { OnOk result (All (λ e. e.1 < length graph.now) state.new) }
+{
+    let event = &graph.row(number).event;
+    if let Some(state_key) = event.state_key() {
+        if is_allowed(graph, state, number) {
+            state.insert(event.kind(), state_key, number)?;
+        }
+    }
+    Ok(())
+}
+
+/// Puts the entries of another state over a state.
+pub(crate) fn overwrite(state: &mut StateMap, others: &StateMap) -> Result<(), AllocError>
+    ensures { OnOk result (state.new ≡ definition.overwritten state.old others.now) }
+{
+    for entry in others.entries() {
+        state.insert(entry.kind(), entry.state_key(), entry.event())?;
+    }
+    Ok(())
+}

@@ -1,0 +1,196 @@
+// Where the states of a room agree, and where they are in conflict.
+ghost use Rattle.std.specs.Prelude.{◌≡◌, ◌<◌, ◌++◌, All, IfOk, OnOk, filter, flat_map, length, map, not};
+ghost use Rattle.std.specs.List.{list_all};
+ghost use Rattle.mx_graph.specs.Edges.{Rises};
+ghost use Rattle.mx_graph.specs.Graph.{auth_chain};
+ghost use Rattle.mx_graph.specs.Record.{is_in};
+ghost use Rattle.mx_orders.specs.StateMap.{events_of as events_in};
+ghost use Rattle.mx_state_res.specs.Resolution as definition;
+
+use crate::entries::StateEntry;
+use crate::event_sets::{rising, stands_in};
+use crate::state_maps::StateMap;
+use mx_graph::{EventNo, Graph};
+use std::alloc::{AllocError, Global};
+
+/// The unconflicted state: the entries that every state has.
+pub(crate) fn unconflicted(
+    alloc: Global,
+    states: &[&StateMap],
+) -> Result<StateMap, AllocError>
+    ensures { IfOk result (λ agreed. agreed ≡ definition.unconflicted (map (λ s. s.now) states.now)) }
+{
+    match states.split_first() {
+        Some((state, others)) => shared(alloc, state, others),
+        None => Ok(StateMap::new(alloc)),
+    }
+}
+
+// The entries of a state that each of the others has.
+fn shared(
+    alloc: Global,
+    state: &StateMap,
+    others: &[&StateMap],
+) -> Result<StateMap, AllocError>
+    ensures { IfOk result (λ agreed. agreed
+        ≡ filter (λ e. list_all (λ s. definition.has_entry e s.now) others.now) state.now) }
+{
+    let mut agreed = StateMap::new(alloc);
+    for entry in state.entries() {
+        if is_in_every(others, entry) {
+            agreed.insert(entry.kind(), entry.state_key(), entry.event())?;
+        }
+    }
+    Ok(agreed)
+}
+
+// Whether every state has an entry.
+fn is_in_every(states: &[&StateMap], entry: &StateEntry) -> bool
+    ensures { result ≡ list_all (λ s. definition.has_entry entry.now s.now) states.now }
+{
+    states.iter().all(|state| has_entry(state, entry))
+}
+
+fn has_entry(state: &StateMap, entry: &StateEntry) -> bool
+    ensures { result ≡ definition.has_entry entry.now state.now }
+{
+    match state.get(entry.kind(), entry.state_key()) {
+        Some(event) => event == entry.event(),
+        None => false,
+    }
+}
+
+/// The conflicted state set: the events of all other entries, rising.
+pub(crate) fn conflicted(
+    alloc: Global,
+    graph: &Graph,
+    states: &[&StateMap],
+) -> Result<Vec<EventNo>, AllocError>
+    requires { All (λ s. All (λ e. e.1 < length graph.now) s.now) states.now }
+    ensures { IfOk result (λ events. events.items ≡ definition.conflicted graph.now (map (λ s. s.now) states.now)) }
+{
+    let found = conflicted_events(alloc, states)?;
+    let events = rising(alloc, &found)?;
+    Ok(events)
+}
+
+fn conflicted_events(alloc: Global, states: &[&StateMap]) -> Result<Vec<EventNo>, AllocError>
+    ensures { IfOk result (λ found. found.items ≡ flat_map
+        (λ s. events_in (filter (λ e. not (list_all (λ t. definition.has_entry e t.now) states.now)) s.now)) states.now) }
+{
+    let mut found = Vec::new(alloc);
+    for state in states {
+        push_conflicted(&mut found, states, state)?;
+    }
+    Ok(found)
+}
+
+fn push_conflicted(
+    found: &mut Vec<EventNo>,
+    states: &[&StateMap],
+    state: &StateMap,
+) -> Result<(), AllocError>
+    ensures { OnOk result (found.new.items ≡ found.old.items
+        ++ events_in (filter (λ e. not (list_all (λ t. definition.has_entry e t.now) states.now)) state.now)) }
+{
+    for entry in state.entries() {
+        if !is_in_every(states, entry) {
+            found.push(entry.event())?;
+        }
+    }
+    Ok(())
+}
+
+/// The auth difference, rising: the events in the auth chains of some states that are not in those of all.
+pub(crate) fn auth_difference(
+    alloc: Global,
+    graph: &Graph,
+    states: &[&StateMap],
+) -> Result<Vec<EventNo>, AllocError>
+    ensures { IfOk result (λ events. events.items ≡ definition.auth_difference graph.now (map (λ s. s.now) states.now)) }
+{
+    let chains = auth_chains(alloc, graph, states)?;
+    let found = unshared_events(alloc, &chains)?;
+    let events = rising(alloc, &found)?;
+    Ok(events)
+}
+
+// The auth chains of the events of each state.
+fn auth_chains(
+    alloc: Global,
+    graph: &Graph,
+    states: &[&StateMap],
+) -> Result<Vec<Vec<EventNo>>, AllocError>
+    ensures chains { IfOk result (λ chains. map (λ c. c.items) chains.items
+        ≡ map (λ s. auth_chain graph.now (events_in s.now)) states.now) }
+{
+    let mut chains = Vec::new(alloc);
+    for state in states {
+        let events = events_of(alloc, state)?;
+        let chain = graph.auth_chain(alloc, &events)?;
+        chains.push(chain)?;
+    }
+    Ok(chains)
+}
+
+fn events_of(alloc: Global, state: &StateMap) -> Result<Vec<EventNo>, AllocError>
+    ensures { IfOk result (λ events. events.items ≡ events_in state.now) }
+{
+    state
+        .entries()
+        .iter()
+        .map(|entry| entry.event())
+        .collect(alloc)
+}
+
+// The events of the chains that are not in all of them.
+fn unshared_events(alloc: Global, chains: &[Vec<EventNo>]) -> Result<Vec<EventNo>, AllocError>
+    ensures { IfOk result (λ found. found.items
+        ≡ flat_map (λ c. filter (λ p. not (list_all (λ d. is_in d.items p) chains.now)) c.items) chains.now) }
+{
+    let mut found = Vec::new(alloc);
+    for chain in chains {
+        push_unshared(&mut found, chains, chain)?;
+    }
+    Ok(found)
+}
+
+fn push_unshared(
+    found: &mut Vec<EventNo>,
+    chains: &[Vec<EventNo>],
+    chain: &[EventNo],
+) -> Result<(), AllocError>
+    ensures { OnOk result (found.new.items
+        ≡ found.old.items ++ filter (λ p. not (list_all (λ d. is_in d.items p) chains.now)) chain.now) }
+{
+    for event in chain {
+        if !is_shared(chains, *event) {
+            found.push(*event)?;
+        }
+    }
+    Ok(())
+}
+
+fn is_shared(chains: &[Vec<EventNo>], event: EventNo) -> bool
+    ensures { result ≡ list_all (λ d. is_in d.items event) chains.now }
+{
+    chains.iter().all(|chain| stands_in(chain, event))
+}
+
+/// The full conflicted set, rising: the conflicted events and the auth difference.
+pub(crate) fn full_conflicted(
+    alloc: Global,
+    graph: &Graph,
+    states: &[&StateMap],
+) -> Result<Vec<EventNo>, AllocError>
+    requires { All (λ s. All (λ e. e.1 < length graph.now) s.now) states.now }
+    ensures set { IfOk result (λ events. events.items ≡ definition.full_conflicted graph.now (map (λ s. s.now) states.now)) }
+    ensures rises { IfOk result (λ events. Rises events.items) }
+    ensures known { IfOk result (λ events. All (λ event. event < length graph.now) events.items) }
+{
+    let mut found = conflicted(alloc, graph, states)?;
+    let difference = auth_difference(alloc, graph, states)?;
+    found.extend_from_slice(&difference)?;
+    let events = rising(alloc, &found)?;
+    Ok(events)
+}

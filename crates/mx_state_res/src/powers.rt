@@ -1,0 +1,77 @@
+// Power events.
+ghost use Rattle.std.specs.Prelude.{◌≡◌, ◌<◌, All, IfOk, filter, length};
+ghost use Rattle.std.specs.Option.{option_copied};
+ghost use Rattle.mx_redact.specs.Fields.{is_text};
+ghost use Rattle.mx_graph.specs.Record as record_of;
+ghost use Rattle.mx_state_res.specs.Resolution as definition;
+
+use crate::event_sets::within;
+use mx_graph::{EventNo, Graph};
+use mx_pdu::Pdu;
+use mx_redact::text_at;
+use std::alloc::{AllocError, Global};
+
+/// The power events of these events, and those of them that are in the auth chains of the power events.
+pub(crate) fn power_events(
+    alloc: Global,
+    graph: &Graph,
+    full: &[EventNo],
+) -> Result<Vec<EventNo>, AllocError>
+    requires { All (λ event. event < length graph.now) full.now }
+    ensures { IfOk result (λ events. events.items ≡ definition.power_events graph.now full.now) }
+{
+    let power = own_power_events(alloc, graph, full)?;
+    let chain = graph.auth_chain(alloc, &power)?;
+    let events = within(alloc, full, &power, &chain)?;
+    Ok(events)
+}
+
+fn own_power_events(
+    alloc: Global,
+    graph: &Graph,
+    events: &[EventNo],
+) -> Result<Vec<EventNo>, AllocError>
+    requires { All (λ event. event < length graph.now) events.now }
+    ensures { IfOk result (λ power. power.items
+        ≡ filter (λ p. definition.is_power_event (record_of.event graph.now p)) events.now) }
+{
+    let mut power = Vec::new(alloc);
+    for event in events {
+        if is_power_event(&graph.row(*event).event) {
+            power.push(*event)?;
+        }
+    }
+    Ok(power)
+}
+
+// Whether an event sets power levels or join rules, or removes another user from the room.
+#[tactic(auto, unfolding(crate::specs::Resolution::is_power_event))]
+fn is_power_event(event: &Pdu) -> bool
+    ensures { result ≡ definition.is_power_event event.now }
+{
+    event.state_key().is_some()
+        && (event.kind() == "m.room.power_levels"
+            || event.kind() == "m.room.join_rules"
+            || is_removal(event))
+}
+
+// Whether an event is a leave or a ban of another user than its sender.
+#[tactic(auto, unfolding(crate::specs::Resolution::is_removal))]
+fn is_removal(event: &Pdu) -> bool
+    ensures { result ≡ definition.is_removal event.now }
+{
+    let membership = text_at(event.content(), "membership");
+    event.kind() == "m.room.member"
+        && (is_that_text(membership, "leave") || is_that_text(membership, "ban"))
+        && !is_that_text(event.state_key(), event.sender().as_str())
+}
+
+// Whether there is a text, and it is this one.
+fn is_that_text(found: Option<&str>, text: &str) -> bool
+    ensures { result ≡ is_text text.now (option_copied found.entry) }
+{
+    match found {
+        Some(found) => found == text,
+        None => false,
+    }
+}

@@ -1,0 +1,44 @@
+// State resolution.
+ghost use Rattle.std.specs.Prelude.{◌≡◌, ◌<◌, All, IfOk, length, map};
+ghost use Rattle.mx_state_res.specs.Resolution as definition;
+
+use crate::auth_checks::{check_each, overwrite};
+use crate::conflicts::{full_conflicted, unconflicted};
+use crate::event_sets::without;
+use crate::powers::power_events;
+use crate::state_maps::StateMap;
+use mx_graph::Graph;
+use mx_orders::{Mainline, mainline_order, power_order};
+use std::alloc::{AllocError, Global};
+
+/// The one state that states of a room resolve to. Of no state it is the empty state, of one state that state.
+///
+/// Where all states have the same event at a type and a state key, it has that event there. The other events of the
+/// states, and the events in the auth chains of some states that are not in those of all, are the full conflicted set.
+/// Its power events, with its events in their auth chains, are checked in power order, and then the others in the order
+/// of the mainline of the power levels event so far: each state event that the authorization rules allow in the state
+/// so far is put there.
+///
+/// Source: the Matrix specification, Room Version 2, "State resolution".
+pub fn resolve(
+    alloc: Global,
+    graph: &Graph,
+    states: &[&StateMap],
+) -> Result<StateMap, AllocError>
+    requires known { All (λ s. All (λ e. e.1 < length graph.now) s.now) states.now }
+    ensures resolved { IfOk result (λ state. state ≡ definition.resolve graph.now (map (λ s. s.now) states.now)) }
+    ensures known { IfOk result (λ state. All (λ e. e.1 < length graph.now) state) }
+{
+    let agreed = unconflicted(alloc, states)?;
+    let full = full_conflicted(alloc, graph, states)?;
+    let power = power_events(alloc, graph, &full)?;
+    let others = without(alloc, &full, &power)?;
+    let mut state = agreed.clone()?;
+    let order = power_order(alloc, graph, &power)?;
+    check_each(graph, &mut state, &order)?;
+    let mainline = Mainline::of(alloc, graph, state.get("m.room.power_levels", ""))?;
+    let rest = mainline_order(alloc, graph, &mainline, &others)?;
+    check_each(graph, &mut state, &rest)?;
+    overwrite(&mut state, &agreed)?;
+    Ok(state)
+}
