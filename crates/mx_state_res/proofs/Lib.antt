@@ -1,3 +1,4 @@
 pub mod KeyLemmas
 pub mod PlaceLemmas
 pub mod SetLemmas
+pub mod KnownLemmas

@@ -80,12 +80,7 @@ impl<'a> RoomState for JudgedState<'a> {
 }
 
 // The auth event of an event at a key that it needs, unless that one was rejected.
-fn usable_auth_event(
-    graph: &Graph,
-    number: EventNo,
-    kind: &str,
-    state_key: &str,
-) -> Option<EventNo>
+fn usable_auth_event(graph: &Graph, number: EventNo, kind: &str, state_key: &str) -> Option<EventNo>
     requires { number < length graph.now }
     ensures usable { result ≡ definition.usable_auth_event graph.now (record_of.event graph.now number)
         (kind.now, state_key.now) }

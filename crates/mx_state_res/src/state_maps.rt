@@ -53,12 +53,7 @@ impl StateMap {
     }
 
     /// Puts an event at a type and a state key, in place of one that is there. At an error the entries stay.
-    pub fn insert(
-        &mut self,
-        kind: &str,
-        state_key: &str,
-        event: EventNo,
-    ) -> Result<(), AllocError>
+    pub fn insert(&mut self, kind: &str, state_key: &str, event: EventNo) -> Result<(), AllocError>
         ensures ok { OnOk result (self.new ≡ put key_cmp (kind.now, state_key.now) event self.old) }
         ensures err { OnErr result (self.new ≡ self.old) }
     {
