@@ -1,5 +1,5 @@
 // Iterative auth checks.
-ghost use Rattle.std.specs.Prelude.{◌≡◌, ◌<◌, All, OnOk, length};
+ghost use Rattle.std.specs.Prelude.{◌≡◌, ◌<◌, All, OnErr, OnOk, length, take, ℕ};
 ghost use Rattle.mx_state_res.specs.Resolution as definition;
 
 use crate::judged_states::is_allowed;
@@ -7,7 +7,8 @@ use crate::state_maps::StateMap;
 use mx_graph::{EventNo, Graph};
 use std::alloc::AllocError;
 
-/// Puts each of these events, in order, into a state that allows it, if it is a state event.
+/// Puts each of these events, in order, into a state that allows it, if it is a state event. At an error some of them
+/// were checked.
 pub(crate) fn check_each(
     graph: &Graph,
     state: &mut StateMap,
@@ -17,6 +18,8 @@ pub(crate) fn check_each(
     requires known { All (λ e. e.1 < length graph.now) state.old }
     ensures ok { OnOk result (state.new ≡ definition.iterative_auth_checks graph.now state.old events.now) }
     ensures known { OnOk result (All (λ e. e.1 < length graph.now) state.new) }
+    ensures err { OnErr result ((count : ℕ)
+        × (state.new ≡ definition.iterative_auth_checks graph.now state.old (take count events.now))) }
 {
     for event in events {
         check(graph, state, *event)?;
@@ -24,12 +27,14 @@ pub(crate) fn check_each(
     Ok(())
 }
 
+// At an error the state stays.
 #[tactic(auto, unfolding(crate::specs::Resolution::after_check))]
 fn check(graph: &Graph, state: &mut StateMap, number: EventNo) -> Result<(), AllocError>
     requires number { number < length graph.now }
     requires known { All (λ e. e.1 < length graph.now) state.old }
     ensures ok { OnOk result (state.new ≡ definition.after_check graph.now state.old number) }
     ensures known { OnOk result (All (λ e. e.1 < length graph.now) state.new) }
+    ensures err { OnErr result (state.new ≡ state.old) }
 {
     let event = &graph.row(number).event;
     if let Some(state_key) = event.state_key() {
@@ -40,9 +45,11 @@ fn check(graph: &Graph, state: &mut StateMap, number: EventNo) -> Result<(), All
     Ok(())
 }
 
-/// Puts the entries of another state over a state.
+/// Puts the entries of another state over a state. At an error some of them were put.
 pub(crate) fn overwrite(state: &mut StateMap, others: &StateMap) -> Result<(), AllocError>
-    ensures { OnOk result (state.new ≡ definition.overwritten state.old others.now) }
+    ensures ok { OnOk result (state.new ≡ definition.overwritten state.old others.now) }
+    ensures err { OnErr result ((count : ℕ)
+        × (state.new ≡ definition.overwritten state.old (take count others.now))) }
 {
     for entry in others.entries() {
         state.insert(entry.kind(), entry.state_key(), entry.event())?;

@@ -53,6 +53,8 @@ impl StateMap {
     }
 
     /// Puts an event at a type and a state key, in place of one that is there. At an error the entries stay.
+    ///
+    /// The time is logarithmic in the entries, and for a new key also linear in those behind it.
     pub fn insert(&mut self, kind: &str, state_key: &str, event: EventNo) -> Result<(), AllocError>
         ensures ok { OnOk result (self.new ≡ put key_cmp (kind.now, state_key.now) event self.old) }
         ensures err { OnErr result (self.new ≡ self.old) }

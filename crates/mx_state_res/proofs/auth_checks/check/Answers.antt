@@ -8,4 +8,4 @@ use Rattle.mx_state_res.proofs.auth_checks.check.Goals as goal
 pub returns-in_ok-insert-clause-known : goal.returns-in_ok-insert-clause-known
 returns-in_ok-insert-clause-known c =
     subst (λ (s : State). All (λ e. e.1 < length c.args.graph.now) s) (sym c.in_ok-insert.ensures.ok)
-    (put-known key_cmp (λ n. n < length c.args.graph.now) (c.kind.result.now, c.in-Some.state_key.now) c.args.number c.args.state.now c.requires.number c.requires.known)
+    (put-known key_cmp (λ n. n < length c.args.graph.now) _ _ _ c.requires.number c.requires.known)

@@ -1,7 +1,7 @@
-use Rattle.std.proofs.Common.{◌≡◌, drop}
+use Rattle.std.proofs.Common.{◌≡◌, take}
 use Rattle.mx_state_res.specs.Resolution.{overwritten}
 use Rattle.mx_state_res.proofs.auth_checks.overwrite.Given as goal
 
--- the state so far, with the entries that are left, is the whole
+-- the state with the entries so far
 abbrev pub invariant-loop-entry : goal.invariant-loop-entry
-invariant-loop-entry l = overwritten l.state (drop l.entry-index l.entry-items) ≡ overwritten l.fn.state l.entry-items
+invariant-loop-entry l = l.state ≡ overwritten l.fn.state (take l.entry-index l.entry-items)
