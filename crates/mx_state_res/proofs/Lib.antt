@@ -2,3 +2,8 @@ pub mod KeyLemmas
 pub mod PlaceLemmas
 pub mod SetLemmas
 pub mod KnownLemmas
+pub mod AgreedLemmas
+pub mod ConflictLemmas
+pub mod OrderLemmas
+pub mod ResolutionOnExamples
+pub mod ResolutionRows

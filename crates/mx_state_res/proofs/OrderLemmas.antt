@@ -1,9 +1,8 @@
 -- The orders have the events that they are given, and states stay among the events of the record.
-use Rattle.std.proofs.Common.{◌≡◌, ℕ, ◌<◌, Bool, true, false, cond, T, ◌⊎◌, inl, inr, List, [], ◌∷◌, ◌++◌, length, filter, map, IfSome, refl, sym, ap, subst, ◌∙◌}
+use Rattle.std.proofs.Common.{◌≡◌, ℕ, ◌<◌, Bool, true, false, cond, T, ◌⊎◌, inl, inr, List, [], ◌∷◌, ◌++◌, length, filter, map, Some, None, not, IfSome, refl, sym, ap, ap₂, subst, ◌∙◌, Bor}
 use Rattle.std.specs.declared.cmp.Ordering.{Ordering}
 use Rattle.std.specs.declared.cmp.Ordering.TheVariants.{Less, Equal, Greater}
 use Rattle.std.specs.Ordering.{eq_by_cmp}
-use Rattle.std.specs.Option.{None, Some}
 use Rattle.std.specs.Cmp.{IsTotalOrder}
 use Rattle.std.specs.Cmp.Lexicographic.{lists_total}
 use Rattle.std.specs.List.{All}
@@ -11,15 +10,17 @@ use Rattle.std.specs.FinMap.Entries.{find, put, by_order}
 use Rattle.mx_graph.specs.Record.{Row, is_in, event}
 use Rattle.mx_graph.proofs.Members.{In, in_filter-parts}
 use Rattle.mx_auth.specs.Rules.{Key}
-use Rattle.mx_orders.specs.StateMap.{State, key_cmp}
+use Rattle.mx_orders.specs.StateMap.{State, key_cmp, entry}
 use Rattle.mx_orders.specs.Lists.{Distinct}
 use Rattle.mx_orders.specs.PowerOrder.{permutations, is_topological, least, least_topological, power_cmp, power_order}
-use Rattle.mx_orders.specs.Mainline.{put_in_order, sorted, mainline_cmp, mainline_order}
+use Rattle.mx_orders.specs.Mainline.{power_key, put_in_order, sorted, mainline, mainline_cmp, mainline_order}
 use Rattle.mx_orders.proofs.Permutations.{Within, permutations-permute}
 use Rattle.mx_orders.proofs.LeastOrder.{fold_min-in}
 use Rattle.mx_orders.proofs.PowerOrderLaws.{power_cmp-total}
-use Rattle.mx_state_res.specs.Resolution.{unconflicted, in_every, overwritten}
-use Rattle.mx_state_res.proofs.SetLemmas.{all-at, all-of}
+use Rattle.mx_state_res.specs.Resolution.{unconflicted, full_conflicted, power_events, iterative_auth_checks, overwritten, resolve}
+use Rattle.mx_state_res.proofs.SetLemmas.{shown, all-at, all-of}
+use Rattle.mx_state_res.proofs.KnownLemmas.{put-known}
+use Rattle.mx_state_res.proofs.AgreedLemmas.{agreed-known}
 
 -- ---- orders
 
@@ -70,41 +71,25 @@ mainline_order-known rows line xs h = all-of (λ p. p < length rows) (mainline_o
 pub filter-all : {A : Type 0} (P : A → Type 0) (test : A → Bool) (xs : List A) → All P xs → All P (filter test xs)
 filter-all P test xs h = all-of P (filter test xs) (λ x m. all-at P xs h x (in_filter-parts test x xs m).0)
 
+pub kept-all : {A : Type 0} (P : A → Type 0) (test : A → Bool) (xs ys kept : List A) → kept ≡ filter test ys → ys ≡ xs → All P xs → All P kept
+kept-all P test xs ys kept k e h = subst (All P) (sym (k ∙ ap (filter test) e)) (filter-all P test xs h)
+
 -- ---- states
-
-abbrev Known : ℕ → State → Type 0
-Known n s = All (λ e. e.1 < n) s
-
-in_put : (k : Key) (p : ℕ) (s : State) (e : Key × ℕ) → In e (put key_cmp k p s) → (e.1 ≡ p) ⊎ In e s
-in_put k p [] e (inl h) = inl (ap (λ z. z.1) h)
-in_put k p [] e (inr h) = absurd h
-in_put k p (f ∷ s) e h = by (key_cmp k f.0) (in_put k p s e) h
-  where
-    past : (e.1 ≡ p) ⊎ In e s → (e.1 ≡ p) ⊎ In e (f ∷ s)
-    past (inl h) = inl h
-    past (inr h) = inr (inr h)
-
-    by : (r : Ordering) → (In e (put key_cmp k p s) → (e.1 ≡ p) ⊎ In e s) → In e (by_order r ((k, p) ∷ f ∷ s) ((f.0, p) ∷ s) (f ∷ put key_cmp k p s)) → (e.1 ≡ p) ⊎ In e (f ∷ s)
-    by Less later (inl h) = inl (ap (λ z. z.1) h)
-    by Less later (inr h) = inr h
-    by Equal later (inl h) = inl (ap (λ z. z.1) h)
-    by Equal later (inr h) = inr (inr h)
-    by Greater later (inl h) = inr (inl h)
-    by Greater later (inr h) = past (later h)
-
-pub put-known : (n : ℕ) (k : Key) (p : ℕ) (s : State) → p < n → All (λ e. e.1 < n) s → All (λ e. e.1 < n) (put key_cmp k p s)
-put-known n k p s l h = all-of (λ e. e.1 < n) (put key_cmp k p s) (λ e m. by e (in_put k p s e m))
-  where
-    by : (e : Key × ℕ) → (e.1 ≡ p) ⊎ In e s → e.1 < n
-    by e (inl q) = subst (λ z. z < n) (sym q) l
-    by e (inr m) = all-at (λ (e : Key × ℕ). e.1 < n) s h e m
-
-pub find-known : (n : ℕ) (k : Key) (s : State) → All (λ e. e.1 < n) s → IfSome (find key_cmp k s) (λ p. p < n)
-find-known n k [] h = tt
-find-known n k (e ∷ s) h =
-    let later = find-known n k s (all-of (λ e. e.1 < n) s (λ f m. all-at (λ (e : Key × ℕ). e.1 < n) (e ∷ s) h f (inr m))) in
-    elim (eq_by_cmp key_cmp k e.0) as (λ b. IfSome (cond b (Some e.1) (find key_cmp k s)) (λ p. p < n)) [ true ↦ all-at (λ (e : Key × ℕ). e.1 < n) (e ∷ s) h e (inl refl) | false ↦ later ]
 
 pub overwritten-known : (n : ℕ) (s others : State) → All (λ e. e.1 < n) s → ((e : Key × ℕ) → In e others → e.1 < n) → All (λ e. e.1 < n) (overwritten s others)
 overwritten-known n s [] h k = h
-overwritten-known n s (e ∷ others) h k = overwritten-known n (put key_cmp e.0 e.1 s) others (put-known n e.0 e.1 s (k e (inl refl)) h) (λ f m. k f (inr m))
+overwritten-known n s (e ∷ others) h k = overwritten-known n (put key_cmp e.0 e.1 s) others (put-known key_cmp (λ p. p < n) e.0 e.1 s (k e (inl refl)) h) (λ f m. k f (inr m))
+
+pub unconflicted-known : (n : ℕ) (bs : List (Bor State)) → All (λ (s : Bor State). All (λ e. e.1 < n) s.now) bs → All (λ e. e.1 < n) (unconflicted (shown bs))
+unconflicted-known n bs h = all-of (λ e. e.1 < n) (unconflicted (shown bs)) (agreed-known n bs h)
+
+-- ---- the steps of a resolution
+
+pub resolve-is : (rows : List Row) (states : List State) (agreed : State) (full power others order : List ℕ) (partial : State) (line rest : List ℕ) (checked resolved : State) → agreed ≡ unconflicted states → full ≡ full_conflicted rows states → power ≡ power_events rows full → others ≡ filter (λ p. not (is_in power p)) full → order ≡ power_order rows power → partial ≡ iterative_auth_checks rows agreed order → line ≡ mainline rows (entry partial power_key) → rest ≡ mainline_order rows line others → checked ≡ iterative_auth_checks rows partial rest → resolved ≡ overwritten checked agreed → resolved ≡ resolve rows states
+unfolding resolve
+resolve-is rows states agreed full power others order partial line rest checked resolved a f p o d q l r k e =
+    let p' : power ≡ power_events rows (full_conflicted rows states) = p ∙ ap (power_events rows) f in
+    let q' = q ∙ ap₂ (iterative_auth_checks rows) a (d ∙ ap (power_order rows) p') in
+    let l' = l ∙ ap (λ s. mainline rows (entry s power_key)) q' in
+    let r' = r ∙ ap₂ (mainline_order rows) l' (o ∙ ap₂ (λ xs ys. filter (λ p. not (is_in xs p)) ys) p' f) in
+    e ∙ ap₂ overwritten (k ∙ ap₂ (iterative_auth_checks rows) q' r') a

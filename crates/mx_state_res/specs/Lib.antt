@@ -1,3 +1,4 @@
 pub mod Resolution
 pub mod Places
 pub mod StateCode
+pub mod Agreed

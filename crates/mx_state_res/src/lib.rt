@@ -14,3 +14,6 @@ mod state_maps;
 pub use entries::StateEntry;
 pub use resolving::resolve;
 pub use state_maps::StateMap;
+
+#[cfg(test)]
+mod tests;

@@ -2,6 +2,7 @@
 ghost use Rattle.std.specs.Prelude.{◌≡◌, ◌<◌, All, IfOk, filter, length};
 ghost use Rattle.std.specs.Option.{option_copied};
 ghost use Rattle.mx_redact.specs.Fields.{is_text};
+ghost use Rattle.mx_graph.specs.Edges.{Rises};
 ghost use Rattle.mx_graph.specs.Record as record_of;
 ghost use Rattle.mx_state_res.specs.Resolution as definition;
 
@@ -11,14 +12,17 @@ use mx_pdu::Pdu;
 use mx_redact::text_at;
 use std::alloc::{AllocError, Global};
 
-/// The power events of these events, and those of them that are in the auth chains of the power events.
+/// The power events of these events, and those of them that are in the auth chains of the power events, rising.
 pub(crate) fn power_events(
     alloc: Global,
     graph: &Graph,
     full: &[EventNo],
 ) -> Result<Vec<EventNo>, AllocError>
-    requires { All (λ event. event < length graph.now) full.now }
-    ensures { IfOk result (λ events. events.items ≡ definition.power_events graph.now full.now) }
+    requires known { All (λ event. event < length graph.now) full.now }
+    requires rises { Rises full.now }
+    ensures set { IfOk result (λ events. events.items ≡ definition.power_events graph.now full.now) }
+    ensures rises { IfOk result (λ events. Rises events.items) }
+    ensures known { IfOk result (λ events. All (λ event. event < length graph.now) events.items) }
 {
     let power = own_power_events(alloc, graph, full)?;
     let chain = graph.auth_chain(alloc, &power)?;

@@ -20,6 +20,7 @@ use std::alloc::{AllocError, Global};
 /// so far is put there.
 ///
 /// Source: the Matrix specification, Room Version 2, "State resolution".
+#[tactic(auto, unfolding(crate::specs::Resolution::resolve))]
 pub fn resolve(
     alloc: Global,
     graph: &Graph,
@@ -30,11 +31,11 @@ pub fn resolve(
     ensures known { IfOk result (λ state. All (λ e. e.1 < length graph.now) state) }
 {
     let agreed = unconflicted(alloc, states)?;
-    let full = full_conflicted(alloc, graph, states)?;
+    let full = full_conflicted(alloc, graph, &agreed, states)?;
     let power = power_events(alloc, graph, &full)?;
     let others = without(alloc, &full, &power)?;
-    let mut state = agreed.clone()?;
     let order = power_order(alloc, graph, &power)?;
+    let mut state = agreed.clone()?;
     check_each(graph, &mut state, &order)?;
     let mainline = Mainline::of(alloc, graph, state.get("m.room.power_levels", ""))?;
     let rest = mainline_order(alloc, graph, &mainline, &others)?;
