@@ -1,5 +1,6 @@
--- Worked examples: trivial resolutions, the create event in the auth difference, and the race of a demotion.
-use Rattle.std.specs.Prelude.{◌≡◌, refl, List, [], ◌∷◌, codes, false, Some}
+-- Worked examples: trivial resolutions, the create event in the auth difference, the race of a demotion, and a mainline
+-- without power levels.
+use Rattle.std.specs.Prelude.{◌≡◌, refl, ℕ, List, [], ◌∷◌, codes, false, Some, None}
 use Rattle.mx_redact.specs.Fields.{Event}
 use Rattle.mx_auth.proofs.RoomBase.{event, keyed, fields, no_fields, users, e1, e2, e3, e4, e5, e6}
 use Rattle.mx_graph.specs.Record.{Row}
@@ -92,3 +93,29 @@ rest-race = refl
 resolve-race : resolve race (after_demotion ∷ after_topic ∷ []) ≡ after_demotion
 unfolding resolution_on_examples
 resolve-race = refl
+
+-- ---- two topics without power levels: the mainline is empty, and the later one stands
+
+abbrev t3 : Event
+t3 = event 3 "m.room.topic" (keyed "") "@a:a.example" no_fields (codes "$2" ∷ []) (codes "$1" ∷ codes "$2" ∷ [])
+
+abbrev t4 : Event
+t4 = event 4 "m.room.topic" (keyed "") "@a:a.example" no_fields (codes "$2" ∷ []) (codes "$1" ∷ codes "$2" ∷ [])
+
+abbrev topics : List Row
+topics = a_row "$1" e1 ∷ a_row "$2" e2 ∷ a_row "$4" t4 ∷ a_row "$3" t3 ∷ []
+
+abbrev with_topic : ℕ → State
+with_topic p = ((codes "m.room.create", []), 0) ∷ ((codes "m.room.member", codes "@a:a.example"), 1) ∷ ((codes "m.room.topic", []), p) ∷ []
+
+full-topics : full_conflicted topics (with_topic 2 ∷ with_topic 3 ∷ []) ≡ 2 ∷ 3 ∷ []
+unfolding resolution_on_examples
+full-topics = refl
+
+order-topics : mainline_order topics (mainline topics None) (2 ∷ 3 ∷ []) ≡ 3 ∷ 2 ∷ []
+unfolding resolution_on_examples
+order-topics = refl
+
+resolve-topics : resolve topics (with_topic 2 ∷ with_topic 3 ∷ []) ≡ with_topic 2
+unfolding resolution_on_examples
+resolve-topics = refl

@@ -16,10 +16,7 @@ use mx_graph::{EventNo, Graph};
 use std::alloc::{AllocError, Global};
 
 /// The unconflicted state: the entries that every state has.
-pub(crate) fn unconflicted(
-    alloc: Global,
-    states: &[&StateMap],
-) -> Result<StateMap, AllocError>
+pub(crate) fn unconflicted(alloc: Global, states: &[&StateMap]) -> Result<StateMap, AllocError>
     ensures state { IfOk result (λ agreed. agreed ≡ definition.unconflicted (map (λ s. s.now) states.now)) }
     ensures agreed { IfOk result (λ agreed. IsAgreed agreed (map (λ s. s.now) states.now)) }
 {
@@ -30,11 +27,7 @@ pub(crate) fn unconflicted(
 }
 
 // The entries of a state that each of the others has.
-fn shared(
-    alloc: Global,
-    state: &StateMap,
-    others: &[&StateMap],
-) -> Result<StateMap, AllocError>
+fn shared(alloc: Global, state: &StateMap, others: &[&StateMap]) -> Result<StateMap, AllocError>
     ensures entries { IfOk result (λ agreed. agreed
         ≡ filter (λ e. list_all (λ s. definition.has_entry e s.now) others.now) state.now) }
     ensures sorted { T (is_sorted key_cmp state.now) }

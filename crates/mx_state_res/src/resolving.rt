@@ -21,11 +21,7 @@ use std::alloc::{AllocError, Global};
 ///
 /// Source: the Matrix specification, Room Version 2, "State resolution".
 #[tactic(auto, unfolding(crate::specs::Resolution::resolve))]
-pub fn resolve(
-    alloc: Global,
-    graph: &Graph,
-    states: &[&StateMap],
-) -> Result<StateMap, AllocError>
+pub fn resolve(alloc: Global, graph: &Graph, states: &[&StateMap]) -> Result<StateMap, AllocError>
     requires known { All (λ s. All (λ e. e.1 < length graph.now) s.now) states.now }
     ensures resolved { IfOk result (λ state. state ≡ definition.resolve graph.now (map (λ s. s.now) states.now)) }
     ensures known { IfOk result (λ state. All (λ e. e.1 < length graph.now) state) }

@@ -25,11 +25,11 @@ loop-entry-preserved c =
     let e = c.entry-item.result in
     let next : drop i items ≡ e ∷ drop (i + 1) items = drop_more items i e (omega arith) ∙ ap (λ f. f ∷ drop (i + 1) items) (sym c.entry-item.is) in
     elim c.if-is_in_every.branch [
-      then-is_in_every+in_ok-insert w ↦
-        ap (λ s. overwritten s (filter kept (drop (i + 1) items)))
-        (w.agreed-is ∙ w.in_ok-insert.ensures.ok ∙ (λ j. put key_cmp (w.kind.ensures j, w.state_key.ensures j) (w.event.ensures j) c.loop-entry.agreed))
-        ∙ put-kept kept c.loop-entry.agreed (drop i items) (drop (i + 1) items) e next (sym c.is_in_every.ensures ∙ w.if-is_in_every.true) ∙ c.loop-entry.invariant
-    | else-is_in_every w ↦
-        ap (λ s. overwritten s (filter kept (drop (i + 1) items))) w.agreed-is
-        ∙ put-other kept c.loop-entry.agreed (drop i items) (drop (i + 1) items) e next (sym c.is_in_every.ensures ∙ w.if-is_in_every.false) ∙ c.loop-entry.invariant
+      | then-is_in_every+in_ok-insert w ↦
+          ap (λ s. overwritten s (filter kept (drop (i + 1) items)))
+          (w.agreed-is ∙ w.in_ok-insert.ensures.ok ∙ (λ j. put key_cmp (w.kind.ensures j, w.state_key.ensures j) (w.event.ensures j) c.loop-entry.agreed))
+          ∙ put-kept kept c.loop-entry.agreed (drop i items) (drop (i + 1) items) e next (sym c.is_in_every.ensures ∙ w.if-is_in_every.true) ∙ c.loop-entry.invariant
+      | else-is_in_every w ↦
+          ap (λ s. overwritten s (filter kept (drop (i + 1) items))) w.agreed-is
+          ∙ put-other kept c.loop-entry.agreed (drop i items) (drop (i + 1) items) e next (sym c.is_in_every.ensures ∙ w.if-is_in_every.false) ∙ c.loop-entry.invariant
     ]

@@ -33,8 +33,8 @@ mainline_order-requires c =
 pub check_each-requires-2-clause-events : goal.check_each-requires-2-clause-events
 check_each-requires-2-clause-events c =
     let others =
-      kept-all (λ p. p < length c.args.graph.now) (λ p. not (is_in c.deref-3.result.now p)) c.in_ok-full.full.items c.deref-2.result.now c.deref-6.result.now
-      (c.deref-6.ensures.value ∙ c.in_ok-others.ensures) c.deref-2.ensures.value c.in_ok-full.ensures.known in
+    kept-all (λ p. p < length c.args.graph.now) (λ p. not (is_in c.deref-3.result.now p)) c.in_ok-full.full.items c.deref-2.result.now c.deref-6.result.now
+    (c.deref-6.ensures.value ∙ c.in_ok-others.ensures) c.deref-2.ensures.value c.in_ok-full.ensures.known in
     subst (All (λ p. p < length c.args.graph.now)) (sym (c.deref-7.ensures.value ∙ c.in_ok-rest.ensures))
     (mainline_order-known c.args.graph.now c.in_ok-mainline.mainline c.deref-6.result.now others)
 
