@@ -50,10 +50,10 @@ returns-clause-resolved c =
     (c.in_ok-mainline.ensures ∙ ap (mainline c.args.graph.now) c.get.ensures)
     (c.in_ok-rest.ensures ∙ ap (mainline_order c.args.graph.now c.in_ok-mainline.mainline) c.deref-6.ensures.value)
     (c.in_ok-check_each-2.ensures.ok ∙ ap (iterative_auth_checks c.args.graph.now c.check_each.new.state) c.deref-7.ensures.value)
-    c.in_ok-overwrite.ensures
+    c.in_ok-overwrite.ensures.ok
 
 pub returns-clause-known : goal.returns-clause-known
 returns-clause-known c =
-    subst (All (λ e. e.1 < length c.args.graph.now)) (sym c.in_ok-overwrite.ensures)
+    subst (All (λ e. e.1 < length c.args.graph.now)) (sym c.in_ok-overwrite.ensures.ok)
     (overwritten-known (length c.args.graph.now) c.check_each-2.new.state c.in_ok-agreed.agreed c.in_ok-check_each-2.ensures.known
     (λ e m. agreed-known (length c.args.graph.now) c.args.states.now c.requires.known e (subst (In e) c.in_ok-agreed.ensures.state m)))
