@@ -65,10 +65,7 @@ dropped false t h = refl
 same : (e f : Key × ℕ) → e.0 ≡ f.0 → (f.1 == e.1) ≡ true → f ≡ e
 same e f k n = let m : f.1 ≡ e.1 = eqb-true f.1 e.1 n in λ i. (sym k i, m i)
 
-abbrev is_value : ℕ → ℕ → Bool
-is_value n p = p == n
-
-pub has_entry-filter : (test : Key × ℕ → Bool) (s : State) → Sorted s → (e : Key × ℕ) → has_entry e (filter test s) ≡ (has_entry e s && test e)
+has_entry-filter : (test : Key × ℕ → Bool) (s : State) → Sorted s → (e : Key × ℕ) → has_entry e (filter test s) ≡ (has_entry e s && test e)
 has_entry-filter test [] h e = refl
 has_entry-filter test (f ∷ s) h e = by (key_cmp e.0 f.0) refl (test f) refl (has_entry-filter test s (second _ _ h) e)
   where
@@ -108,9 +105,6 @@ agreed-every all b bs d h agreed is = subst (λ xs. IsAgreed agreed (shown xs)) 
     here e =
         ap (has_entry e) is ∙ has_entry-filter (λ x. list_all (λ s. has_entry x s.now) bs) b.now h e
         ∙ ap (λ t. has_entry e b.now && t) (list_all-map (λ (s : Bor State). s.now) (has_entry e) bs)
-
-pub agreed-every_none : (all : List (Bor State)) (agreed : State) → all ≡ [] → IsAgreed agreed (shown all)
-agreed-every_none all agreed d = subst (λ xs. IsAgreed agreed (shown xs)) (sym d) tt
 
 pub agreed-known : (n : ℕ) (bs : List (Bor State)) → All (λ (s : Bor State). All (λ e. e.1 < n) s.now) bs → (e : Key × ℕ) → In e (unconflicted (shown bs)) → e.1 < n
 unfolding unconflicted

@@ -1,5 +1,5 @@
 // Where the states of a room agree, and where they are in conflict.
-ghost use Rattle.std.specs.Prelude.{◌≡◌, ◌<◌, ◌++◌, ℕ, All, IfOk, OnOk, T, filter, flat_map, length, map, not};
+ghost use Rattle.std.specs.Prelude.{◌≡◌, ◌<◌, ◌++◌, ℕ, All, IfOk, OnErr, OnOk, T, filter, flat_map, length, map, not, take};
 ghost use Rattle.std.specs.FinMap.Entries.{is_sorted};
 ghost use Rattle.std.specs.List.{list_all, list_any};
 ghost use Rattle.mx_graph.specs.Edges.{Rises};
@@ -73,13 +73,16 @@ fn conflicted_events(
     Ok(found)
 }
 
+// At an error some of them were put.
 fn push_conflicted(
     found: &mut Vec<EventNo>,
     agreed: &StateMap,
     state: &StateMap,
 ) -> Result<(), AllocError>
-    ensures { OnOk result (found.new.items ≡ found.old.items
+    ensures ok { OnOk result (found.new.items ≡ found.old.items
         ++ events_in (filter (λ e. not (definition.has_entry e agreed.now)) state.now)) }
+    ensures err { OnErr result ((count : ℕ) × (found.new.items ≡ found.old.items
+        ++ events_in (filter (λ e. not (definition.has_entry e agreed.now)) (take count state.now)))) }
 {
     for entry in state.entries() {
         if !has_entry(agreed, entry) {

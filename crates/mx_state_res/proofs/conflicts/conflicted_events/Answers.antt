@@ -11,5 +11,5 @@ loop-state-preserved c =
     flat_map-step (λ (s : Bor State). events_of (filter (lacks c.args.agreed.now) s.now)) c.loop-state.found.items c.push_conflicted.new.found.items
     (drop i c.args.states.now) (drop (i + 1) c.args.states.now) c.state-item.result
     (drop_more c.args.states.now i c.state-item.result (omega arith) ∙ ap (λ s. s ∷ drop (i + 1) c.args.states.now) (sym c.state-item.is))
-    c.in_ok-push_conflicted.ensures
+    c.in_ok-push_conflicted.ensures.ok
     ∙ c.loop-state.invariant
