@@ -1,11 +1,11 @@
 -- The entries on which states agree, put into an empty state in their order.
-use Rattle.std.proofs.Common.{◌≡◌, ℕ, ◌==◌, ◌<◌, Bool, true, false, cond, ◌&&◌, T, List, [], ◌∷◌, ◌++◌, filter, map, Some, None, refl, sym, ap, subst, ◌∙◌, append_assoc, Bor, inl, inr, eqb-true}
+use Rattle.std.proofs.Common.{◌≡◌, ℕ, ◌==◌, ◌<◌, Bool, true, false, cond, ◌&&◌, T, List, [], ◌∷◌, ◌++◌, filter, Some, None, refl, sym, ap, subst, ◌∙◌, append_assoc, Bor, inl, eqb-true}
 use Rattle.std.proofs.lemmas.List.{append-nil}
 use Rattle.std.specs.List.{All, list_all}
 use Rattle.std.specs.declared.cmp.Ordering.{Ordering}
 use Rattle.std.specs.declared.cmp.Ordering.TheVariants.{Less, Equal, Greater}
 use Rattle.std.specs.Ordering.{is_eq}
-use Rattle.std.specs.FinMap.Entries.{find, put, by_order, below_all, is_sorted}
+use Rattle.std.specs.FinMap.Entries.{find, put, by_order, below_all}
 use Rattle.mx_redact.specs.Fields.{is_some_and}
 use Rattle.mx_auth.specs.Rules.{Key}
 use Rattle.mx_graph.proofs.Members.{In, in_filter-parts}

@@ -1,18 +1,17 @@
 -- The orders have the events that they are given, and states stay among the events of the record.
-use Rattle.std.proofs.Common.{◌≡◌, ℕ, ◌<◌, Bool, true, false, cond, T, ◌⊎◌, inl, inr, List, [], ◌∷◌, ◌++◌, length, filter, map, Some, None, not, IfSome, refl, sym, ap, ap₂, subst, ◌∙◌, Bor}
+use Rattle.std.proofs.Common.{◌≡◌, ℕ, ◌<◌, Bool, ◌⊎◌, inl, inr, List, [], ◌∷◌, length, filter, not, refl, sym, ap, ap₂, subst, ◌∙◌, Bor}
 use Rattle.std.specs.declared.cmp.Ordering.{Ordering}
 use Rattle.std.specs.declared.cmp.Ordering.TheVariants.{Less, Equal, Greater}
-use Rattle.std.specs.Ordering.{eq_by_cmp}
 use Rattle.std.specs.Cmp.{IsTotalOrder}
 use Rattle.std.specs.Cmp.Lexicographic.{lists_total}
 use Rattle.std.specs.List.{All}
-use Rattle.std.specs.FinMap.Entries.{find, put, by_order}
-use Rattle.mx_graph.specs.Record.{Row, is_in, event}
+use Rattle.std.specs.FinMap.Entries.{put, by_order}
+use Rattle.mx_graph.specs.Record.{Row, is_in}
 use Rattle.mx_graph.proofs.Members.{In, in_filter-parts}
 use Rattle.mx_auth.specs.Rules.{Key}
 use Rattle.mx_orders.specs.StateMap.{State, key_cmp, entry}
 use Rattle.mx_orders.specs.Lists.{Distinct}
-use Rattle.mx_orders.specs.PowerOrder.{permutations, is_topological, least, least_topological, power_cmp, power_order}
+use Rattle.mx_orders.specs.PowerOrder.{permutations, is_topological, least, least_topological, power_order}
 use Rattle.mx_orders.specs.Mainline.{power_key, put_in_order, sorted, mainline, mainline_cmp, mainline_order}
 use Rattle.mx_orders.proofs.Permutations.{Within, permutations-permute}
 use Rattle.mx_orders.proofs.LeastOrder.{fold_min-in}

@@ -1,8 +1,7 @@
-use Rattle.std.proofs.Common.{◌≡◌, filter, [], ◌∙◌}
+use Rattle.std.proofs.Common.{◌≡◌, filter, ◌∙◌}
 use Rattle.std.proofs.lemmas.List.{nil_from_length}
 use Rattle.std.proofs.lemmas.Result.{IfOk-weaker}
 use Rattle.std.specs.List.{list_all}
-use Rattle.mx_orders.specs.StateMap.{State}
 use Rattle.mx_state_res.specs.Agreed.{IsAgreed}
 use Rattle.mx_state_res.specs.Resolution.{has_entry, unconflicted}
 use Rattle.mx_state_res.proofs.SetLemmas.{shown}

@@ -1,4 +1,4 @@
-use Rattle.std.proofs.Common.{◌≡◌, ◌<◌, ◌||◌, List, ℕ, Bool, length, filter, sym, ap, ap₂, subst, ◌∙◌}
+use Rattle.std.proofs.Common.{◌<◌, ◌||◌, length, filter, sym, ap, ap₂, subst, ◌∙◌}
 use Rattle.std.specs.List.{All}
 use Rattle.mx_graph.specs.Edges.{Rises}
 use Rattle.mx_graph.specs.Graph.{auth_chain}

@@ -3,7 +3,6 @@ use Rattle.std.specs.List.{All}
 use Rattle.mx_graph.specs.Record.{is_in}
 use Rattle.mx_graph.proofs.Members.{In}
 use Rattle.mx_orders.specs.Lists.{Distinct}
-use Rattle.mx_orders.specs.StateMap.{State}
 use Rattle.mx_orders.specs.PowerOrder.{power_order}
 use Rattle.mx_orders.specs.Mainline.{mainline, mainline_order}
 use Rattle.mx_state_res.specs.Resolution.{power_events, iterative_auth_checks}
