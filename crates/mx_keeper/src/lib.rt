@@ -1,0 +1,23 @@
+//! What keeps rows, so that rooms and transactions can be made of them again.
+#![tactic(auto)]
+
+mod faults;
+mod keepers;
+mod memory;
+mod places;
+mod replies;
+mod rows;
+mod storing;
+mod transaction_ids;
+
+pub use faults::KeeperFault;
+pub use keepers::Keeper;
+pub use memory::MemoryKeeper;
+pub use places::{MOST_PLACES, Place};
+pub use replies::Reply;
+pub use rows::{BookRow, ShardRow};
+pub use storing::Storable;
+pub use transaction_ids::TransactionId;
+
+#[cfg(test)]
+mod tests;
