@@ -1,0 +1,4 @@
+pub mod JournalLemmas
+pub mod JournalRows
+pub mod IndexLemmas
+pub mod StoredLemmas

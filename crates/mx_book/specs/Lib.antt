@@ -1,0 +1,5 @@
+pub mod Pairs
+pub mod PairLaws
+pub mod Journal
+pub mod View
+pub mod Inside

@@ -1,0 +1,14 @@
+-- Transactions by their senders and numbers, with the order in which they are looked up (our own).
+use Rattle.std.specs.Prelude.{Bool, ◌&&◌, bytes_eq}
+use Rattle.std.specs.declared.cmp.Ordering.{Ordering}
+use Rattle.std.specs.Cmp.Lexicographic.{slice_cmp}
+use Rattle.std.specs.Ordering.{nat_cmp, then_cmp, on}
+use Rattle.mx_book.specs.declared.pairs.Pair.{Pair}
+
+-- one transaction: the same server, and the same number there (Matrix specification, Server-Server API, transactions)
+abbrev pub same : Pair → Pair → Bool
+same p q = bytes_eq p.origin q.origin && bytes_eq p.txn q.txn
+
+-- by the server, and then by the number
+abbrev pub pair_cmp : Pair → Pair → Ordering
+pair_cmp = then_cmp (on (λ p. p.origin) (slice_cmp nat_cmp)) (on (λ p. p.txn) (slice_cmp nat_cmp))

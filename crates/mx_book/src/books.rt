@@ -1,0 +1,231 @@
+// The transactions of a book.
+ghost use Rattle.std.specs.Prelude.{◌≡◌, ◌≢◌, ◌≤◌, ◌↔◌, ◌++◌, ◌∷◌, [], ◌⊎◌, Option, Some, None, List, ℕ, true, false, IfOk, OnOk, OnErr, IsErrOf, IsTrue, All};
+ghost use Rattle.mx_keeper.specs.Keeping.{Rose};
+ghost use Rattle.mx_keeper.specs.Places.{is_at};
+ghost use Rattle.mx_book.specs.Journal.{pair_of, state_of, begun, opening_of, begins, is_legal, stored};
+ghost use Rattle.mx_book.specs.declared.pairs.Pair.{Pair};
+ghost use Rattle.mx_keeper.specs.declared.rows.BookRow.{BookRow};
+
+use crate::entries::BookEntry;
+use crate::openings::Opening;
+use crate::pairs::Pair;
+use crate::recording::{
+    add_reply, begin_in, give_up_in, is_begun_in, keep_in, opening_in, remove_reply, row_for,
+};
+use crate::refusals::BookError;
+use mx_keeper::{BookRow, Keeper, KeeperFault, Place, Reply};
+use std::alloc::Global;
+use std::collections::BTreeMap;
+use std::marker::Model;
+
+/// The transactions of the servers of one place: a journal of what was begun, kept and given up, whose kept entries
+/// are rows of a keeper.
+///
+/// Each call names the number of its caller. Who began a transaction ends it, by keeping its reply or by giving it up;
+/// a reply that is kept is the answer for good. Unless the book was refused for storage, and while its keeper is honest,
+/// the keeper is open and its rows are the kept entries. For each transaction that is begun and not ended there is room
+/// for the entry that ends it.
+#[derive(Drop)]
+pub struct Book<K: Keeper<Row = BookRow>> {
+    keeper: K,
+    place: Place,
+    is_refused: bool,
+    journal: Vec<BookEntry>,
+    // Who began what is not ended.
+    callers: BTreeMap<Pair, u64>,
+    // Where in the journal the replies stand.
+    replies: BTreeMap<Pair, usize>,
+}
+
+impl<K: Keeper<Row = BookRow>> Model for Book<K> {
+    ghost use Rattle.std.specs.Prelude.{◌≡◌, false, Some, vec_capacity};
+    ghost use Rattle.std.specs.BTreeMap.{btree_map_len};
+    ghost use Rattle.mx_book.specs.View.{BookView};
+    ghost use Rattle.mx_book.specs.Journal.{stored};
+    ghost use Rattle.mx_book.specs.Inside.{IsIndexed, IsSound};
+
+    ghost Value = { BookView K };
+
+    ghost view = { λ book. record { keeper = book.keeper; journal = book.journal.items; place = book.place; is_refused = book.is_refused } };
+
+    ghost invariant = { λ book.
+        IsIndexed book.journal.items book.callers book.replies
+        × IsSound book.journal.items book.place (btree_map_len book.callers) (vec_capacity book.journal)
+        × (book.is_refused ≡ false → K.is_honest book.keeper → K.is_open book.keeper × (K.rows book.keeper ≡ Some (stored book.journal.items))) };
+}
+
+impl<K: Keeper<Row = BookRow>> Book<K> {
+    /// A book over a keeper that has no rows, at this place.
+    ///
+    /// `Memory` where no memory is left. `Storage` where the keeper failed, or has rows or what does not read as rows.
+    /// A refused call drops the keeper.
+    pub fn reopen(alloc: Global, keeper: K, place: Place) -> Result<Book<K>, BookError>
+        ensures journal { IfOk result (λ book. book.journal ≡ []) }
+        ensures place { IfOk result (λ book. book.place ≡ place) }
+        ensures taken { IfOk result (λ book. book.is_refused ≡ false) }
+        ensures honest { IfOk result (λ book. K.is_honest book.keeper → K.is_honest keeper × (K.rows keeper ≡ Some [])) }
+        ensures crash { IfOk result (λ book. K.is_honest book.keeper → (left : Option (List BookRow)) → K.may_leave book.keeper left → K.may_leave keeper left) }
+
+        // What became of the keeper tells why.
+        ensures storage { result ≡ Err BookError.Storage → (after : K) × (K.is_honest after → K.is_honest keeper)
+            × (Rose (K.failed keeper) (K.failed after) ⊎ (K.is_honest after → K.is_open keeper → K.rows keeper ≢ Some [])) }
+    {
+        let mut keeper = keeper;
+        match keeper.rows() {
+            Ok(rows) => {
+                if !rows.is_empty() {
+                    return Err(BookError::Storage);
+                }
+                Ok(Book {
+                    keeper,
+                    place,
+                    is_refused: false,
+                    journal: Vec::new(alloc),
+                    callers: BTreeMap::new(alloc),
+                    replies: BTreeMap::new(alloc),
+                })
+            }
+            Err(KeeperFault::Memory) => Err(BookError::Memory),
+            Err(KeeperFault::Store) => Err(BookError::Storage),
+            Err(KeeperFault::Table) => Err(BookError::Storage),
+        }
+    }
+
+    /// Its place, and what always holds of its journal and its rows.
+    pub fn place(&self) -> Place
+        ensures place { result ≡ self.now.place }
+        // Each transaction is of a server of this place.
+        ensures here { All (λ entry. IsTrue (is_at self.now.place (pair_of entry).origin)) self.now.journal }
+        // Only what is free was begun, and who began a transaction ended it.
+        ensures legal { IsTrue (is_legal self.now.journal) }
+        ensures rows { self.now.is_refused ≡ false → K.is_honest self.now.keeper
+            → K.is_open self.now.keeper × (K.rows self.now.keeper ≡ Some (stored self.now.journal)) }
+    {
+        self.place
+    }
+
+    /// Begins a transaction, unless it is begun and not ended (`Busy`) or its reply is kept (`Kept`).
+    ///
+    /// `Memory` where no memory is left. `Storage` exactly where an earlier call was refused so. The time is that of a
+    /// look-up among the transactions.
+    pub fn open(&mut self, caller: u64, pair: &Pair) -> Result<Opening, BookError>
+        requires { IsTrue (is_at self.old.place pair.now.origin) }
+        ensures reply { IfOk result (λ opening. opening ≡ opening_of (state_of self.old.journal pair.now)) }
+        ensures journal { OnOk result (self.new.journal ≡ self.old.journal ++ begins pair.now caller (state_of self.old.journal pair.now)) }
+        ensures err { OnErr result (self.new.journal ≡ self.old.journal) }
+        ensures storage { IsErrOf result BookError.Storage ↔ (self.old.is_refused ≡ true) }
+        ensures keeper { self.new.keeper ≡ self.old.keeper }
+        ensures place { self.new.place ≡ self.old.place }
+        ensures refused { self.new.is_refused ≡ self.old.is_refused }
+    {
+        if self.is_refused {
+            return Err(BookError::Storage);
+        }
+        let opening = opening_in(&self.journal, &self.callers, &self.replies, pair)?;
+        if let Opening::Fresh = opening {
+            begin_in(
+                &mut self.journal,
+                &mut self.callers,
+                &self.replies,
+                &self.place,
+                caller,
+                pair,
+            )?;
+        }
+        Ok(opening)
+    }
+
+    /// Whether this caller began the transaction, and it is not ended.
+    pub fn is_begun(&self, caller: u64, pair: &Pair) -> bool
+        ensures { IsTrue result ↔ (state_of self.now.journal pair.now ≡ begun caller) }
+    {
+        is_begun_in(&self.callers, caller, pair)
+    }
+
+    /// Whether no transaction is begun and not ended.
+    pub fn none_open(&self) -> bool
+        ensures { IsTrue result ↔ ((pair : Pair) (caller : ℕ) → state_of self.now.journal pair ≢ begun caller) }
+    {
+        self.callers.is_empty()
+    }
+
+    /// Ends a transaction with this reply, which is kept for good, and stores it as a row.
+    ///
+    /// `Memory` where no memory is left. `Storage` where the keeper's count of failures rose in this call, or an earlier
+    /// call was refused so; from then on the book answers `Storage`. The time is that of a look-up among the
+    /// transactions, and of the keeper.
+    pub fn keep(&mut self, caller: u64, pair: &Pair, reply: Reply) -> Result<(), BookError>
+        requires { state_of self.old.journal pair.now ≡ begun caller }
+        ensures journal { OnOk result (self.new.journal ≡ self.old.journal ++ BookEntry.Kept pair.now caller reply ∷ []) }
+        ensures err { OnErr result (self.new.journal ≡ self.old.journal) }
+        ensures place { self.new.place ≡ self.old.place }
+
+        ensures storage { result ≡ Err BookError.Storage → (self.old.is_refused ≡ true) ⊎ Rose (K.failed self.old.keeper) (K.failed self.new.keeper) }
+        ensures refused { IsErrOf result BookError.Storage ↔ (self.new.is_refused ≡ true) }
+        ensures stays_refused { self.old.is_refused ≡ true → result ≡ Err BookError.Storage }
+        ensures counted { K.failed self.old.keeper ≤ K.failed self.new.keeper }
+
+        // After `Ok` a crash leaves all replies that are kept. At each exit it leaves what it might have left before the
+        // call, or the rows with this reply's.
+        ensures honest { K.is_honest self.new.keeper → K.is_honest self.old.keeper }
+        ensures durable { K.is_honest self.new.keeper → OnOk result ((left : Option (List BookRow)) → K.may_leave self.new.keeper left → left ≡ Some (stored self.new.journal)) }
+        ensures crash { K.is_honest self.new.keeper → (left : Option (List BookRow)) → K.may_leave self.new.keeper left
+            → K.may_leave self.old.keeper left ⊎ (left ≡ Some (stored (self.old.journal ++ BookEntry.Kept pair.now caller reply ∷ []))) }
+    {
+        if self.is_refused {
+            return Err(BookError::Storage);
+        }
+        let row = row_for(pair, reply)?;
+        let place = self.journal.as_slice().len();
+        add_reply(&mut self.replies, pair, place)?;
+        match self.keeper.append(&row) {
+            Ok(()) => {
+                keep_in(
+                    &mut self.journal,
+                    &mut self.callers,
+                    &self.place,
+                    caller,
+                    pair,
+                    row.reply,
+                );
+                Ok(())
+            }
+            Err(KeeperFault::Memory) => {
+                remove_reply(&mut self.replies, pair);
+                Err(BookError::Memory)
+            }
+            Err(KeeperFault::Store) => {
+                remove_reply(&mut self.replies, pair);
+                self.is_refused = true;
+                Err(BookError::Storage)
+            }
+            Err(KeeperFault::Table) => unreachable!(),
+        }
+    }
+
+    /// Ends a transaction with no reply. Nothing is stored. It takes no memory, and is never refused.
+    pub fn give_up(&mut self, caller: u64, pair: &Pair)
+        requires { state_of self.old.journal pair.now ≡ begun caller }
+        ensures journal { self.new.journal ≡ self.old.journal ++ BookEntry.GivenUp pair.now caller ∷ [] }
+        ensures keeper { self.new.keeper ≡ self.old.keeper }
+        ensures place { self.new.place ≡ self.old.place }
+        ensures refused { self.new.is_refused ≡ self.old.is_refused }
+    {
+        give_up_in(
+            &mut self.journal,
+            &mut self.callers,
+            &self.replies,
+            &self.place,
+            caller,
+            pair,
+        );
+    }
+
+    /// What keeps its rows.
+    pub fn into_keeper(self) -> K
+        ensures keeper { result ≡ self.keeper }
+        ensures rows { self.is_refused ≡ false → K.is_honest result → K.is_open result × (K.rows result ≡ Some (stored self.journal)) }
+    {
+        self.keeper
+    }
+}

@@ -1,0 +1,134 @@
+use crate::{Book, BookError, Opening, Pair};
+use mx_ident::ServerName;
+use mx_keeper::{BookRow, Keeper, MemoryKeeper, Place, Reply, TransactionId};
+use std::alloc::{AllocError, Global};
+use std::test::Fail;
+
+// Every other refusal would be seen in a test where memory is ample.
+fn refused<E: Drop>(_error: E) -> AllocError {
+    AllocError
+}
+
+fn pair(alloc: Global, origin: &str, txn: &str) -> Result<Pair, AllocError> {
+    let origin = ServerName::parse(alloc, origin).map_err(refused)?;
+    let txn = TransactionId::new(String::from_str(alloc, txn)?);
+    Ok(Pair { origin, txn })
+}
+
+fn reply(alloc: Global, text: &str) -> Result<Reply, AllocError> {
+    let text = String::from_str(alloc, text)?;
+    Ok(Reply::new(text))
+}
+
+// The one book of a server, with no transaction.
+fn only_book(alloc: Global) -> Result<Book<MemoryKeeper<BookRow>>, BookError> {
+    Book::reopen(alloc, MemoryKeeper::new(alloc), Place::new(0, 1))
+}
+
+// Runs a list of calls, and gives a line for each. A call that the book does not allow is told as such.
+fn told_by(alloc: Global, calls: &[(&str, u64, &str, &str, &str)]) -> Result<String, BookError> {
+    let mut book = only_book(alloc)?;
+    let mut lines = String::new(alloc);
+    for (call, caller, origin, txn, text) in calls {
+        let pair = pair(alloc, origin, txn)?;
+        let line = tell(alloc, &mut book, call, *caller, &pair, text)?;
+        lines.push_str(line.as_str())?;
+        lines.push_str("\n")?;
+    }
+    Ok(lines)
+}
+
+fn tell(
+    alloc: Global,
+    book: &mut Book<MemoryKeeper<BookRow>>,
+    call: &str,
+    caller: u64,
+    pair: &Pair,
+    text: &str,
+) -> Result<String, BookError> {
+    if call == "open" {
+        if !book.place().has(pair.origin.as_str()) {
+            return Ok(String::from_str(alloc, "another place")?);
+        }
+        return Ok(match book.open(caller, pair)? {
+            Opening::Fresh => String::from_str(alloc, "fresh")?,
+            Opening::Busy => String::from_str(alloc, "busy")?,
+            Opening::Kept(reply) => reply.into_string(),
+        });
+    }
+    if !book.is_begun(caller, pair) {
+        return Ok(String::from_str(alloc, "not begun")?);
+    }
+    if call == "keep" {
+        book.keep(caller, pair, reply(alloc, text)?)?;
+    } else {
+        book.give_up(caller, pair);
+    }
+    Ok(String::from_str(alloc, "ended")?)
+}
+
+const CALLS: [(&str, u64, &str, &str, &str); 13] = [
+    ("open", 0, "a.example", "t1", ""),
+    ("open", 1, "a.example", "t1", ""),
+    ("keep", 1, "a.example", "t1", "other"),
+    ("open", 1, "b.example", "t1", ""),
+    ("keep", 0, "a.example", "t1", "{\"pdus\":{}}"),
+    ("open", 1, "a.example", "t1", ""),
+    ("keep", 0, "a.example", "t1", "again"),
+    ("keep", 1, "b.example", "t1", "{}"),
+    ("open", 0, "b.example", "t1", ""),
+    ("open", 0, "a.example", "t2", ""),
+    ("give up", 0, "a.example", "t2", ""),
+    ("open", 2, "a.example", "t2", ""),
+    ("open", 0, "a.example", "t1", ""),
+];
+
+const TOLD: &str =
+    "fresh\nbusy\nnot begun\nfresh\nended\n{\"pdus\":{}}\nnot begun\nended\n{}\nfresh\nended\nfresh\n{\"pdus\":{}}\n";
+
+#[test]
+fn a_kept_reply_is_the_answer_for_good(rt: HostRuntime) -> Result<(), Fail> {
+    let lines = told_by(rt.alloc(), &CALLS)?;
+    assert_eq!(rt; lines.as_str(), TOLD);
+    Ok(())
+}
+
+#[test]
+fn replies_or_no_memory(rt: HostRuntime) {
+    match told_by(rt.alloc(), &CALLS) {
+        Ok(lines) => assert_eq!(rt; lines.as_str(), TOLD),
+        Err(error) => assert_eq!(rt; error, BookError::Memory),
+    }
+}
+
+// A call that is refused for memory leaves the book, so that the same call goes on where memory is ample.
+#[test]
+fn rows_of_what_is_kept(rt: HostRuntime) -> Result<(), Fail> {
+    let alloc = rt.alloc();
+    let mut book = only_book(alloc)?;
+    assert!(rt; book.none_open());
+    let first = pair(alloc, "a.example", "t1")?;
+    let second = pair(alloc, "a.example", "t2")?;
+    for pair in [&first, &second] {
+        if book.place().has(pair.origin.as_str()) {
+            let _opening = book.open(0, pair)?;
+        }
+    }
+    assert!(rt; !book.none_open());
+    assert!(rt; book.is_begun(0, &first));
+    book.keep(0, &first, reply(alloc, "{}")?)?;
+    assert!(rt; book.is_begun(0, &second));
+    book.give_up(0, &second);
+    assert!(rt; book.none_open());
+    let mut keeper = book.into_keeper();
+    let rows = keeper.rows()?;
+    assert_eq!(rt; rows.len(), 1);
+    for row in &rows {
+        assert_eq!(rt; row.origin.as_str(), "a.example");
+        assert_eq!(rt; row.txn.as_str(), "t1");
+        assert_eq!(rt; row.reply.as_str(), "{}");
+    }
+    let again = Book::reopen(alloc, keeper, Place::new(0, 1));
+    assert_eq!(rt; again.err(), Some(BookError::Storage));
+    Ok(())
+}
