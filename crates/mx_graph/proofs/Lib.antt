@@ -4,5 +4,4 @@ pub mod WalkLemmas
 pub mod ReachedLemmas
 pub mod RowLemmas
 pub mod IndexLemmas
-pub mod RemovalLemmas
 pub mod GraphRows

@@ -5,6 +5,5 @@ pub mod KnownLemmas
 pub mod AgreedLemmas
 pub mod ConflictLemmas
 pub mod OrderLemmas
-pub mod EqualStateLemmas
 pub mod ResolutionOnExamples
 pub mod ResolutionRows

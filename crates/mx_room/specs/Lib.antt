@@ -1,4 +1,0 @@
-pub mod Offer
-pub mod Hosting
-pub mod Asking
-pub mod RoomView
