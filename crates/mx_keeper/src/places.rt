@@ -40,6 +40,21 @@ impl Place {
         Place { number, count }
     }
 
+    /// The place of what has this name, among so many: the sum of the name's bytes, modulo their count. The time is
+    /// linear in the name.
+    pub fn of(name: &str, count: usize) -> Place
+        requires some { 0 < count }
+        requires few { count ≤ MOST_PLACES }
+        ensures number { result.number ≡ place_of count name.now }
+        ensures count { result.count ≡ count }
+    {
+        let bytes = name.as_bytes();
+        Place {
+            number: number_for(bytes, count),
+            count,
+        }
+    }
+
     /// Its number, counted from 0.
     pub fn number(&self) -> usize
         ensures number { result ≡ self.now.number }

@@ -124,6 +124,7 @@ fn shard_of_a_room(rt: HostRuntime) {
     ] {
         let place = Place::new(number, count);
         assert_eq!(rt; place.has(name), is_there, "{name} at {number} of {count}");
+        assert_eq!(rt; Place::of(name, count) == place, is_there);
         assert_eq!(rt; (place.number(), place.count()), (number, count));
     }
 }
