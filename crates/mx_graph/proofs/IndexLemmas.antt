@@ -198,7 +198,7 @@ indexed-push rows r prev auth numbers after v w indexed h prev_items auth_items 
 
 -- ---- what follows for the rows
 
-some-same : (x y : ℕ) → Some x ≡ Some y → x ≡ y
+pub some-same : (x y : ℕ) → Some x ≡ Some y → x ≡ y
 some-same x y e = cc
 
 pub indexed-sound : (rows : List Row) (prev auth : List (Vec ℕ Global)) (numbers : List (List ℕ × ℕ)) → IsIndexed rows prev auth numbers → IsSound rows

@@ -4,4 +4,5 @@ pub mod WalkLemmas
 pub mod ReachedLemmas
 pub mod RowLemmas
 pub mod IndexLemmas
+pub mod RemovalLemmas
 pub mod GraphRows

@@ -1,5 +1,5 @@
 // The graph of a room.
-ghost use Rattle.std.specs.Prelude.{◌≡◌, ◌+◌, ◌<◌, ◌≤◌, ◌↔◌, All, IfOk, IfSome, IsErrOf, IsTrue, None, OnErr, OnOk, Some, [], ◌∷◌, ◌++◌, filter_map, length};
+ghost use Rattle.std.specs.Prelude.{◌≡◌, ◌+◌, ◌<◌, ◌≤◌, ◌↔◌, All, IfOk, IfSome, IsErrOf, IsTrue, MatchOption, None, OnErr, OnOk, Some, [], ◌∷◌, ◌++◌, filter_map, length};
 ghost use Rattle.std.specs.List.{list_all};
 ghost use Rattle.std.specs.Result.{result_err};
 ghost use Rattle.mx_graph.specs.Adding.{add_error, is_known};
@@ -164,6 +164,18 @@ impl Graph {
         self.prev_edges.push(prev_events).unwrap();
         self.auth_edges.push(auth_events).unwrap();
         Ok(number)
+    }
+
+    /// Removes the last row, and gives it; with no rows it gives `None`. It takes no memory, and the time is logarithmic
+    /// in the rows.
+    pub fn remove_last(&mut self) -> Option<GraphRow>
+        ensures { MatchOption result ((self.old ≡ []) × (self.new ≡ [])) (λ row. self.old ≡ self.new ++ row ∷ []) }
+    {
+        let row = self.rows.pop()?;
+        self.prev_edges.pop();
+        self.auth_edges.pop();
+        self.numbers.remove(&row.id);
+        Some(row)
     }
 
     /// The number of the event with this id. It takes no memory, and the time is logarithmic in the rows.

@@ -95,6 +95,25 @@ fn rows_are_found_by_id(rt: HostRuntime) -> Result<(), Fail> {
     Ok(())
 }
 
+// The last row goes, and may come again.
+#[test]
+fn last_row_is_removed(rt: HostRuntime) -> Result<(), Fail> {
+    let alloc = rt.alloc();
+    let mut graph = Graph::new(alloc);
+    assert!(rt; graph.remove_last().is_none());
+    let first = row(alloc, "$1", "[]", "[]").ok_or("no memory")?;
+    graph.add(first)?;
+    let second = row(alloc, "$2", "[\"$1\"]", "[\"$1\"]").ok_or("no memory")?;
+    graph.add(second)?;
+    let last = graph.remove_last().ok_or("no row")?;
+    assert_eq!(rt; last.id.as_str(), "$2");
+    assert_eq!(rt; graph.len(), 1);
+    assert_eq!(rt; graph.find(&last.id), None);
+    let again = graph.add(last)?;
+    assert_eq!(rt; graph.prev_events(again), numbers(alloc, &[0])?.as_slice());
+    Ok(())
+}
+
 #[test]
 fn refusals_come_in_order(rt: HostRuntime) -> Result<(), Fail> {
     let alloc = rt.alloc();
