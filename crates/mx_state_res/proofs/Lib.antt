@@ -5,5 +5,6 @@ pub mod KnownLemmas
 pub mod AgreedLemmas
 pub mod ConflictLemmas
 pub mod OrderLemmas
+pub mod EqualStateLemmas
 pub mod ResolutionOnExamples
 pub mod ResolutionRows

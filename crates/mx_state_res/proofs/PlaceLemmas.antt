@@ -17,19 +17,19 @@ use Rattle.mx_state_res.proofs.KeyLemmas.{key_cmp-total, key_cmp-same, key_cmp-i
 put-less : (k : Key) (p : ℕ) (e : Key × ℕ) (s : State) → key_cmp k e.0 ≡ Less → put key_cmp k p (e ∷ s) ≡ (k, p) ∷ e ∷ s
 put-less k p e s h = ap (λ r. by_order r ((k, p) ∷ e ∷ s) ((e.0, p) ∷ s) (e ∷ put key_cmp k p s)) h
 
-put-equal : (k : Key) (p : ℕ) (e : Key × ℕ) (s : State) → key_cmp k e.0 ≡ Equal → put key_cmp k p (e ∷ s) ≡ (e.0, p) ∷ s
+pub put-equal : (k : Key) (p : ℕ) (e : Key × ℕ) (s : State) → key_cmp k e.0 ≡ Equal → put key_cmp k p (e ∷ s) ≡ (e.0, p) ∷ s
 put-equal k p e s h = ap (λ r. by_order r ((k, p) ∷ e ∷ s) ((e.0, p) ∷ s) (e ∷ put key_cmp k p s)) h
 
-put-greater : (k : Key) (p : ℕ) (e : Key × ℕ) (s : State) → key_cmp k e.0 ≡ Greater → put key_cmp k p (e ∷ s) ≡ e ∷ put key_cmp k p s
+pub put-greater : (k : Key) (p : ℕ) (e : Key × ℕ) (s : State) → key_cmp k e.0 ≡ Greater → put key_cmp k p (e ∷ s) ≡ e ∷ put key_cmp k p s
 put-greater k p e s h = ap (λ r. by_order r ((k, p) ∷ e ∷ s) ((e.0, p) ∷ s) (e ∷ put key_cmp k p s)) h
 
 find-less : (k : Key) (e : Key × ℕ) (s : State) → key_cmp k e.0 ≡ Less → find key_cmp k (e ∷ s) ≡ find key_cmp k s
 find-less k e s h = ap (λ r. cond (is_eq r) (Some e.1) (find key_cmp k s)) h
 
-find-equal : (k : Key) (e : Key × ℕ) (s : State) → key_cmp k e.0 ≡ Equal → find key_cmp k (e ∷ s) ≡ Some e.1
+pub find-equal : (k : Key) (e : Key × ℕ) (s : State) → key_cmp k e.0 ≡ Equal → find key_cmp k (e ∷ s) ≡ Some e.1
 find-equal k e s h = ap (λ r. cond (is_eq r) (Some e.1) (find key_cmp k s)) h
 
-find-greater : (k : Key) (e : Key × ℕ) (s : State) → key_cmp k e.0 ≡ Greater → find key_cmp k (e ∷ s) ≡ find key_cmp k s
+pub find-greater : (k : Key) (e : Key × ℕ) (s : State) → key_cmp k e.0 ≡ Greater → find key_cmp k (e ∷ s) ≡ find key_cmp k s
 find-greater k e s h = ap (λ r. cond (is_eq r) (Some e.1) (find key_cmp k s)) h
 
 -- ---- the keys rise

@@ -9,8 +9,9 @@ use mx_graph::EventNo;
 use std::alloc::{AllocError, Global};
 use std::collections::BTreeSet;
 
-/// These events, each once, rising.
-pub(crate) fn rising(alloc: Global, events: &[EventNo]) -> Result<Vec<EventNo>, AllocError>
+/// These events, each once, rising: what is in the list is in the answer, and nothing else. The time is that of the
+/// list, times a logarithm.
+pub fn rising(alloc: Global, events: &[EventNo]) -> Result<Vec<EventNo>, AllocError>
     ensures rises { IfOk result (λ found. Rises found.items) }
     ensures same { IfOk result (λ found. (p : ℕ) → is_in found.items p ≡ is_in events.now p) }
 {

@@ -7,11 +7,14 @@ mod conflicts;
 mod entries;
 mod event_sets;
 mod judged_states;
+mod laws;
 mod powers;
 mod resolving;
 mod state_maps;
 
 pub use entries::StateEntry;
+pub use event_sets::rising;
+pub use laws::{equal_states_resolve_to_themselves, one_state_resolves_to_itself};
 pub use resolving::resolve;
 pub use state_maps::StateMap;
 

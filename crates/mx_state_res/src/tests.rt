@@ -1,7 +1,7 @@
 ghost use Rattle.std.specs.Prelude.{◌<◌, All, IfOk, length};
 
-use crate::{StateMap, resolve};
-use mx_graph::{Graph, GraphRow};
+use crate::{StateMap, resolve, rising};
+use mx_graph::{EventNo, Graph, GraphRow};
 use mx_ident::EventId;
 use mx_pdu::Pdu;
 use serde_json::Value;
@@ -105,5 +105,17 @@ fn one_state_resolves_to_itself_and_none_to_the_empty_one(rt: HostRuntime) -> Re
     let resolved = resolve(alloc, &graph, &[&state])?;
     let empty = resolve(alloc, &graph, &[])?;
     assert!(rt; is_same(&resolved, &state) && empty.entries().is_empty());
+    Ok(())
+}
+
+#[test]
+fn repeated_events_rise_each_once(rt: HostRuntime) -> Result<(), Fail> {
+    let alloc = rt.alloc();
+    let events = [4, 1, 4, 0, 1].map(|place| EventNo::at(place));
+    let found = rising(alloc, &events)?;
+    assert_eq!(rt;
+        found.as_slice(),
+        [0, 1, 4].map(|place| EventNo::at(place)).as_slice()
+    );
     Ok(())
 }
