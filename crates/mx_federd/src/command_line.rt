@@ -1,20 +1,19 @@
 // The words of the command line.
+use crate::shard_counts::ShardCount;
 use clap::builder::ValueParser;
 use clap::error::ErrorKind;
 use clap::{Arg, ArgAction, ArgMatches, Error};
 use mx_ident::ServerName;
+use mx_keeper::MOST_PLACES;
 use std::alloc::{AllocError, Global};
-
-/// How many shards a server has at most.
-const MOST_SHARDS: u64 = 64;
 
 /// What the program is asked to do.
 #[derive(Debug, Drop)]
 pub(crate) enum Command {
     // One event from standard input, to its id.
     Check,
-    // A log of steps from standard input, to the answers.
-    Replay,
+    // A log of steps from standard input, to the answers, over so many shards.
+    Replay(ShardCount),
 }
 
 /// Why the words ask for nothing.
@@ -70,7 +69,7 @@ fn replay_words<'a>(alloc: Global) -> Result<clap::Command<'a>, AllocError> {
         .long("shards")
         .default_value("1")
         .action(ArgAction::Set)
-        .value_parser(ValueParser::unsigned(1, MOST_SHARDS))
+        .value_parser(ValueParser::unsigned(1, MOST_PLACES as u64))
         .help("How many shards hold the rooms, 1 to 64; no answer depends on it");
     clap::Command::new(alloc, "replay")
         .about("Reads a log of steps from standard input, and prints what a server answers to each")
@@ -88,10 +87,18 @@ fn chosen(alloc: Global, matches: &ArgMatches) -> Result<Command, CommandLineErr
 
 // `replay`, where the name is a server name.
 fn replay_of(alloc: Global, given: &ArgMatches) -> Result<Command, CommandLineError> {
+    let Some(shards) = shards_of(given) else {
+        return misused(alloc, "the number of shards is not 1 to 64\n");
+    };
     match given.get_str("name") {
-        Some(name) if ServerName::is(name) => Ok(Command::Replay),
+        Some(name) if ServerName::is(name) => Ok(Command::Replay(shards)),
         _ => misused(alloc, "the name is no server name\n"),
     }
+}
+
+fn shards_of(given: &ArgMatches) -> Option<ShardCount> {
+    let count = given.get_one::<usize>("shards")?;
+    ShardCount::of(count)
 }
 
 fn misused(alloc: Global, text: &str) -> Result<Command, CommandLineError> {

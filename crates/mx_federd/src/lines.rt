@@ -1,8 +1,9 @@
 // The lines of a log.
 use mx_ident::{IdError, ServerName};
+use mx_keeper::TransactionId;
 use mx_pdu::{Offered, Pdu, PduError, PresenceVerifier};
 use mx_redact::text_at;
-use mx_world::{Pair, Step};
+use mx_world::{Pair, Step, StepError};
 use serde_json::{Map, Value};
 use std::alloc::{AllocError, Global};
 
@@ -20,10 +21,12 @@ pub(crate) enum Line {
     HostsMalformed,
 }
 
-/// Why a line asks for nothing.
+/// Why a line has no reply.
 #[derive(Clone, Copy, Debug, PartialEq, Eq, Drop)]
 pub(crate) enum LineError {
     Memory,
+    // What keeps the rows failed.
+    Storage,
     // It has the form of no line.
     Bad,
 }
@@ -45,6 +48,14 @@ enum LineKind {
     Open,
     Next,
     Close,
+}
+
+/// Why a step has no reply.
+pub(crate) fn of_step(error: StepError) -> LineError {
+    match error {
+        StepError::Memory => LineError::Memory,
+        StepError::Storage => LineError::Storage,
+    }
 }
 
 fn of_json(error: serde_json::Error) -> LineError {
@@ -122,7 +133,7 @@ fn pair_of(alloc: Global, members: &Map<String, Value>) -> Result<Pair, LineErro
     };
     match ServerName::parse(alloc, origin) {
         Ok(origin) => {
-            let txn = String::from_str(alloc, txn)?;
+            let txn = TransactionId::new(String::from_str(alloc, txn)?);
             Ok(Pair { origin, txn })
         }
         Err(IdError::Memory) => Err(LineError::Memory),

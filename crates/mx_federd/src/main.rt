@@ -10,6 +10,7 @@ mod lines;
 mod output;
 mod replaying;
 mod reply_lines;
+mod shard_counts;
 
 use checking::check_event;
 use command_line::{Command, CommandLineError};
@@ -21,6 +22,8 @@ use std::env;
 use std::io::{self, Read, Write};
 use std::process::ExitCode;
 
+#[cfg(test)]
+mod replay_logs;
 #[cfg(test)]
 mod replay_tests;
 #[cfg(test)]
@@ -59,7 +62,7 @@ fn run<R: Read, W: Write>(
     let bytes = read_all(alloc, input)?;
     match command {
         Command::Check => check(alloc, &bytes, out),
-        Command::Replay => replay(alloc, &bytes, out),
+        Command::Replay(shards) => replay(alloc, shards, &bytes, out),
     }
 }
 

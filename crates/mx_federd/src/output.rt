@@ -23,6 +23,8 @@ pub enum Failure {
     Check(CheckError),
     #[error("memory")]
     Memory,
+    #[error("storage")]
+    Storage,
     #[error("failed read or write")]
     ReadOrWrite,
 }

@@ -1,17 +1,27 @@
 // `replay`: a log of steps, one line out for each line of it.
-ghost use Rattle.std.specs.Prelude.{◌<◌, length};
+ghost use Rattle.std.specs.Prelude.{◌≡◌, ◌<◌, IfOk, length};
 
-use crate::lines::{Line, LineError, read_line};
+use crate::lines::{Line, LineError, of_step, read_line};
 use crate::output::{Failure, flushed};
-use crate::reply_lines::{BAD_LINE, MALFORMED, NO_MEMORY, reply_line};
-use mx_world::World;
-use std::alloc::Global;
+use crate::reply_lines::{BAD_LINE, MALFORMED, NO_MEMORY, STORAGE, reply_line};
+use crate::shard_counts::ShardCount;
+use mx_keeper::{BookRow, MemoryKeeper, ShardRow, Storable};
+use mx_world::{StepError, World};
+use std::alloc::{AllocError, Global};
 use std::io::{BufWriter, Write};
 
-/// Replays the log on a server that hosts no room, and writes one line for each of its lines, in their order. A line
+// A server whose rows are in memory.
+type Server = World<MemoryKeeper<ShardRow>, MemoryKeeper<BookRow>>;
+
+/// Replays the log on a server that hosts no room, over so many shards, and writes one line for each of its lines, in their order. A line
 /// for which memory runs out is answered so, and those after it are read.
-pub(crate) fn replay<W: Write>(alloc: Global, log: &[u8], out: &mut W) -> Result<(), Failure> {
-    let mut world = World::new(alloc);
+pub(crate) fn replay<W: Write>(
+    alloc: Global,
+    shards: ShardCount,
+    log: &[u8],
+    out: &mut W,
+) -> Result<(), Failure> {
+    let mut world = server(alloc, shards)?;
     let mut answers = BufWriter::new(alloc, out).map_err(Failure::of_io)?;
     let mut rest = log;
     while !rest.is_empty() {
@@ -20,6 +30,30 @@ pub(crate) fn replay<W: Write>(alloc: Global, log: &[u8], out: &mut W) -> Result
         rest = after;
     }
     flushed(&mut answers)
+}
+
+fn server(alloc: Global, shards: ShardCount) -> Result<Server, Failure> {
+    let shard_keepers = keepers(alloc, shards)?;
+    let book_keepers = keepers(alloc, shards)?;
+    match World::new(alloc, shard_keepers, book_keepers) {
+        Ok(world) => Ok(world),
+        Err(StepError::Memory) => Err(Failure::Memory),
+        Err(StepError::Storage) => Err(Failure::Storage),
+    }
+}
+
+// As many keepers, with no rows.
+fn keepers<R: Storable>(
+    alloc: Global,
+    shards: ShardCount,
+) -> Result<Vec<MemoryKeeper<R>>, AllocError>
+    ensures { IfOk result (λ keepers. length keepers.items ≡ shards) }
+{
+    let mut keepers = Vec::new(alloc);
+    for _keeper in 0..shards.get() {
+        keepers.push(MemoryKeeper::new(alloc))?;
+    }
+    Ok(keepers)
 }
 
 // The first line with its newline, and what comes after it.
@@ -34,7 +68,7 @@ fn first_line(bytes: &[u8]) -> (&[u8], &[u8])
 
 fn write_answer<W: Write>(
     alloc: Global,
-    world: &mut World,
+    world: &mut Server,
     line: &[u8],
     out: &mut W,
 ) -> Result<(), Failure> {
@@ -42,13 +76,14 @@ fn write_answer<W: Write>(
         Ok(answer) => write_line(out, &answer),
         Err(LineError::Bad) => write_line(out, BAD_LINE),
         Err(LineError::Memory) => write_line(out, NO_MEMORY),
+        Err(LineError::Storage) => write_line(out, STORAGE),
     }
 }
 
-fn answer_to(alloc: Global, world: &mut World, line: &[u8]) -> Result<Vec<u8>, LineError> {
+fn answer_to(alloc: Global, world: &mut Server, line: &[u8]) -> Result<Vec<u8>, LineError> {
     match read_line(alloc, line)? {
         Line::Step(step) => {
-            let reply = world.step(alloc, &step)?;
+            let reply = world.step(alloc, &step).map_err(of_step)?;
             let answer = reply_line(alloc, &reply)?;
             Ok(answer)
         }

@@ -1,5 +1,5 @@
 // The lines that answer the lines of a log.
-use mx_world::{Answer, Body, HostError, StepReply, Told, processing_result};
+use mx_world::{Answer, HostError, Reply, StepReply, Told, processing_result};
 use serde_json::json;
 use std::alloc::{AllocError, Global};
 
@@ -7,6 +7,8 @@ use std::alloc::{AllocError, Global};
 pub(crate) const BAD_LINE: &[u8] = b"{\"error\":\"bad line\"}";
 /// Answers a line for which memory ran out.
 pub(crate) const NO_MEMORY: &[u8] = b"{\"error\":\"memory\"}";
+/// Answers a line for which what keeps the rows failed.
+pub(crate) const STORAGE: &[u8] = b"{\"error\":\"storage\"}";
 /// Answers a line that hosts a room by a malformed event.
 pub(crate) const MALFORMED: &[u8] = b"{\"refused\":\"malformed\"}";
 
@@ -56,7 +58,7 @@ fn event_line(alloc: Global, told: &Told) -> Result<Vec<u8>, AllocError> {
 }
 
 // A reply body is canonical JSON already.
-fn body_line(alloc: Global, name: &str, body: &Body) -> Result<Vec<u8>, AllocError> {
+fn body_line(alloc: Global, name: &str, body: &Reply) -> Result<Vec<u8>, AllocError> {
     let mut line = Vec::new(alloc);
     line.extend_from_slice(b"{\"")?;
     line.extend_from_slice(name.as_bytes())?;

@@ -5,18 +5,22 @@ use Rattle.std.specs.List.{list_any}
 use Rattle.std.proofs.lemmas.Bool.{false≢true}
 use Rattle.std.proofs.lemmas.Slice.Eq.{bytes_eq-Decides}
 use Rattle.mx_pdu.specs.Event.{room_of}
-use Rattle.mx_world.specs.Offer.{Offered, holds, kept_at}
-use Rattle.mx_world.specs.LoneRoom.{event_reply, query_answer, Call, to_host, to_offer, to_ask, call_room, answer, added, answers_alone, record_alone}
+use Rattle.mx_redact.specs.Fields.{Event}
+use Rattle.mx_graph.specs.Record.{place_of}
+use Rattle.mx_room.specs.Offer.{Offered}
+use Rattle.mx_room.specs.Asking.{shown, event_shown, event_reply, query_answer}
+use Rattle.mx_shard.specs.LoneRoom.{Call, to_host, to_offer, to_ask, call_room, answer, added, answers_alone, record_alone}
+use Rattle.mx_shard.specs.Shown.{IsShown, IsAnswer}
 use Rattle.mx_world.specs.Calls.{Start, left, if_put_to, offers, call_of, calls_from, calls, record_after}
-use Rattle.mx_world.specs.Replies.{Status, unopened, waiting, ended, status_after, next_reply, IsShown, IsAnswer, IsAnswered, IsReply, AreReplies}
+use Rattle.mx_world.specs.Replies.{Status, unopened, waiting, ended, status_after, next_reply, IsAnswered, IsReply, AreReplies}
 use Rattle.mx_world.specs.Moves.{rest_of}
-use Rattle.mx_world.specs.Agree.{where_so, hears, heard, answers_in, told_from, told_about, IdsApart, StayApart, IsRun, Agree, AlikeAbout}
-use Rattle.mx_world.specs.declared.outcomes.KeptEvent.{KeptEvent}
-use Rattle.mx_world.specs.declared.queries.Query.{Query}
-use Rattle.mx_world.specs.declared.queries.Query.TheVariants.{Event as ask_event}
-use Rattle.mx_world.specs.declared.answers.Answer.{Answer}
-use Rattle.mx_world.specs.declared.answers.Answer.TheVariants.{NotHosted, Hosted, AlreadyHosted, NotHost, ToOffered, ToAsked}
-use Rattle.mx_world.specs.declared.pairs.Pair.{Pair}
+use Rattle.mx_world.specs.Agree.{where_so, holds, hears, heard, answers_in, told_from, told_about, IdsApart, StayApart, IsRun, Agree, AlikeAbout}
+use Rattle.mx_receipt.specs.Receipt.{Kept, rows_of, kept_at}
+use Rattle.mx_room.specs.declared.queries.Query.{Query}
+use Rattle.mx_room.specs.declared.queries.Query.TheVariants.{Event as ask_event}
+use Rattle.mx_shard.specs.declared.answers.Answer.{Answer}
+use Rattle.mx_shard.specs.declared.answers.Answer.TheVariants.{NotHosted, Hosted, AlreadyHosted, NotHost, ToOffered, ToAsked}
+use Rattle.mx_book.specs.declared.pairs.Pair.{Pair}
 use Rattle.mx_world.specs.declared.steps.Step.{Step}
 use Rattle.mx_world.specs.declared.steps.Step.TheVariants.{Host, Open, Next, Close, Ask}
 use Rattle.mx_world.specs.declared.steps.StepReply.{StepReply}
@@ -25,38 +29,38 @@ use Rattle.mx_world.proofs.NextStep.{next_record, rest_of-status}
 
 -- ---- calls that the room does not hear
 
-unheard_adds : (kept : List KeptEvent) (c : Call) → hears kept c ≡ false → kept ++ added kept c ≡ kept
+unheard_adds : (kept : List Kept) (c : Call) → hears kept c ≡ false → kept ++ added kept c ≡ kept
 unheard_adds kept (to_host o) h = absurd (false≢true (sym h))
 unheard_adds kept (to_offer origin o) h = absurd (false≢true (sym h))
 unheard_adds [] (to_ask origin now q) h = refl
 unheard_adds (k ∷ ks) (to_ask origin now q) h = append-nil (k ∷ ks)
 
-answers-where : (kept : List KeptEvent) (c : Call) (cs : List Call) (b : Bool) → (b ≡ false → kept ++ added kept c ≡ kept) →
+answers-where : (kept : List Kept) (c : Call) (cs : List Call) (b : Bool) → (b ≡ false → kept ++ added kept c ≡ kept) →
     answers_alone kept (where_so b (c ∷ []) ++ heard (kept ++ added kept c) cs) ≡ where_so b (answer kept c ∷ []) ++ answers_alone (kept ++ added kept c) (heard (kept ++ added kept c) cs)
 answers-where kept c cs true h = refl
 answers-where kept c cs false h = ap (λ k. answers_alone k (heard (kept ++ added kept c) cs)) (sym (h refl))
 
-answers-heard : (kept : List KeptEvent) (c : Call) (cs : List Call) →
+answers-heard : (kept : List Kept) (c : Call) (cs : List Call) →
     answers_alone kept (heard kept (c ∷ cs)) ≡ where_so (hears kept c) (answer kept c ∷ []) ++ answers_alone (kept ++ added kept c) (heard (kept ++ added kept c) cs)
 answers-heard kept c cs = answers-where kept c cs (hears kept c) (unheard_adds kept c)
 
-answers-heard-append : (kept : List KeptEvent) (cs ds : List Call) →
+answers-heard-append : (kept : List Kept) (cs ds : List Call) →
     answers_alone kept (heard kept (cs ++ ds)) ≡ answers_alone kept (heard kept cs) ++ answers_alone (record_alone kept cs) (heard (record_alone kept cs) ds)
 answers-heard-append kept [] ds = refl
 answers-heard-append kept (c ∷ cs) ds =
-    let after : List KeptEvent = kept ++ added kept c in
+    let after : List Kept = kept ++ added kept c in
     let tail : List Answer = answers_alone (record_alone after cs) (heard (record_alone after cs) ds) in
     answers-heard kept c (cs ++ ds)
     ∙ ap (λ as'. where_so (hears kept c) (answer kept c ∷ []) ++ as') (answers-heard-append after cs ds)
     ∙ sym (append_assoc (where_so (hears kept c) (answer kept c ∷ [])) (answers_alone after (heard after cs)) tail)
     ∙ ap (λ as'. as' ++ tail) (sym (answers-heard kept c cs))
 
-record-where : (kept : List KeptEvent) (c : Call) (cs : List Call) (b : Bool) → (b ≡ false → kept ++ added kept c ≡ kept) →
+record-where : (kept : List Kept) (c : Call) (cs : List Call) (b : Bool) → (b ≡ false → kept ++ added kept c ≡ kept) →
     record_alone kept (where_so b (c ∷ []) ++ cs) ≡ record_alone (kept ++ added kept c) cs
 record-where kept c cs true h = refl
 record-where kept c cs false h = ap (λ k. record_alone k cs) (sym (h refl))
 
-record-heard : (kept : List KeptEvent) (cs : List Call) → record_alone kept (heard kept cs) ≡ record_alone kept cs
+record-heard : (kept : List Kept) (cs : List Call) → record_alone kept (heard kept cs) ≡ record_alone kept cs
 record-heard kept [] = refl
 record-heard kept (c ∷ cs) =
     record-where kept c (heard (kept ++ added kept c) cs) (hears kept c) (unheard_adds kept c) ∙ record-heard (kept ++ added kept c) cs
@@ -67,10 +71,10 @@ same_text : (xs ys : List ℕ) → bytes_eq xs ys ≡ true → xs ≡ ys
 same_text xs ys h = (bytes_eq-Decides xs ys).0 h
 
 -- the answers about a room that a call of it gives
-abbrev heard_answer : List KeptEvent → List Call → List Answer → List Answer
+abbrev heard_answer : List Kept → List Call → List Answer → List Answer
 heard_answer kept cs answers = where_so (list_any (hears kept) cs) answers
 
-one_heard : (kept : List KeptEvent) (c : Call) → answers_alone kept (heard kept (c ∷ [])) ≡ heard_answer kept (c ∷ []) (answer kept c ∷ [])
+one_heard : (kept : List Kept) (c : Call) → answers_alone kept (heard kept (c ∷ [])) ≡ heard_answer kept (c ∷ []) (answer kept c ∷ [])
 one_heard kept c = answers-heard kept c [] ∙ append-nil (where_so (hears kept c) (answer kept c ∷ [])) ∙ by_test (hears kept c)
   where
     by_test : (b : Bool) → where_so b (answer kept c ∷ []) ≡ where_so (b || false) (answer kept c ∷ [])
@@ -78,7 +82,7 @@ one_heard kept c = answers-heard kept c [] ∙ append-nil (where_so (hears kept 
     by_test false = refl
 
 -- a call that is made where two rooms are one
-if_same : (rows : List ℕ → List KeptEvent) (room other : List ℕ) (c : Call) (a : List KeptEvent → Answer) → (a (rows room) ≡ answer (rows room) c) →
+if_same : (rows : List ℕ → List Kept) (room other : List ℕ) (c : Call) (a : List Kept → Answer) → (a (rows room) ≡ answer (rows room) c) →
     heard_answer (rows room) (if bytes_eq other room then c ∷ [] else []) (a (rows other) ∷ []) ≡ answers_alone (rows room) (heard (rows room) (if bytes_eq other room then c ∷ [] else []))
 if_same rows room other c a h =
     elim (bytes_eq other room) as (λ b. bytes_eq other room ≡ b → heard_answer (rows room) (cond b (c ∷ []) []) (a (rows other) ∷ []) ≡ answers_alone (rows room) (heard (rows room) (cond b (c ∷ []) []))) [
@@ -87,7 +91,7 @@ if_same rows room other c a h =
       | false ↦ λ k. refl
     ] refl
 
-next_told : (rows : List ℕ → List KeptEvent) (room origin : List ℕ) (st : Status) →
+next_told : (rows : List ℕ → List Kept) (room origin : List ℕ) (st : Status) →
     heard_answer (rows room) (offers room origin (rest_of st)) (answers_in (next_reply rows origin st)) ≡ answers_alone (rows room) (heard (rows room) (offers room origin (rest_of st)))
 next_told rows room origin unopened = refl
 next_told rows room origin (ended body) = refl
@@ -100,16 +104,16 @@ abbrev is_given : Answer → Bool
 is_given (ToAsked (Ok reply)) = true
 is_given _ = false
 
-held_if_found : (o : Option KeptEvent) → is_given (ToAsked (event_reply o)) ≡ true → is_some o ≡ true
-held_if_found None h = absurd (false≢true h)
-held_if_found (Some k) h = refl
+held_if_found : (kept : List Kept) (o : Option ℕ) → is_given (ToAsked (event_reply (elim o [ None ↦ None | Some p ↦ shown (kept_at kept p) ]))) ≡ true → is_some o ≡ true
+held_if_found kept None h = absurd (false≢true h)
+held_if_found kept (Some p) h = refl
 
-held_if_shown : (kept : List KeptEvent) (origin : List ℕ) (now : ℕ) (id : List ℕ) → is_given (answer kept (to_ask origin now (ask_event id))) ≡ true → holds kept id ≡ true
-unfolding query_answer
+held_if_shown : (kept : List Kept) (origin : List ℕ) (now : ℕ) (id : List ℕ) → is_given (answer kept (to_ask origin now (ask_event id))) ≡ true → holds kept id ≡ true
+unfolding query_answer event_shown
 held_if_shown [] origin now id h = absurd (false≢true h)
-held_if_shown (k ∷ ks) origin now id h = held_if_found (kept_at (k ∷ ks) id) h
+held_if_shown (k ∷ ks) origin now id h = held_if_found (k ∷ ks) (place_of (rows_of (k ∷ ks)) id) h
 
-found_answer : (rows : List ℕ → List KeptEvent) (room origin : List ℕ) (now : ℕ) (id : List ℕ) (a : Answer) →
+found_answer : (rows : List ℕ → List Kept) (room origin : List ℕ) (now : ℕ) (id : List ℕ) (a : Answer) →
     IsShown rows (to_ask origin now (ask_event id)) a → IdsApart rows → holds (rows room) id ≡ true → a ≡ answer (rows room) (to_ask origin now (ask_event id))
 found_answer rows room origin now id (ToAsked (Ok reply)) (other, e) apart h =
     let held : holds (rows other) id ≡ true = held_if_shown (rows other) origin now id (ap is_given e) in
@@ -121,7 +125,7 @@ found_answer rows room origin now id (AlreadyHosted i) h apart k = absurd h
 found_answer rows room origin now id (NotHost error) h apart k = absurd h
 found_answer rows room origin now id (ToOffered o) h apart k = absurd h
 
-shown_told : (rows : List ℕ → List KeptEvent) (room origin : List ℕ) (now : ℕ) (id : List ℕ) (a : Answer) →
+shown_told : (rows : List ℕ → List Kept) (room origin : List ℕ) (now : ℕ) (id : List ℕ) (a : Answer) →
     IsShown rows (to_ask origin now (ask_event id)) a → IdsApart rows →
     heard_answer (rows room) (to_ask origin now (ask_event id) ∷ []) (a ∷ []) ≡ answers_alone (rows room) (heard (rows room) (to_ask origin now (ask_event id) ∷ []))
 shown_told rows room origin now id a h apart =
@@ -132,20 +136,20 @@ shown_told rows room origin now id a h apart =
     ∙ sym (one_heard (rows room) (to_ask origin now (ask_event id)))
 
 -- a call that is put to one room
-room_told : (rows : List ℕ → List KeptEvent) (room other : List ℕ) (c : Call) (reply : StepReply) → call_room c ≡ Some other → IsAnswered rows c reply →
+room_told : (rows : List ℕ → List Kept) (room other : List ℕ) (c : Call) (reply : StepReply) → call_room c ≡ Some other → IsAnswered rows c reply →
     heard_answer (rows room) (if bytes_eq other room then c ∷ [] else []) (answers_in reply) ≡ answers_alone (rows room) (heard (rows room) (if bytes_eq other room then c ∷ [] else []))
 room_told rows room other c (OfRoom a) named h =
     ap (λ x. heard_answer (rows room) (if bytes_eq other room then c ∷ [] else []) (x ∷ [])) (subst (λ r. IsAnswer rows c r a) named h)
     ∙ if_same rows room other c (λ kept. answer kept c) refl
 room_told rows room other c reply named h = absurd h
 
-ask_told : (rows : List ℕ → List KeptEvent) (room origin : List ℕ) (now : ℕ) (q : Query) (reply : StepReply) →
+ask_told : (rows : List ℕ → List Kept) (room origin : List ℕ) (now : ℕ) (q : Query) (reply : StepReply) →
     IsAnswered rows (to_ask origin now q) reply → IdsApart rows →
     heard_answer (rows room) (if_put_to room (to_ask origin now q)) (answers_in reply) ≡ answers_alone (rows room) (heard (rows room) (if_put_to room (to_ask origin now q)))
 ask_told rows room origin now (ask_event id) (OfRoom a) h apart = shown_told rows room origin now id a h apart
 ask_told rows room origin now (ask_event id) reply h apart = absurd h
 
-step_told : (rows : List ℕ → List KeptEvent) (st : Pair → Status) (room : List ℕ) (left : Pair → List Offered) (step : Step) (reply : StepReply) →
+step_told : (rows : List ℕ → List Kept) (st : Pair → Status) (room : List ℕ) (left : Pair → List Offered) (step : Step) (reply : StepReply) →
     IsReply rows st step reply → IdsApart rows → ((p : Pair) → rest_of (st p) ≡ left p) →
     heard_answer (rows room) (call_of room left step) (answers_in reply) ≡ answers_alone (rows room) (heard (rows room) (call_of room left step))
 step_told rows st room left (Host o) reply h apart same_rest =
@@ -167,7 +171,7 @@ told-alone s room earlier [] [] h apart = refl
 told-alone s room earlier [] (reply ∷ replies) h apart = absurd h
 told-alone s room earlier (step ∷ later) [] h apart = absurd h
 told-alone s room earlier (step ∷ later) (reply ∷ replies) h apart =
-    let kept : List KeptEvent = record_after s earlier room in
+    let kept : List Kept = record_after s earlier room in
     let cs : List Call = call_of room (left s earlier) step in
     ap (λ as'. as' ++ told_from s room (earlier ++ step ∷ []) later replies)
     (step_told (record_after s earlier) (status_after s earlier) room (left s earlier) step reply h.0 apart.0 (rest_of-status s earlier))

@@ -15,10 +15,11 @@ use Rattle.serde_json.proofs.Views.{Entry, view-Object, members_view-insert_entr
 use Rattle.mx_canon.specs.Canonical.{numbers, member_numbers, is_exact, canonical_error}
 use Rattle.mx_canon.specs.declared.checking.NotCanonical.TheVariants.{Float, Range}
 use Rattle.mx_world.specs.Replies.{text_of, texts_of}
-use Rattle.mx_world.specs.declared.outcomes.Outcome.TheVariants.{Kept, Known, Refused}
-use Rattle.mx_world.specs.declared.outcomes.Refusal.TheVariants.{SecondCreate, Signature, MissingEvents, RoomFull}
-use Rattle.mx_world.specs.declared.answers.Answer.{Answer}
-use Rattle.mx_world.specs.declared.answers.Answer.TheVariants.{NotHosted, Hosted, AlreadyHosted, NotHost, ToOffered, ToAsked}
+use Rattle.mx_receipt.specs.declared.verdicts.Verdict.TheVariants.{Accepted, SoftFailed, Rejected}
+use Rattle.mx_room.specs.declared.outcomes.Outcome.TheVariants.{Kept, Known, Refused}
+use Rattle.mx_room.specs.declared.outcomes.Refusal.TheVariants.{SecondCreate, Signature, MissingEvents, RoomFull}
+use Rattle.mx_shard.specs.declared.answers.Answer.{Answer}
+use Rattle.mx_shard.specs.declared.answers.Answer.TheVariants.{NotHosted, Hosted, AlreadyHosted, NotHost, ToOffered, ToAsked}
 use Rattle.mx_world.specs.declared.answers.Told.{Told}
 
 text_numbers : (a : Answer) → numbers (text_of a) ≡ []
@@ -26,8 +27,12 @@ text_numbers NotHosted = refl
 text_numbers (Hosted id) = refl
 text_numbers (AlreadyHosted id) = refl
 text_numbers (NotHost e) = refl
-text_numbers (ToOffered Kept) = refl
-text_numbers (ToOffered Known) = refl
+text_numbers (ToOffered (Kept Accepted)) = refl
+text_numbers (ToOffered (Kept (SoftFailed rule))) = refl
+text_numbers (ToOffered (Kept (Rejected rule))) = refl
+text_numbers (ToOffered (Known Accepted)) = refl
+text_numbers (ToOffered (Known (SoftFailed rule))) = refl
+text_numbers (ToOffered (Known (Rejected rule))) = refl
 text_numbers (ToOffered (Refused SecondCreate)) = refl
 text_numbers (ToOffered (Refused Signature)) = refl
 text_numbers (ToOffered (Refused MissingEvents)) = refl

@@ -1,10 +1,9 @@
-pub mod Refusals
 pub mod NextStep
 pub mod Alike
-pub mod RunLemmas
-pub mod Places
-pub mod RoomLemmas
-pub mod ShardLemmas
 pub mod BodyLemmas
-pub mod BookLemmas
-pub mod TransactionLemmas
+pub mod PlaceLemmas
+pub mod StatusLemmas
+pub mod RefusalLemmas
+pub mod RoomLemmas
+pub mod RunLemmas
+pub mod MakingLemmas

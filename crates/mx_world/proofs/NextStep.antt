@@ -3,21 +3,21 @@ use Rattle.std.proofs.Common.{◌≡◌, ℕ, suc, ◌+◌, ◌-◌, ◌≤◌, 
 use Rattle.std.specs.Prelude.{if◌then◌else◌, is_some}
 use Rattle.std.proofs.lemmas.List.{drop-drop, drop_all}
 use Rattle.std.proofs.lemmas.Bool.{false≢true, eqb-true, ne_eqb, or_cases, and_parts}
-use Rattle.mx_world.specs.Offer.{Offered}
-use Rattle.mx_world.specs.LoneRoom.{Call, record_alone, added}
-use Rattle.mx_world.specs.Pairs.{same}
+use Rattle.mx_room.specs.Offer.{Offered}
+use Rattle.mx_shard.specs.LoneRoom.{Call, record_alone, added}
+use Rattle.mx_book.specs.Pairs.{same}
 use Rattle.mx_world.specs.Calls.{Start, Opening, first_open, opening, turn, is_closed, left_of, left, call_of, calls_from, calls, record_after}
 use Rattle.mx_world.specs.Replies.{first_told, told_by, told_from, told_after, body_of, Status, unopened, waiting, ended, status_by, status_after}
 use Rattle.mx_world.specs.Moves.{rest_of, after_open, after_next, after_close, moved}
-use Rattle.mx_world.specs.declared.outcomes.KeptEvent.{KeptEvent}
+use Rattle.mx_receipt.specs.Receipt.{Kept}
 use Rattle.mx_world.specs.declared.answers.Told.{Told}
-use Rattle.mx_world.specs.declared.pairs.Pair.{Pair}
+use Rattle.mx_book.specs.declared.pairs.Pair.{Pair}
 use Rattle.mx_world.specs.declared.steps.Step.{Step}
 use Rattle.mx_world.specs.declared.steps.Step.TheVariants.{Host, Open, Next, Close, Ask}
 
 -- ---- the calls and the record
 
-pub record_alone-append : (kept : List KeptEvent) (cs ds : List Call) → record_alone kept (cs ++ ds) ≡ record_alone (record_alone kept cs) ds
+pub record_alone-append : (kept : List Kept) (cs ds : List Call) → record_alone kept (cs ++ ds) ≡ record_alone (record_alone kept cs) ds
 record_alone-append kept [] ds = refl
 record_alone-append kept (c ∷ cs) ds = record_alone-append (kept ++ added kept c) cs ds
 
@@ -61,7 +61,7 @@ first_open_before p (Open q events ∷ a) b h =
       | false ↦ λ k. first_open_before p a b k
     ] h
 
-no_told_by : (p : Pair) (rows : List ℕ → List KeptEvent) (x : Step) → told_by p rows [] x ≡ []
+no_told_by : (p : Pair) (rows : List ℕ → List Kept) (x : Step) → told_by p rows [] x ≡ []
 no_told_by p rows (Host o) = refl
 no_told_by p rows (Open q events) = refl
 no_told_by p rows (Close q) = refl
@@ -157,11 +157,11 @@ shape-opened : (c : Bool) (t : ℕ) (events : List Offered) (told : List Told) (
 shape-opened true t events told new = refl
 shape-opened false t events told new = refl
 
-one_taken : (p : Pair) (rows : List ℕ → List KeptEvent) (rest : List Offered) (told : List Told) → waiting (drop 1 rest) (told ++ first_told rows p.origin rest) ≡ after_next rows p.origin (waiting rest told)
+one_taken : (p : Pair) (rows : List ℕ → List Kept) (rest : List Offered) (told : List Told) → waiting (drop 1 rest) (told ++ first_told rows p.origin rest) ≡ after_next rows p.origin (waiting rest told)
 one_taken p rows [] told = ap (waiting []) (append-nil told)
 one_taken p rows (e ∷ rest) told = refl
 
-shape-taken : (p : Pair) (rows : List ℕ → List KeptEvent) (c : Bool) (t : ℕ) (events : List Offered) (told : List Told) → (c ≡ true → length events ≤ t) → shape (c || false) (t + 1) events (told ++ first_told rows p.origin (drop t events)) ≡ after_next rows p.origin (shape c t events told)
+shape-taken : (p : Pair) (rows : List ℕ → List Kept) (c : Bool) (t : ℕ) (events : List Offered) (told : List Told) → (c ≡ true → length events ≤ t) → shape (c || false) (t + 1) events (told ++ first_told rows p.origin (drop t events)) ≡ after_next rows p.origin (shape c t events told)
 shape-taken p rows true t events told h =
     ap (λ rest. ended (body_of (told ++ first_told rows p.origin rest))) (drop_all t events (h refl)) ∙ ap (λ ts. ended (body_of ts)) (append-nil told)
 shape-taken p rows false t events told h =
@@ -181,7 +181,7 @@ shape-ended false t events told =
     ∙ ap (shape (eqb (length (drop t events)) 0 || false) t events) (append-nil told)
     ∙ none_left (drop t events) told
 
-next_shape : (p : Pair) (rows : List ℕ → List KeptEvent) (x : Step) (c : Bool) (t : ℕ) (events : List Offered) (told : List Told) → (c ≡ true → length events ≤ t) → shape (c || is_closed p (length events - t) (x ∷ [])) (t + turn p (x ∷ [])) events (told ++ told_by p rows (drop t events) x) ≡ moved rows x p (shape c t events told)
+next_shape : (p : Pair) (rows : List ℕ → List Kept) (x : Step) (c : Bool) (t : ℕ) (events : List Offered) (told : List Told) → (c ≡ true → length events ≤ t) → shape (c || is_closed p (length events - t) (x ∷ [])) (t + turn p (x ∷ [])) events (told ++ told_by p rows (drop t events) x) ≡ moved rows x p (shape c t events told)
 next_shape p rows (Host o) c t events told h = shape-same c t events told
 next_shape p rows (Ask origin now k) c t events told h = shape-same c t events told
 next_shape p rows (Open q new) c t events told h =
@@ -201,7 +201,7 @@ next_shape p rows (Close q) c t events told h =
     ]
 
 -- a pair that isn't opened, with one more step
-next_unopened : (p : Pair) (rows : List ℕ → List KeptEvent) (x : Step) → status_by p None (first_open p (x ∷ [])) [] ≡ moved rows x p unopened
+next_unopened : (p : Pair) (rows : List ℕ → List Kept) (x : Step) → status_by p None (first_open p (x ∷ [])) [] ≡ moved rows x p unopened
 next_unopened p rows (Host o) = refl
 next_unopened p rows (Ask origin now k) = refl
 next_unopened p rows (Open q events) =
@@ -209,21 +209,21 @@ next_unopened p rows (Open q events) =
 next_unopened p rows (Next q) = elim (same p q) as (λ b. unopened ≡ cond b unopened unopened) [ true ↦ refl | false ↦ refl ]
 next_unopened p rows (Close q) = elim (same p q) as (λ b. unopened ≡ cond b unopened unopened) [ true ↦ refl | false ↦ refl ]
 
-ended_stays : (p : Pair) (rows : List ℕ → List KeptEvent) (x : Step) (body : List ℕ) → ended body ≡ moved rows x p (ended body)
+ended_stays : (p : Pair) (rows : List ℕ → List Kept) (x : Step) (body : List ℕ) → ended body ≡ moved rows x p (ended body)
 ended_stays p rows (Host o) body = refl
 ended_stays p rows (Ask origin now k) body = refl
 ended_stays p rows (Open q events) body = elim (same p q) as (λ b. ended body ≡ cond b (ended body) (ended body)) [ true ↦ refl | false ↦ refl ]
 ended_stays p rows (Next q) body = elim (same p q) as (λ b. ended body ≡ cond b (ended body) (ended body)) [ true ↦ refl | false ↦ refl ]
 ended_stays p rows (Close q) body = elim (same p q) as (λ b. ended body ≡ cond b (ended body) (ended body)) [ true ↦ refl | false ↦ refl ]
 
-next_opened : (p : Pair) (rows : List ℕ → List KeptEvent) (x : Step) (o : Opening) (told : List Told) → status_by p None (Some (record { events = o.events; since = o.since ++ x ∷ [] })) (told ++ told_by p rows (left_of p (Some o)) x) ≡ moved rows x p (status_by p None (Some o) told)
+next_opened : (p : Pair) (rows : List ℕ → List Kept) (x : Step) (o : Opening) (told : List Told) → status_by p None (Some (record { events = o.events; since = o.since ++ x ∷ [] })) (told ++ told_by p rows (left_of p (Some o)) x) ≡ moved rows x p (status_by p None (Some o) told)
 next_opened p rows x o told =
     ap (λ c. shape c (turn p (o.since ++ x ∷ [])) o.events (told ++ told_by p rows (left_of p (Some o)) x)) (is_closed-push p (length o.events) o.since x)
     ∙ ap (λ t. shape (is_closed p (length o.events) o.since || is_closed p (length o.events - turn p o.since) (x ∷ [])) t o.events (told ++ told_by p rows (left_of p (Some o)) x)) (turn-push p o.since x)
     ∙ next_shape p rows x (is_closed p (length o.events) o.since) (turn p o.since) o.events told (closed_turn p (length o.events) o.since)
 
 -- the status by whether the pair was kept at the start, and by its opening
-next_by : (p : Pair) (rows : List ℕ → List KeptEvent) (x : Step) (kept : Option (List ℕ)) (first first' : Option Opening) (told told' : List Told) →
+next_by : (p : Pair) (rows : List ℕ → List Kept) (x : Step) (kept : Option (List ℕ)) (first first' : Option Opening) (told told' : List Told) →
     first' ≡ grown p first x →
     (kept ≡ None → first ≡ None → told ≡ []) →
     told' ≡ told ++ told_by p rows (left_of p (if is_some kept then None else first)) x →

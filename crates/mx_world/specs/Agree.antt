@@ -1,14 +1,14 @@
 -- What a run tells about one room, and when two runs agree on it (our own).
-use Rattle.std.specs.Prelude.{ℕ, ◌≡◌, Bool, true, if◌then◌else◌, List, [], ◌∷◌, ◌++◌, IsTrue}
+use Rattle.std.specs.Prelude.{ℕ, ◌≡◌, Bool, true, if◌then◌else◌, List, [], ◌∷◌, ◌++◌, IsTrue, is_some}
 use Rattle.std.specs.List.{list_any}
-use Rattle.mx_world.specs.Offer.{holds}
-use Rattle.mx_world.specs.LoneRoom.{Call, to_host, to_offer, to_ask, added}
+use Rattle.mx_graph.specs.Record.{place_of}
+use Rattle.mx_shard.specs.LoneRoom.{Call, to_host, to_offer, to_ask, added}
 use Rattle.mx_world.specs.Calls.{Start, left, call_of, calls, record_after}
 use Rattle.mx_world.specs.Replies.{AreReplies}
-use Rattle.mx_world.specs.declared.outcomes.KeptEvent.{KeptEvent}
-use Rattle.mx_world.specs.declared.queries.Query.{Query}
-use Rattle.mx_world.specs.declared.queries.Query.TheVariants.{Event as ask_event}
-use Rattle.mx_world.specs.declared.answers.Answer.{Answer}
+use Rattle.mx_receipt.specs.Receipt.{Kept, rows_of}
+use Rattle.mx_room.specs.declared.queries.Query.{Query}
+use Rattle.mx_room.specs.declared.queries.Query.TheVariants.{Event as ask_event}
+use Rattle.mx_shard.specs.declared.answers.Answer.{Answer}
 use Rattle.mx_world.specs.declared.steps.Step.{Step}
 use Rattle.mx_world.specs.declared.steps.StepReply.{StepReply}
 use Rattle.mx_world.specs.declared.steps.StepReply.TheVariants.{OfRoom, OfEvent}
@@ -17,17 +17,21 @@ use Rattle.mx_world.specs.declared.steps.StepReply.TheVariants.{OfRoom, OfEvent}
 abbrev pub where_so : {A : Type 0} → Bool → List A → List A
 where_so b xs = if b then xs else []
 
+-- the room holds the event with this id
+abbrev pub holds : List Kept → List ℕ → Bool
+holds kept id = is_some (place_of (rows_of kept) id)
+
 -- ---- calls that concern a room: all but a query by an id alone that it does not hold
 
-abbrev pub hears_query : List KeptEvent → Query → Bool
+abbrev pub hears_query : List Kept → Query → Bool
 hears_query kept (ask_event id) = holds kept id
 
-abbrev pub hears : List KeptEvent → Call → Bool
+abbrev pub hears : List Kept → Call → Bool
 hears kept (to_host o) = true
 hears kept (to_offer origin o) = true
 hears kept (to_ask origin now q) = hears_query kept q
 
-abbrev pub heard : List KeptEvent → List Call → List Call
+abbrev pub heard : List Kept → List Call → List Call
 heard kept [] = []
 heard kept (call ∷ calls) = where_so (hears kept call) (call ∷ []) ++ heard (kept ++ added kept call) calls
 
@@ -52,7 +56,7 @@ told_about s room steps replies = told_from s room [] steps replies
 -- ---- runs
 
 -- no two rooms hold one id
-abbrev pub IdsApart : (List ℕ → List KeptEvent) → Type 0
+abbrev pub IdsApart : (List ℕ → List Kept) → Type 0
 IdsApart rows = (id room other : List ℕ) → IsTrue (holds (rows room) id) → IsTrue (holds (rows other) id) → room ≡ other
 
 -- nor do they before any of the later steps

@@ -1,17 +1,17 @@
 -- Transactions, told from the steps before a moment (our own): which are open, what each has still to take, and which
 -- calls each room gets.
 use Rattle.std.specs.Prelude.{ℕ, ◌+◌, ◌-◌, ◌==◌, Bool, true, false, ◌&&◌, ◌||◌, if◌then◌else◌, List, [], ◌∷◌, ◌++◌, bytes_eq, drop, Option, Some, None, is_some}
-use Rattle.mx_world.specs.Offer.{Offered}
-use Rattle.mx_world.specs.LoneRoom.{Call, to_host, to_offer, to_ask, call_room, record_alone}
-use Rattle.mx_world.specs.Pairs.{same}
-use Rattle.mx_world.specs.declared.outcomes.KeptEvent.{KeptEvent}
-use Rattle.mx_world.specs.declared.pairs.Pair.{Pair}
+use Rattle.mx_room.specs.Offer.{Offered}
+use Rattle.mx_shard.specs.LoneRoom.{Call, to_host, to_offer, to_ask, call_room, record_alone}
+use Rattle.mx_book.specs.Pairs.{same}
+use Rattle.mx_receipt.specs.Receipt.{Kept}
+use Rattle.mx_book.specs.declared.pairs.Pair.{Pair}
 use Rattle.mx_world.specs.declared.steps.Step.{Step}
 use Rattle.mx_world.specs.declared.steps.Step.TheVariants.{Host, Open, Next, Close, Ask}
 
 -- what there is before the first step: each room's record, and the replies kept for good
 pub record Start : Type 0 where
-  pub record_at : List ℕ → List KeptEvent
+  pub record_at : List ℕ → List Kept
   pub kept_at : Pair → Option (List ℕ)
 
 -- ---- transactions
@@ -86,5 +86,5 @@ abbrev pub calls : Start → List ℕ → List Step → List Call
 calls s room steps = calls_from s room [] steps
 
 -- the room's record after these steps: that of a server which hosts it alone and got its calls
-abbrev pub record_after : Start → List Step → List ℕ → List KeptEvent
+abbrev pub record_after : Start → List Step → List ℕ → List Kept
 record_after s steps room = record_alone (s.record_at room) (calls s room steps)

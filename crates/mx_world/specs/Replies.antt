@@ -1,22 +1,25 @@
 -- The reply to each step, by the steps before it (our own), with the texts of Server-Server API, transactions.
-use Rattle.std.specs.Prelude.{ℕ, ◌≡◌, if◌then◌else◌, List, [], ◌∷◌, ◌++◌, codes, length, fold, Option, Some, None, Ok, Err}
+use Rattle.std.specs.Prelude.{ℕ, ◌≡◌, if◌then◌else◌, List, [], ◌∷◌, ◌++◌, codes, length, fold, Option, Some, None}
 use Rattle.serde_json.specs.Data.{Data, string, object, no_members, member, put}
 use Rattle.mx_canon.specs.Canonical.{canonical_text}
 use Rattle.mx_pdu.specs.Event.{room_of}
-use Rattle.mx_world.specs.Offer.{Offered}
-use Rattle.mx_world.specs.LoneRoom.{Call, to_host, to_offer, to_ask, call_room, answer}
-use Rattle.mx_world.specs.Pairs.{same}
+use Rattle.mx_room.specs.Offer.{Offered}
+use Rattle.mx_auth.specs.Rules.{label_text}
+use Rattle.mx_receipt.specs.Receipt.{Kept}
+use Rattle.mx_receipt.specs.declared.verdicts.Verdict.{Verdict}
+use Rattle.mx_receipt.specs.declared.verdicts.Verdict.TheVariants.{Accepted, SoftFailed, Rejected}
+use Rattle.mx_shard.specs.LoneRoom.{Call, to_host, to_offer, to_ask, call_room, answer}
+use Rattle.mx_shard.specs.Shown.{IsAnswer}
+use Rattle.mx_book.specs.Pairs.{same}
 use Rattle.mx_world.specs.Calls.{Start, Opening, opening, left, left_of, is_closed, record_after}
-use Rattle.mx_world.specs.declared.outcomes.KeptEvent.{KeptEvent}
-use Rattle.mx_world.specs.declared.outcomes.Outcome.{Outcome}
-use Rattle.mx_world.specs.declared.outcomes.Outcome.TheVariants.{Kept, Known, Refused}
-use Rattle.mx_world.specs.declared.outcomes.Refusal.{Refusal}
-use Rattle.mx_world.specs.declared.outcomes.Refusal.TheVariants.{SecondCreate, Signature, MissingEvents, RoomFull}
-use Rattle.mx_world.specs.declared.queries.Denied.TheVariants.{NotFound}
-use Rattle.mx_world.specs.declared.answers.Answer.{Answer}
-use Rattle.mx_world.specs.declared.answers.Answer.TheVariants.{ToOffered, ToAsked}
+use Rattle.mx_room.specs.declared.outcomes.Outcome.{Outcome}
+use Rattle.mx_room.specs.declared.outcomes.Outcome.TheVariants as outcome
+use Rattle.mx_room.specs.declared.outcomes.Refusal.{Refusal}
+use Rattle.mx_room.specs.declared.outcomes.Refusal.TheVariants.{SecondCreate, Signature, MissingEvents, RoomFull}
+use Rattle.mx_shard.specs.declared.answers.Answer.{Answer}
+use Rattle.mx_shard.specs.declared.answers.Answer.TheVariants.{ToOffered}
 use Rattle.mx_world.specs.declared.answers.Told.{Told}
-use Rattle.mx_world.specs.declared.pairs.Pair.{Pair}
+use Rattle.mx_book.specs.declared.pairs.Pair.{Pair}
 use Rattle.mx_world.specs.declared.steps.Step.{Step}
 use Rattle.mx_world.specs.declared.steps.Step.TheVariants.{Host, Open, Next, Close, Ask}
 use Rattle.mx_world.specs.declared.steps.StepReply.{StepReply}
@@ -30,6 +33,12 @@ error_text s = object (member (codes "error") (string s) no_members)
 abbrev pub no_error : Data
 no_error = object no_members
 
+-- an event that is rejected is told with the rule that refuses it
+abbrev pub verdict_text : Verdict → Data
+verdict_text Accepted = no_error
+verdict_text (SoftFailed rule) = no_error
+verdict_text (Rejected rule) = error_text (codes "rejected: " ++ label_text rule)
+
 abbrev pub refusal_text : Refusal → List ℕ
 refusal_text SecondCreate = codes "second create"
 refusal_text Signature = codes "signature"
@@ -37,9 +46,9 @@ refusal_text MissingEvents = codes "missing events"
 refusal_text RoomFull = codes "room full"
 
 abbrev pub outcome_text : Outcome → Data
-outcome_text Kept = no_error
-outcome_text Known = no_error
-outcome_text (Refused r) = error_text (refusal_text r)
+outcome_text (outcome.Kept v) = verdict_text v
+outcome_text (outcome.Known v) = verdict_text v
+outcome_text (outcome.Refused r) = error_text (refusal_text r)
 
 -- the text for an answer to an offered event
 abbrev pub text_of : Answer → Data
@@ -57,14 +66,14 @@ body_of told = canonical_text (object (member (codes "pdus") (texts_of told) no_
 -- ---- what is known of a transaction
 
 -- the answers that the events of p among the later steps get, after the earlier ones
-abbrev pub told_of : (List ℕ → List KeptEvent) → List ℕ → Offered → Told
+abbrev pub told_of : (List ℕ → List Kept) → List ℕ → Offered → Told
 told_of rows origin o = record { id = o.id; answer = answer (rows (room_of o.pdu)) (to_offer origin o) }
 
-abbrev pub first_told : (List ℕ → List KeptEvent) → List ℕ → List Offered → List Told
+abbrev pub first_told : (List ℕ → List Kept) → List ℕ → List Offered → List Told
 first_told rows origin [] = []
 first_told rows origin (o ∷ rest) = told_of rows origin o ∷ []
 
-abbrev pub told_by : Pair → (List ℕ → List KeptEvent) → List Offered → Step → List Told
+abbrev pub told_by : Pair → (List ℕ → List Kept) → List Offered → Step → List Told
 told_by p rows rest (Next q) = if same p q then first_told rows p.origin rest else []
 told_by p rows rest step = []
 
@@ -98,7 +107,7 @@ open_reply events unopened = Opened (length events)
 open_reply events (waiting rest told) = Busy
 open_reply events (ended body) = Replayed body
 
-abbrev pub next_reply : (List ℕ → List KeptEvent) → List ℕ → Status → StepReply
+abbrev pub next_reply : (List ℕ → List Kept) → List ℕ → Status → StepReply
 next_reply rows origin unopened = NotOpen
 next_reply rows origin (waiting [] told) = NoMore
 next_reply rows origin (waiting (o ∷ rest) told) = OfEvent (told_of rows origin o)
@@ -110,24 +119,12 @@ close_reply (waiting [] told) = Closed (body_of told)
 close_reply (waiting (o ∷ rest) told) = MoreLeft (length (o ∷ rest))
 close_reply (ended body) = NotOpen
 
--- what some room shows; not found only where each room answers so
-abbrev pub IsShown : (List ℕ → List KeptEvent) → Call → Answer → Type 0
-IsShown rows call (ToAsked (Ok reply)) = (room : List ℕ) × (answer (rows room) call ≡ ToAsked (Ok reply))
-IsShown rows call (ToAsked (Err denied)) =
-    (denied ≡ NotFound) × ((room : List ℕ) → answer (rows room) call ≡ ToAsked (Err NotFound))
-IsShown rows call other = ⊥
-
--- the answer of the room that the call is put to, else what some room shows
-abbrev pub IsAnswer : (List ℕ → List KeptEvent) → Call → Option (List ℕ) → Answer → Type 0
-IsAnswer rows call (Some room) a = a ≡ answer (rows room) call
-IsAnswer rows call None a = IsShown rows call a
-
-abbrev pub IsAnswered : (List ℕ → List KeptEvent) → Call → StepReply → Type 0
+abbrev pub IsAnswered : (List ℕ → List Kept) → Call → StepReply → Type 0
 IsAnswered rows call (OfRoom a) = IsAnswer rows call (call_room call) a
 IsAnswered rows call other = ⊥
 
 -- the reply to a step, where the rooms have these records and the pairs this status
-abbrev pub IsReply : (List ℕ → List KeptEvent) → (Pair → Status) → Step → StepReply → Type 0
+abbrev pub IsReply : (List ℕ → List Kept) → (Pair → Status) → Step → StepReply → Type 0
 IsReply rows status (Host o) reply = IsAnswered rows (to_host o) reply
 IsReply rows status (Open p events) reply = reply ≡ open_reply events.items (status p)
 IsReply rows status (Next p) reply = reply ≡ next_reply rows p.origin (status p)

@@ -1,56 +1,70 @@
 // Lists of steps.
 ghost use Rattle.std.specs.Prelude.{◌≡◌, ◌<◌, ℕ, List, [], take, length, IsTrue, IfOk, OnOk, IfErr};
-ghost use Rattle.mx_world.specs.LoneRoom.{answers_alone};
+ghost use Rattle.mx_shard.specs.LoneRoom.{answers_alone};
 ghost use Rattle.mx_world.specs.Calls.{Start, calls, record_after};
 ghost use Rattle.mx_world.specs.Replies.{AreReplies};
 ghost use Rattle.mx_world.specs.Agree.{heard, told_about, StayApart, IsRun, Agree, AlikeAbout};
-ghost use Rattle.mx_world.specs.Tables.{none_open, rows_in, start, IsAfter};
+ghost use Rattle.mx_world.specs.Worlds.{none_open, is_refused, records_in, start, IsAfter};
 
+use crate::refusals::StepError;
 use crate::steps::{Step, StepReply};
 use crate::worlds::World;
+use mx_keeper::{BookRow, Keeper, ShardRow};
 use std::alloc::Global;
 use thiserror::Error;
 
-/// Memory ran out in a run: `done` steps were done, and the one after them was refused and changed nothing.
+/// A run stopped: `done` steps were done, and the one after them was refused for `cause` and changed nothing.
 #[derive(Clone, Copy, Debug, PartialEq, Eq, Drop, Error)]
-#[error("out of memory after {done} steps")]
+#[error("{cause} after {done} steps")]
 pub struct RunError {
     pub done: usize,
+    pub cause: StepError,
 }
 
 /// Runs steps in order, and gives the reply to each.
 ///
 /// Each reply is the one that the steps before it call for. Where no two rooms ever hold one event id, what the replies
 /// tell about a room is what a server tells that hosts this room alone and gets this room's calls in that order.
-/// `RunError` where memory runs out: the steps before the one that was refused are done, and it changed nothing.
-pub fn run(world: &mut World, alloc: Global, steps: &[Step]) -> Result<Vec<StepReply>, RunError>
+/// `RunError` where a step is refused: the steps before it are done, and it changed nothing.
+pub fn run<K: Keeper<Row = ShardRow>, L: Keeper<Row = BookRow>>(
+    world: &mut World<K, L>,
+    alloc: Global,
+    steps: &[Step],
+) -> Result<Vec<StepReply>, RunError>
     requires { IsTrue (none_open world.old) }
     ensures replies { IfOk result (λ replies. AreReplies (start world.old) [] steps.now replies.items) }
     ensures after { OnOk result (IsAfter (start world.old) steps.now world.new) }
     // Each room's record is that of a server which hosts it alone and got its calls.
-    ensures records { OnOk result ((room : List ℕ) → rows_in world.new.rooms room ≡ record_after (start world.old) steps.now room) }
+    ensures records { OnOk result ((room : List ℕ) → records_in world.new room ≡ record_after (start world.old) steps.now room) }
     // Each room is answered as by a server that hosts it alone and got its calls.
     ensures alone { IfOk result (λ replies. StayApart (start world.old) [] steps.now → (room : List ℕ) →
         told_about (start world.old) room steps.now replies.items
-        ≡ answers_alone (rows_in world.old.rooms room) (heard (rows_in world.old.rooms room) (calls (start world.old) room steps.now))) }
+        ≡ answers_alone (records_in world.old room) (heard (records_in world.old room) (calls (start world.old) room steps.now))) }
     // A run that stops has done the steps before the one that was refused, and says how many.
     ensures err { IfErr result (λ error. IsAfter (start world.old) (take error.done steps.now) world.new) }
     ensures stopped { IfErr result (λ error. error.done < length steps.now) }
+    ensures storage { IfErr result (λ error. error.cause ≡ StepError.Storage → IsTrue (is_refused world.new)) }
 {
     if steps.is_empty() {
         return Ok(Vec::new(alloc));
     }
     let mut replies = Vec::new(alloc);
     let Ok(()) = replies.reserve(steps.len()) else {
-        return Err(RunError { done: 0 });
+        return Err(RunError {
+            done: 0,
+            cause: StepError::Memory,
+        });
     };
     for step in steps {
-        let Ok(reply) = world.step(alloc, step) else {
-            return Err(RunError {
-                done: replies.len(),
-            });
-        };
-        replies.push_reserved(reply);
+        match world.step(alloc, step) {
+            Ok(reply) => replies.push_reserved(reply),
+            Err(cause) => {
+                return Err(RunError {
+                    done: replies.len(),
+                    cause,
+                });
+            }
+        }
     }
     Ok(replies)
 }

@@ -1,10 +1,11 @@
 // Steps and the replies to them.
-use crate::answers::{Answer, Told};
-use crate::bodies::Body;
-use crate::pairs::Pair;
-use crate::queries::Query;
+use crate::answers::Told;
+use mx_book::Pair;
 use mx_ident::ServerName;
+use mx_keeper::Reply;
 use mx_pdu::Offered;
+use mx_room::Query;
+use mx_shard::Answer;
 
 /// One step of a server of rooms.
 ///
@@ -29,18 +30,18 @@ pub enum Step {
 /// The reply to a step.
 ///
 /// `OfRoom`: a room's answer. `Opened`: a transaction was opened with so many events. `Replayed`: it was closed before,
-/// and this is its reply. `Busy`: it is open already. `NotOpen`: it isn't open. `NoMore`: none of its events is left.
+/// and this is its reply. `Busy`: it is open already. `NotOpen`: it is not open. `NoMore`: none of its events is left.
 /// `OfEvent`: its next event, and the room's answer. `MoreLeft`: so many of its events are left, so that it stays open.
 /// `Closed`: it is closed from now on, and this is its reply. `Busy`, `NotOpen`, `NoMore` and `MoreLeft` change nothing.
 #[derive(Debug, Drop)]
 pub enum StepReply {
     OfRoom(Answer),
     Opened(usize),
-    Replayed(Body),
+    Replayed(Reply),
     Busy,
     NotOpen,
     NoMore,
     OfEvent(Told),
     MoreLeft(usize),
-    Closed(Body),
+    Closed(Reply),
 }

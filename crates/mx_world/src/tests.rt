@@ -1,9 +1,14 @@
+ghost use Rattle.std.specs.Prelude.{◌≡◌, ◌≤◌, length, IfOk, IsTrue};
+ghost use Rattle.mx_world.specs.Worlds.{none_open};
+
 use crate::{
-    Answer, Denied, HostError, KeptEvent, Outcome, Pair, Query, QueryReply, Refusal, Step,
-    StepReply, World, broken_create_rule, hosting_fault, processing_result, run,
+    Answer, BookRow, Denied, HostError, Outcome, Pair, Query, QueryReply, Refusal, ShardRow, Step,
+    StepError, StepReply, World, processing_result, run,
 };
 use mx_ident::{EventId, ServerName};
+use mx_keeper::{MemoryKeeper, Storable, TransactionId};
 use mx_pdu::{Offered, Pdu};
+use mx_receipt::Verdict;
 use serde_json::Value;
 use std::alloc::{AllocError, Global};
 use std::test::Fail;
@@ -15,23 +20,29 @@ const CREATE: &str =
 const CREATE_S: &str =
     "{\"auth_events\":[],\"content\":{\"creator\":\"@a:a.example\",\"room_version\":\"6\"},\"depth\":1,\"hashes\":{\"sha256\":\"qGu3KVS6A6LZz9qwk3fXfVPgDYFzhuizZoff+jHGCfE\"},\"origin_server_ts\":5,\"prev_events\":[],\"room_id\":\"!s:a.example\",\"sender\":\"@a:a.example\",\"signatures\":{\"a.example\":{\"ed25519:1\":\"s\"}},\"state_key\":\"\",\"type\":\"m.room.create\"}";
 
-const PARENT: &str =
-    "{\"auth_events\":[\"$c\"],\"content\":{\"body\":\"p\"},\"depth\":2,\"hashes\":{\"sha256\":\"YoT+9RYqKKM7GUR9yVK+IYyh+kkF1cgdONV9niEtaSw\"},\"origin_server_ts\":5,\"prev_events\":[\"$c\"],\"room_id\":\"!r:a.example\",\"sender\":\"@a:a.example\",\"signatures\":{\"a.example\":{\"ed25519:1\":\"s\"}},\"type\":\"m.room.message\"}";
-
-const CHILD: &str =
-    "{\"auth_events\":[\"$c\"],\"content\":{\"body\":\"q\"},\"depth\":3,\"hashes\":{\"sha256\":\"CQIzc3t/VrkLHFrscRqeFocmOwah7Qfho4YsNreoYLs\"},\"origin_server_ts\":5,\"prev_events\":[\"$p\"],\"room_id\":\"!r:a.example\",\"sender\":\"@a:a.example\",\"signatures\":{\"a.example\":{\"ed25519:1\":\"s\"}},\"type\":\"m.room.message\"}";
-
 const JOIN_R: &str =
     "{\"auth_events\":[\"$c\"],\"content\":{\"membership\":\"join\"},\"depth\":2,\"hashes\":{\"sha256\":\"9CvJGI5afUSAk8phx3t+b1kdq1qYRSChDsNLuQbxzHY\"},\"origin_server_ts\":5,\"prev_events\":[\"$c\"],\"room_id\":\"!r:a.example\",\"sender\":\"@a:a.example\",\"signatures\":{\"a.example\":{\"ed25519:1\":\"s\"}},\"state_key\":\"@a:a.example\",\"type\":\"m.room.member\"}";
 
 const JOIN_S: &str =
     "{\"auth_events\":[\"$d\"],\"content\":{\"membership\":\"join\"},\"depth\":2,\"hashes\":{\"sha256\":\"sr2dV5Vgwoauk6TqkCb/1vYlaAKRka01egdhtxDDTF8\"},\"origin_server_ts\":5,\"prev_events\":[\"$d\"],\"room_id\":\"!s:a.example\",\"sender\":\"@a:a.example\",\"signatures\":{\"a.example\":{\"ed25519:1\":\"s\"}},\"state_key\":\"@a:a.example\",\"type\":\"m.room.member\"}";
 
+const PARENT: &str =
+    "{\"auth_events\":[\"$c\",\"$jr\"],\"content\":{\"body\":\"p\"},\"depth\":3,\"hashes\":{\"sha256\":\"XoDgwHYZKMUFOsM3O5it11AMcuJRD8Ni0CDh/RbReCM\"},\"origin_server_ts\":5,\"prev_events\":[\"$jr\"],\"room_id\":\"!r:a.example\",\"sender\":\"@a:a.example\",\"signatures\":{\"a.example\":{\"ed25519:1\":\"s\"}},\"type\":\"m.room.message\"}";
+
+const CHILD: &str =
+    "{\"auth_events\":[\"$c\",\"$jr\"],\"content\":{\"body\":\"q\"},\"depth\":4,\"hashes\":{\"sha256\":\"BVbc8pYojz/Bla21GPAyAE22+8A7N7iTeBjrwdUF5Hc\"},\"origin_server_ts\":5,\"prev_events\":[\"$p\"],\"room_id\":\"!r:a.example\",\"sender\":\"@a:a.example\",\"signatures\":{\"a.example\":{\"ed25519:1\":\"s\"}},\"type\":\"m.room.message\"}";
+
 const MESSAGE_R: &str =
     "{\"auth_events\":[\"$c\",\"$jr\"],\"content\":{\"body\":\"m\"},\"depth\":3,\"hashes\":{\"sha256\":\"rUUo86L1x+BcTveqCxxUShhC3LrDfWlb3VU3l3jrDGo\"},\"origin_server_ts\":5,\"prev_events\":[\"$js\"],\"room_id\":\"!r:a.example\",\"sender\":\"@a:a.example\",\"signatures\":{\"a.example\":{\"ed25519:1\":\"s\"}},\"type\":\"m.room.message\"}";
 
 const ALTERED: &str =
-    "{\"auth_events\":[\"$c\"],\"content\":{\"body\":\"other\"},\"depth\":2,\"hashes\":{\"sha256\":\"x\"},\"origin_server_ts\":5,\"prev_events\":[\"$c\"],\"room_id\":\"!r:a.example\",\"sender\":\"@a:a.example\",\"signatures\":{\"a.example\":{\"ed25519:1\":\"s\"}},\"type\":\"m.room.message\"}";
+    "{\"auth_events\":[\"$c\",\"$jr\"],\"content\":{\"body\":\"other\"},\"depth\":3,\"hashes\":{\"sha256\":\"x\"},\"origin_server_ts\":5,\"prev_events\":[\"$jr\"],\"room_id\":\"!r:a.example\",\"sender\":\"@a:a.example\",\"signatures\":{\"a.example\":{\"ed25519:1\":\"s\"}},\"type\":\"m.room.message\"}";
+
+const TOPIC: &str =
+    "{\"auth_events\":[\"$c\"],\"content\":{\"topic\":\"t\"},\"depth\":3,\"hashes\":{\"sha256\":\"WWy0W+2r3nAMaklS6LY0fO74vElbORjcJ0ylXYnkoIE\"},\"origin_server_ts\":5,\"prev_events\":[\"$jr\"],\"room_id\":\"!r:a.example\",\"sender\":\"@b:b.example\",\"signatures\":{\"b.example\":{\"ed25519:1\":\"s\"}},\"state_key\":\"\",\"type\":\"m.room.topic\"}";
+
+const AFTER_TOPIC: &str =
+    "{\"auth_events\":[\"$c\",\"$jr\"],\"content\":{\"body\":\"u\"},\"depth\":4,\"hashes\":{\"sha256\":\"X7DEnuqxu1CHQF6JQenjSCV46IzL5rMAUdL/yGofXKc\"},\"origin_server_ts\":5,\"prev_events\":[\"$t\"],\"room_id\":\"!r:a.example\",\"sender\":\"@a:a.example\",\"signatures\":{\"a.example\":{\"ed25519:1\":\"s\"}},\"type\":\"m.room.message\"}";
 
 const WITH_PREV: &str =
     "{\"auth_events\":[],\"content\":{\"creator\":\"@a:a.example\",\"room_version\":\"6\"},\"depth\":1,\"hashes\":{\"sha256\":\"+FfS0kom+RRjQyeRw0JP8VY8IKijQAWTvSe9ivYutrI\"},\"origin_server_ts\":5,\"prev_events\":[\"$x\"],\"room_id\":\"!r:a.example\",\"sender\":\"@a:a.example\",\"signatures\":{\"a.example\":{\"ed25519:1\":\"s\"}},\"state_key\":\"\",\"type\":\"m.room.create\"}";
@@ -65,6 +76,15 @@ fn event_named(name: &str) -> &'static str {
         "join_s" => JOIN_S,
         "message_r" => MESSAGE_R,
         "altered" => ALTERED,
+        "topic" => TOPIC,
+        "after_topic" => AFTER_TOPIC,
+        "with_prev" => WITH_PREV,
+        "other_server" => OTHER_SERVER,
+        "no_version" => NO_VERSION,
+        "no_creator" => NO_CREATOR,
+        "with_auth" => WITH_AUTH,
+        "with_key" => WITH_KEY,
+        "bad_hash" => BAD_HASH,
         _ => "",
     }
 }
@@ -92,7 +112,7 @@ fn offered_word(alloc: Global, word: &str) -> Result<Offered, AllocError> {
 
 fn pair(alloc: Global, origin: &str, txn: &str) -> Result<Pair, AllocError> {
     let origin = ServerName::parse(alloc, origin).map_err(refused)?;
-    let txn = String::from_str(alloc, txn)?;
+    let txn = TransactionId::new(String::from_str(alloc, txn)?);
     Ok(Pair { origin, txn })
 }
 
@@ -129,6 +149,62 @@ fn step_of(alloc: Global, written: &str) -> Result<Step, AllocError> {
             Ok(Step::Open(pair, events))
         }
     }
+}
+
+type Server = World<MemoryKeeper<ShardRow>, MemoryKeeper<BookRow>>;
+
+fn keepers<R: Storable>(alloc: Global, count: usize) -> Result<Vec<MemoryKeeper<R>>, AllocError>
+    ensures { IfOk result (λ keepers. length keepers.items ≡ count) }
+{
+    let mut keepers = Vec::new(alloc);
+    for number in 0..count {
+        keepers.push(MemoryKeeper::new(alloc))?;
+    }
+    Ok(keepers)
+}
+
+// A server with so many shards and as many books.
+fn server(alloc: Global, count: usize) -> Result<Server, StepError>
+    requires some { 1 ≤ count }
+    requires few { count ≤ 64 }
+    ensures { IfOk result (λ server. IsTrue (none_open server)) }
+{
+    World::new(alloc, keepers(alloc, count)?, keepers(alloc, count)?)
+}
+
+// The first step whose reply is another than the word beside it.
+fn first_wrong(
+    alloc: Global,
+    count: usize,
+    rows: &[(&'static str, &'static str)],
+) -> Result<Option<&'static str>, Fail>
+    requires some { 1 ≤ count }
+    requires few { count ≤ 64 }
+{
+    let mut server = server(alloc, count)?;
+    for (written, wanted) in rows {
+        let step = step_of(alloc, written)?;
+        let reply = server.step(alloc, &step)?;
+        if word(&reply) != *wanted {
+            return Ok(Some(*written));
+        }
+    }
+    Ok(None)
+}
+
+// The last step's reply body, in bytes.
+fn last_body(alloc: Global, count: usize, rows: &[&str]) -> Result<Vec<u8>, Fail>
+    requires some { 1 ≤ count }
+    requires few { count ≤ 64 }
+{
+    let mut server = server(alloc, count)?;
+    let mut last = Vec::new(alloc);
+    for written in rows {
+        let step = step_of(alloc, written)?;
+        let reply = server.step(alloc, &step)?;
+        last = Vec::from_slice(alloc, body(&reply))?;
+    }
+    Ok(last)
 }
 
 fn all_steps(alloc: Global, written: &[&str]) -> Result<Vec<Step>, AllocError> {
@@ -170,8 +246,10 @@ fn host_word(error: HostError) -> &'static str {
 
 fn outcome_word(outcome: Outcome) -> &'static str {
     match outcome {
-        Outcome::Kept => "kept",
-        Outcome::Known => "known",
+        Outcome::Kept(Verdict::Accepted) => "kept",
+        Outcome::Kept(Verdict::SoftFailed(_)) => "soft failed",
+        Outcome::Kept(Verdict::Rejected(_)) => "rejected",
+        Outcome::Known(_) => "known",
         Outcome::Refused(Refusal::SecondCreate) => "second create",
         Outcome::Refused(Refusal::Signature) => "signature",
         Outcome::Refused(Refusal::MissingEvents) => "missing events",
@@ -205,75 +283,50 @@ fn body(reply: &StepReply) -> &[u8] {
 #[test]
 fn child_before_parent(rt: HostRuntime) -> Result<(), Fail> {
     let alloc = rt.alloc();
-    let mut world = World::new(alloc);
-    for (written, wanted) in [
+    let rows = [
         ("host $c=create", "hosted"),
+        ("open a.example t0 $jr=join_r", "opened"),
+        ("next a.example t0", "kept"),
+        ("close a.example t0", "closed"),
         ("open a.example t1 $q=child $p=parent", "opened"),
         ("next a.example t1", "missing events"),
         ("next a.example t1", "kept"),
         ("next a.example t1", "no more"),
         ("close a.example t1", "closed"),
         ("open a.example t1", "kept reply"),
-    ] {
-        let step = step_of(alloc, written)?;
-        let reply = world.step(alloc, &step)?;
-        assert_eq!(rt; word(&reply), wanted);
-    }
-    assert!(rt; world.none_open());
-    Ok(())
-}
-
-#[test]
-fn kept_reply(rt: HostRuntime) -> Result<(), Fail> {
-    let alloc = rt.alloc();
-    let mut world = World::new(alloc);
-    for (written, wanted) in [
-        ("host $c=create", ""),
-        ("open a.example t1 $q=child $p=parent", ""),
-        ("next a.example t1", ""),
-        ("next a.example t1", ""),
-        (
-            "close a.example t1",
-            "{\"pdus\":{\"$p\":{},\"$q\":{\"error\":\"missing events\"}}}",
-        ),
-        (
-            "open a.example t1",
-            "{\"pdus\":{\"$p\":{},\"$q\":{\"error\":\"missing events\"}}}",
-        ),
-    ] {
-        let step = step_of(alloc, written)?;
-        let reply = world.step(alloc, &step)?;
-        assert_eq!(rt; body(&reply), wanted.as_bytes());
-    }
+    ];
+    assert_eq!(rt; first_wrong(alloc, 1, &rows)?, None);
+    assert_eq!(rt; first_wrong(alloc, 64, &rows)?, None);
     Ok(())
 }
 
 #[test]
 fn steps_out_of_turn(rt: HostRuntime) -> Result<(), Fail> {
     let alloc = rt.alloc();
-    let mut world = World::new(alloc);
-    for (written, wanted) in [
+    let rows = [
         ("host $c=create", "hosted"),
+        ("open a.example t0 $jr=join_r", "opened"),
+        ("next a.example t0", "kept"),
+        ("close a.example t0", "closed"),
         ("open a.example t1 $p=parent $q=child", "opened"),
         ("next a.example t1", "kept"),
         ("close a.example t1", "more left"),
         ("next b.example t1", "not open"),
         ("close a.example t2", "not open"),
         ("open a.example t1", "busy"),
-    ] {
-        let step = step_of(alloc, written)?;
-        let reply = world.step(alloc, &step)?;
-        assert_eq!(rt; word(&reply), wanted);
-    }
-    assert!(rt; !world.none_open());
+        ("open b.example t1", "opened"),
+        ("close b.example t1", "closed"),
+        ("next a.example t1", "kept"),
+    ];
+    assert_eq!(rt; first_wrong(alloc, 1, &rows)?, None);
+    assert_eq!(rt; first_wrong(alloc, 64, &rows)?, None);
     Ok(())
 }
 
 #[test]
 fn two_rooms_one_transaction(rt: HostRuntime) -> Result<(), Fail> {
     let alloc = rt.alloc();
-    let mut world = World::new(alloc);
-    for (written, wanted) in [
+    let rows = [
         ("host $c=create", "hosted"),
         ("host $d=create_s", "hosted"),
         (
@@ -286,11 +339,9 @@ fn two_rooms_one_transaction(rt: HostRuntime) -> Result<(), Fail> {
         ("ask $jr", "event"),
         ("ask $js", "event"),
         ("ask $m", "not found"),
-    ] {
-        let step = step_of(alloc, written)?;
-        let reply = world.step(alloc, &step)?;
-        assert_eq!(rt; word(&reply), wanted);
-    }
+    ];
+    assert_eq!(rt; first_wrong(alloc, 1, &rows)?, None);
+    assert_eq!(rt; first_wrong(alloc, 64, &rows)?, None);
     Ok(())
 }
 
@@ -298,8 +349,7 @@ fn two_rooms_one_transaction(rt: HostRuntime) -> Result<(), Fail> {
 #[test]
 fn one_of_two_rooms_alone(rt: HostRuntime) -> Result<(), Fail> {
     let alloc = rt.alloc();
-    let mut world = World::new(alloc);
-    for (written, wanted) in [
+    let rows = [
         ("host $c=create", "hosted"),
         (
             "open a.example t1 $jr=join_r $js=join_s $m=message_r",
@@ -309,77 +359,181 @@ fn one_of_two_rooms_alone(rt: HostRuntime) -> Result<(), Fail> {
         ("next a.example t1", "not hosted"),
         ("next a.example t1", "missing events"),
         ("ask $jr", "event"),
-    ] {
-        let step = step_of(alloc, written)?;
-        let reply = world.step(alloc, &step)?;
-        assert_eq!(rt; word(&reply), wanted);
-    }
+        ("ask $js", "not found"),
+    ];
+    assert_eq!(rt; first_wrong(alloc, 1, &rows)?, None);
+    assert_eq!(rt; first_wrong(alloc, 64, &rows)?, None);
     Ok(())
 }
 
 #[test]
 fn altered_content(rt: HostRuntime) -> Result<(), Fail> {
     let alloc = rt.alloc();
-    let mut world = World::new(alloc);
-    for (written, wanted) in [
+    let rows = [
         ("host $c=create", "hosted"),
+        ("open a.example t0 $jr=join_r", "opened"),
+        ("next a.example t0", "kept"),
+        ("close a.example t0", "closed"),
         ("open a.example t1 $p!parent $p=altered $p=parent", "opened"),
         ("next a.example t1", "signature"),
         ("next a.example t1", "kept"),
         ("ask $p", "redacted event"),
         ("next a.example t1", "known"),
         ("ask $p", "redacted event"),
-    ] {
-        let step = step_of(alloc, written)?;
-        let reply = world.step(alloc, &step)?;
-        assert_eq!(rt; word(&reply), wanted);
-    }
+    ];
+    assert_eq!(rt; first_wrong(alloc, 1, &rows)?, None);
+    assert_eq!(rt; first_wrong(alloc, 64, &rows)?, None);
+    Ok(())
+}
+
+// A topic by a user who is not a member is rejected, and what follows it is not.
+#[test]
+fn rejected_parent(rt: HostRuntime) -> Result<(), Fail> {
+    let alloc = rt.alloc();
+    let rows = [
+        ("host $c=create", "hosted"),
+        ("open a.example t0 $jr=join_r", "opened"),
+        ("next a.example t0", "kept"),
+        ("close a.example t0", "closed"),
+        (
+            "open b.example t1 $t=topic $u=after_topic $t=topic",
+            "opened",
+        ),
+        ("next b.example t1", "rejected"),
+        ("next b.example t1", "kept"),
+        ("next b.example t1", "known"),
+        ("ask $t", "not found"),
+        ("ask $u", "event"),
+    ];
+    assert_eq!(rt; first_wrong(alloc, 1, &rows)?, None);
+    assert_eq!(rt; first_wrong(alloc, 64, &rows)?, None);
     Ok(())
 }
 
 #[test]
 fn host_refusals(rt: HostRuntime) -> Result<(), Fail> {
     let alloc = rt.alloc();
-    let mut world = World::new(alloc);
-    for (event, signed, wanted) in [
-        (PARENT, true, "not a create event"),
-        (WITH_KEY, true, "not a create event"),
-        (WITH_AUTH, true, "cites auth events"),
-        (CREATE, false, "signature"),
-        (BAD_HASH, true, "content hash"),
-        (WITH_PREV, true, "A1.1"),
-        (OTHER_SERVER, true, "A1.2"),
-        (NO_VERSION, true, "A1.3"),
-        (NO_CREATOR, true, "A1.4"),
-        (CREATE, true, "hosted"),
-        (PARENT, true, "already"),
-    ] {
-        let step = Step::Host(offered(alloc, "$c", event, signed)?);
-        let reply = world.step(alloc, &step)?;
-        assert_eq!(rt; word(&reply), wanted);
-    }
+    let rows = [
+        ("host $c=parent", "not a create event"),
+        ("host $c=with_key", "not a create event"),
+        ("host $c=with_auth", "cites auth events"),
+        ("host $c!create", "signature"),
+        ("host $c=bad_hash", "content hash"),
+        ("host $c=with_prev", "A1.1"),
+        ("host $c=other_server", "A1.2"),
+        ("host $c=no_version", "A1.3"),
+        ("host $c=no_creator", "A1.4"),
+        ("host $c=create", "hosted"),
+        ("host $c=parent", "already"),
+    ];
+    assert_eq!(rt; first_wrong(alloc, 1, &rows)?, None);
+    assert_eq!(rt; first_wrong(alloc, 64, &rows)?, None);
     Ok(())
 }
 
 #[test]
-fn faults_of_one_create_event(rt: HostRuntime) -> Result<(), Fail> {
+fn kept_reply(rt: HostRuntime) -> Result<(), Fail> {
     let alloc = rt.alloc();
-    let sound = offered(alloc, "$c", CREATE, true)?;
-    assert!(rt; hosting_fault(&sound).is_none());
-    let unsound = offered(alloc, "$c", NO_CREATOR, true)?;
-    assert!(rt; broken_create_rule(&unsound.pdu).is_some());
+    let steps = [
+        "host $c=create",
+        "open a.example t0 $jr=join_r",
+        "next a.example t0",
+        "close a.example t0",
+        "open a.example t1 $q=child $p=parent",
+        "next a.example t1",
+        "next a.example t1",
+        "close a.example t1",
+        "open a.example t1",
+    ];
+    let wanted = "{\"pdus\":{\"$p\":{},\"$q\":{\"error\":\"missing events\"}}}";
+    assert_eq!(rt; last_body(alloc, 1, &steps)?.as_slice(), wanted.as_bytes());
+    assert_eq!(rt; last_body(alloc, 64, &steps)?.as_slice(), wanted.as_bytes());
+    Ok(())
+}
+
+#[test]
+fn rejected_event_is_told(rt: HostRuntime) -> Result<(), Fail> {
+    let alloc = rt.alloc();
+    let steps = [
+        "host $c=create",
+        "open a.example t0 $jr=join_r",
+        "next a.example t0",
+        "close a.example t0",
+        "open b.example t1 $t=topic $u=after_topic",
+        "next b.example t1",
+        "next b.example t1",
+        "close b.example t1",
+    ];
+    let wanted = "{\"pdus\":{\"$t\":{\"error\":\"rejected: A5\"},\"$u\":{}}}";
+    assert_eq!(rt; last_body(alloc, 1, &steps)?.as_slice(), wanted.as_bytes());
+    assert_eq!(rt; last_body(alloc, 64, &steps)?.as_slice(), wanted.as_bytes());
+    Ok(())
+}
+
+#[test]
+fn known_event_is_told_by_its_verdict(rt: HostRuntime) -> Result<(), Fail> {
+    let alloc = rt.alloc();
+    let steps = [
+        "host $c=create",
+        "open a.example t0 $jr=join_r",
+        "next a.example t0",
+        "close a.example t0",
+        "open b.example t1 $t=topic",
+        "next b.example t1",
+        "close b.example t1",
+        "open b.example t2 $t=topic $p=parent $x=join_s",
+        "next b.example t2",
+        "next b.example t2",
+        "next b.example t2",
+        "close b.example t2",
+    ];
+    let wanted =
+        "{\"pdus\":{\"$p\":{},\"$t\":{\"error\":\"rejected: A5\"},\"$x\":{\"error\":\"unknown room\"}}}";
+    assert_eq!(rt; last_body(alloc, 1, &steps)?.as_slice(), wanted.as_bytes());
+    assert_eq!(rt; last_body(alloc, 64, &steps)?.as_slice(), wanted.as_bytes());
+    Ok(())
+}
+
+#[test]
+fn text_of_a_refusal(rt: HostRuntime) -> Result<(), Fail> {
+    let alloc = rt.alloc();
+    let refused = Answer::ToOffered(Outcome::Refused(Refusal::SecondCreate));
+    let text = processing_result(alloc, &refused)?;
+    assert_eq!(rt;
+        text.to_string(alloc)?.as_str(),
+        "{\"error\":\"second create\"}"
+    );
+    Ok(())
+}
+
+#[test]
+fn open_until_closed(rt: HostRuntime) -> Result<(), Fail> {
+    let alloc = rt.alloc();
+    let mut server = server(alloc, 2)?;
+    for (written, none_open) in [
+        ("open a.example t1", false),
+        ("next a.example t1", false),
+        ("close a.example t1", true),
+        ("open a.example t1", true),
+    ] {
+        let step = step_of(alloc, written)?;
+        let _reply = server.step(alloc, &step)?;
+        assert_eq!(rt; server.none_open(), none_open);
+    }
     Ok(())
 }
 
 #[test]
 fn run_or_no_memory(rt: HostRuntime) {
     let alloc = rt.alloc();
-    let mut world = World::new(alloc);
+    let Ok(mut server) = server(alloc, 3) else {
+        return;
+    };
     let Ok(steps) = all_steps(
         alloc,
         &[
             "host $c=create",
-            "open a.example t1 $p=parent $q=child",
+            "open a.example t1 $jr=join_r $p=parent",
             "next a.example t1",
             "next a.example t1",
             "close a.example t1",
@@ -389,8 +543,8 @@ fn run_or_no_memory(rt: HostRuntime) {
     ) else {
         return;
     };
-    match run(&mut world, alloc, &steps) {
+    match run(&mut server, alloc, &steps) {
         Ok(replies) => assert_eq!(rt; replies.len(), steps.len()),
-        Err(error) => assert!(rt; error.done < steps.len()),
+        Err(error) => assert_eq!(rt; error.cause, StepError::Memory),
     }
 }

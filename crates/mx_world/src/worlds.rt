@@ -1,107 +1,146 @@
 // The server.
-ghost use Rattle.std.specs.Prelude.{◌≡◌, ◌++◌, ◌∷◌, ℕ, List, [], IfOk, OnOk, OnErr};
-ghost use Rattle.mx_world.specs.LoneRoom.{to_ask, call_room};
+ghost use Rattle.std.specs.Prelude.{◌≡◌, ◌++◌, ◌∷◌, ◌≤◌, ◌||◌, ℕ, List, [], length, IfOk, OnOk, OnErr, IsTrue};
+ghost use Rattle.std.specs.List.{list_any};
+ghost use Rattle.mx_shard.specs.LoneRoom.{to_ask, call_room};
+ghost use Rattle.mx_shard.specs.Shown.{IsAnswer};
+ghost use Rattle.mx_book.specs.declared.pairs.Pair.{Pair};
 ghost use Rattle.mx_world.specs.Calls.{Start, record_after};
-ghost use Rattle.mx_world.specs.Replies.{status_after, IsReply, IsAnswer};
+ghost use Rattle.mx_world.specs.Replies.{unopened, status_after, IsReply};
 ghost use Rattle.mx_world.specs.Moves.{RecordsMove, StatusesMove};
-ghost use Rattle.mx_world.specs.Tables.{rows_in, status_in, none_open, Moves, IsAfter};
+ghost use Rattle.mx_world.specs.Worlds.{shard_journals, book_journals, records_of, statuses_of, records_in, status_in, none_open, is_refused, Stays, Moves, IsAfter};
+ghost use Rattle.mx_world.specs.Inside.{IsSound};
 
-use crate::answers::Answer;
-use crate::books::Book;
-use crate::queries::Query;
-use crate::shards::Shard;
+use crate::making::{books_over, shards_over};
+use crate::refusals::StepError;
+use crate::rooms::{ask_in, host_in};
 use crate::steps::{Step, StepReply};
-use std::alloc::{AllocError, Global};
+use crate::transacting::{close_in, next_in, open_in};
+use crate::transactions::Transaction;
+use mx_book::{Book, Pair};
+use mx_keeper::{BookRow, Keeper, MOST_PLACES, ShardRow};
+use mx_shard::Shard;
+use std::alloc::Global;
+use std::collections::BTreeMap;
 use std::marker::Model;
 
-/// A server of rooms on one thread. Contracts see its rooms in the order in which they were hosted, and its
-/// transactions in the order in which they were opened.
-#[derive(Debug, Drop)]
-pub struct World {
-    shard: Shard,
-    book: Book,
+/// A server of rooms on one thread, over keepers of rows.
+///
+/// A room is kept by the shard at the place of its id, and a transaction by the book at the place of its server's name.
+#[derive(Drop)]
+pub struct World<K: Keeper<Row = ShardRow>, L: Keeper<Row = BookRow>> {
+    shards: Vec<Shard<K>>,
+    books: Vec<Book<L>>,
+    // The transactions that are open.
+    going: BTreeMap<Pair, Transaction>,
 }
 
-impl Model for World {
-    ghost use Rattle.mx_world.specs.Tables.{Tables};
-    ghost use Rattle.mx_world.specs.Codes.{tables_code};
+impl<K: Keeper<Row = ShardRow>, L: Keeper<Row = BookRow>> Model for World<K, L> {
+    ghost use Rattle.mx_world.specs.View.{WorldView};
+    ghost use Rattle.mx_world.specs.Codes.{world_code};
+    ghost use Rattle.mx_world.specs.Inside.{IsSound};
 
-    ghost Value = { Tables };
+    ghost Value = { WorldView K L };
 
-    ghost coded = { tables_code };
+    ghost coded = { world_code K.code L.code };
 
-    ghost view = { λ world. record { rooms = world.shard; transactions = world.book } };
+    ghost view = { λ world. record { shards = world.shards.items; books = world.books.items; going = world.going.entries } };
+
+    ghost invariant = { λ world. IsSound world.shards.items world.books.items world.going.entries };
 }
 
-impl World {
-    /// A server that hosts no room.
-    pub fn new(alloc: Global) -> World
-        ensures { result ≡ record { rooms = []; transactions = [] } }
+impl<K: Keeper<Row = ShardRow>, L: Keeper<Row = BookRow>> World<K, L> {
+    /// A server that hosts no room and knows of no transaction, with a shard over each of the first keepers and a book
+    /// over each of the others.
+    ///
+    /// `Memory` where no memory is left. `Storage` where a keeper failed, or has rows. A refused call drops the keepers.
+    pub fn new(
+        alloc: Global,
+        shard_keepers: Vec<K>,
+        book_keepers: Vec<L>,
+    ) -> Result<World<K, L>, StepError>
+        requires some_shard { 1 ≤ length shard_keepers.items }
+        requires few_shards { length shard_keepers.items ≤ MOST_PLACES }
+        requires some_book { 1 ≤ length book_keepers.items }
+        requires few_books { length book_keepers.items ≤ MOST_PLACES }
+        ensures records { IfOk result (λ world. (room : List ℕ) → records_in world room ≡ []) }
+        ensures statuses { IfOk result (λ world. (p : Pair) → status_in world p ≡ unopened) }
+        ensures none_open { IfOk result (λ world. IsTrue (none_open world)) }
+        ensures shards { IfOk result (λ world. length world.shards ≡ length shard_keepers.items) }
+        ensures books { IfOk result (λ world. length world.books ≡ length book_keepers.items) }
     {
-        World {
-            shard: Shard::new(alloc),
-            book: Book::new(alloc),
-        }
+        let shards = shards_over(alloc, shard_keepers)?;
+        let books = books_over(alloc, book_keepers)?;
+        Ok(World {
+            shards,
+            books,
+            going: BTreeMap::new(alloc),
+        })
     }
 
     /// Whether no transaction is open: each that was opened has its reply kept for good.
     pub fn none_open(&self) -> bool
         ensures { result ≡ none_open self.now }
     {
-        self.book.none_open()
+        self.going.is_empty()
     }
 
-    /// One step. After any steps from a start its reply is the one that these steps call for. Where memory runs out
-    /// nothing has changed.
-    pub fn step(&mut self, alloc: Global, step: &Step) -> Result<StepReply, AllocError>
+    /// One step. After any steps from a start its reply is the one that these steps call for.
+    ///
+    /// `Memory` where no memory is left. `Storage` where what keeps the rows of a shard or of a book failed, now or
+    /// before. A step that is refused changes no room's record and no transaction's status.
+    pub fn step(&mut self, alloc: Global, step: &Step) -> Result<StepReply, StepError>
         ensures next { IfOk result (λ reply. (s : Start) (earlier : List Step) → IsAfter s earlier self.old →
             IsReply (record_after s earlier) (status_after s earlier) step.now reply × IsAfter s (earlier ++ step.now ∷ []) self.new) }
-        ensures err { OnErr result (self.new ≡ self.old) }
+        ensures err { OnErr result (Stays self.old self.new) }
+        ensures storage { result ≡ Err StepError.Storage → IsTrue (is_refused self.new) }
     {
         self.advance(alloc, step)
     }
 
     // One step, told by what is kept.
-    fn advance(&mut self, alloc: Global, step: &Step) -> Result<StepReply, AllocError>
-        ensures reply { IfOk result (IsReply (rows_in self.old.rooms) (status_in self.old.transactions) step.now) }
+    fn advance(&mut self, alloc: Global, step: &Step) -> Result<StepReply, StepError>
+        ensures reply { IfOk result (IsReply (records_in self.old) (status_in self.old) step.now) }
         ensures moves { OnOk result (Moves self.old self.new step.now) }
-        ensures err { OnErr result (self.new ≡ self.old) }
+        ensures err { OnErr result (Stays self.old self.new) }
+        ensures storage { result ≡ Err StepError.Storage → IsTrue (is_refused self.new) }
     {
-        step_of(alloc, &mut self.shard, &mut self.book, step)
+        step_in(
+            alloc,
+            &mut self.shards,
+            &mut self.books,
+            &mut self.going,
+            step,
+        )
     }
 }
 
-fn step_of(
+fn step_in<K: Keeper<Row = ShardRow>, L: Keeper<Row = BookRow>>(
     alloc: Global,
-    shard: &mut Shard,
-    book: &mut Book,
+    shards: &mut [Shard<K>],
+    books: &mut [Book<L>],
+    going: &mut BTreeMap<Pair, Transaction>,
     step: &Step,
-) -> Result<StepReply, AllocError>
-    ensures reply { IfOk result (IsReply (rows_in shard.old) (status_in book.old) step.now) }
-    ensures records { OnOk result (RecordsMove (rows_in shard.old) (rows_in shard.new) (status_in book.old) step.now) }
-    ensures statuses { OnOk result (StatusesMove (rows_in shard.old) (status_in book.old) (status_in book.new) step.now) }
-    ensures err { OnErr result (shard.new ≡ shard.old) }
-    ensures err_book { OnErr result (book.new ≡ book.old) }
+) -> Result<StepReply, StepError>
+    requires { IsSound shards.old books.old going.old.entries }
+    ensures reply { IfOk result (IsReply (records_of (shard_journals shards.old)) (statuses_of going.old.entries (book_journals books.old)) step.now) }
+    ensures records { OnOk result (RecordsMove (records_of (shard_journals shards.old)) (records_of (shard_journals shards.new)) (statuses_of going.old.entries (book_journals books.old)) step.now) }
+    ensures statuses { OnOk result (StatusesMove (records_of (shard_journals shards.old)) (statuses_of going.old.entries (book_journals books.old)) (statuses_of going.new.entries (book_journals books.new)) step.now) }
+    ensures err_records { OnErr result ((room : List ℕ) → records_of (shard_journals shards.new) room ≡ records_of (shard_journals shards.old) room) }
+    ensures err_statuses { OnErr result ((p : Pair) → statuses_of going.new.entries (book_journals books.new) p ≡ statuses_of going.old.entries (book_journals books.old) p) }
+    ensures sound { IsSound shards.new books.new going.new.entries }
+    ensures storage { result ≡ Err StepError.Storage → IsTrue (list_any (λ shard. shard.is_refused) shards.new || list_any (λ book. book.is_refused) books.new) }
 {
     match step {
         Step::Host(offered) => {
-            let answer = shard.host(alloc, offered)?;
+            let answer = host_in(shards, offered)?;
             Ok(StepReply::OfRoom(answer))
         }
-        Step::Open(pair, events) => book.open(alloc, pair, events),
-        Step::Next(pair) => book.next(alloc, shard, pair),
-        Step::Close(pair) => book.close(alloc, pair),
+        Step::Open(pair, events) => open_in(alloc, books, going, pair, events),
+        Step::Next(pair) => next_in(shards, going, pair),
+        Step::Close(pair) => close_in(alloc, books, going, pair),
         Step::Ask { query, .. } => {
-            let answer = ask(shard, query)?;
+            let answer = ask_in(shards, query)?;
             Ok(StepReply::OfRoom(answer))
         }
-    }
-}
-
-fn ask(shard: &Shard, query: &Query) -> Result<Answer, AllocError>
-    ensures { IfOk result (λ a. (origin : List ℕ) (now : ℕ) → IsAnswer (rows_in shard.now) (to_ask origin now query.now) (call_room (to_ask origin now query.now)) a) }
-{
-    match query {
-        Query::Event(id) => shard.event(id),
     }
 }

@@ -21,4 +21,4 @@ unfolding body_of
 returns-in-Ok c =
     let is : view (Object c.insert.new.self) ≡ object (member (codes "pdus") (texts_of c.args.told.now) no_members) =
     body_value c.args.told.now c.insert.new.self c.in_ok-texts_for.field-0 c.new-members.result.entries c.in_ok-from_str.field-0 c.new-members.ensures.empty c.in_ok-insert.ensures.entries c.in_ok-from_str.ensures.ok c.in_ok-texts_for.ensures in
-    c.from_bytes.ensures ∙ c.in-Ok.ensures.ok ∙ ap canonical_text is
+    c.from_utf8.ensures ∙ c.in-Ok.ensures.ok ∙ ap canonical_text is

@@ -1,16 +1,16 @@
 use Rattle.std.proofs.Common.{◌≡◌, ◌++◌, ◌+◌, [], ◌∷◌, take, ap, sym, ◌∙◌, arith}
 use Rattle.std.proofs.lemmas.Bool.{eqb-true}
 use Rattle.std.proofs.lemmas.List.{take_more, take_all, nil_from_length}
-use Rattle.mx_world.specs.Tables.{start}
+use Rattle.mx_world.specs.Worlds.{start}
 use Rattle.mx_world.proofs.Alike.{told-alone}
 use Rattle.mx_world.proofs.RunLemmas.{after_none, replies_more}
 use Rattle.mx_world.proofs.runs.run.Goals as goal
 
 pub returns-in_default-clause-err : goal.returns-in_default-clause-err
-returns-in_default-clause-err c = after_none c.args.world.now c.requires
+returns-in_default-clause-err g c = after_none c.args.world.now c.requires
 
 pub loop-step-init : goal.loop-step-init
-loop-step-init c = record {
+loop-step-init g c = record {
   told = rw (c.reserve.ensures.items ∙ c.new-replies.ensures.items) tt;
   now = after_none c.args.world.now c.requires;
   count = omega arith;
@@ -19,7 +19,7 @@ loop-step-init c = record {
 
 -- one more reply is by the steps so far, and what is kept is what one more step leaves
 pub loop-step-preserved : goal.loop-step-preserved
-loop-step-preserved c =
+loop-step-preserved g c =
     let more : take (c.loop-step.step-index + 1) c.args.steps.now ≡ take c.loop-step.step-index c.args.steps.now ++ c.step-item.result ∷ [] =
     take_more c.args.steps.now c.loop-step.step-index c.step-item.result c.loop-step-test.true
     ∙ ap (λ x. take c.loop-step.step-index c.args.steps.now ++ x ∷ []) (sym c.step-item.is) in
@@ -33,10 +33,10 @@ loop-step-preserved c =
     }
 
 pub returns-clause-alone : goal.returns-clause-alone
-returns-clause-alone c = λ apart room.
+returns-clause-alone g c = λ apart room.
     told-alone (start c.args.world.now) room [] c.args.steps.now c.loop-step.replies.items (rw (take_all c.loop-step.step-index c.args.steps.now c.loop-step-test.false) at c.loop-step.invariant.told) apart
 
 pub returns-then-is_empty-clause-after : goal.returns-then-is_empty-clause-after
-returns-then-is_empty-clause-after c =
+returns-then-is_empty-clause-after g c =
     let none : c.args.steps.now ≡ [] = nil_from_length c.args.steps.now (eqb-true _ _ (sym c.is_empty.ensures ∙ c.if-is_empty.true)) in
     rw none (after_none c.args.world.now c.requires)

@@ -1,11 +1,11 @@
 use Rattle.std.proofs.Common.{◌≡◌, ◌≤◌, [], take, length, vec_len, vec_capacity}
 use Rattle.mx_world.specs.Replies.{AreReplies}
-use Rattle.mx_world.specs.Tables.{start, IsAfter}
+use Rattle.mx_world.specs.Worlds.{start, IsAfter}
 use Rattle.mx_world.proofs.runs.run.Given as goal
 
 -- the replies so far are those to the steps so far, and what is kept is what these leave
 abbrev pub invariant-loop-step : goal.invariant-loop-step
-invariant-loop-step l = record {
+invariant-loop-step g l = record {
   told : AreReplies (start l.fn.world) [] (take l.step-index l.steps) l.replies.items;
   now : IsAfter (start l.fn.world) (take l.step-index l.steps) l.world;
   count : vec_len l.replies ≡ l.step-index;

@@ -1,0 +1,50 @@
+-- The events that an event leads to through events that were not accepted.
+use Rattle.std.proofs.Common.{◌≡◌, ℕ, zero, suc, ◌==◌, Bool, true, false, cond, ◌||◌, ◌⊎◌, inl, inr, List, [], ◌∷◌, refl, sym, subst, ◌∙◌, arith, eqb-true}
+use Rattle.std.proofs.lemmas.Bool.Decides.{nat_tests}
+use Rattle.std.specs.Prelude.{if◌then◌else◌, slice_index_or}
+use Rattle.std.specs.List.{All}
+use Rattle.std.specs.Ordering.{nat_cmp, is_eq}
+use Rattle.mx_graph.specs.Edges.{IsAllFrom, LeadDown}
+use Rattle.mx_graph.specs.Graph.{IsSound}
+use Rattle.mx_graph.specs.Record.{Row, event, is_in, prev_events}
+use Rattle.mx_graph.proofs.Closure.{or_cases}
+use Rattle.mx_graph.proofs.WalkLemmas.{IsWalk}
+use Rattle.mx_receipt.specs.Receipt.{is_accepted}
+use Rattle.mx_receipt.specs.Judgements.{leads_on}
+use Rattle.mx_receipt.specs.declared.verdicts.Verdict.{Verdict}
+use Rattle.mx_receipt.specs.declared.verdicts.Verdict.TheVariants.{Accepted}
+
+pub in-all : (P : ℕ → Type 0) (xs : List ℕ) (p : ℕ) → All P xs → is_in xs p ≡ true → P p
+in-all P [] p h e = absurd (cc e)
+in-all P (x ∷ xs) p h e = by (in-all P xs p (λ i d l. h (suc i) d (omega arith))) (or_cases (x == p) (is_in xs p) e)
+  where
+    by : (is_in xs p ≡ true → P p) → ((x == p) ≡ true) ⊎ (is_in xs p ≡ true) → P p
+    by later (inl k) = subst P (eqb-true x p k) (h zero x (omega arith))
+    by later (inr k) = later k
+
+pub walk-starts : (cites : ℕ → List ℕ) (first waiting : ℕ → Bool) → ((p : ℕ) → waiting p ≡ first p) → IsWalk cites first [] waiting
+walk-starts cites first waiting same =
+    record { has_first = λ p e. same p ∙ e; closed = λ x y e. absurd (cc e); least = λ other has closed p e. has p (sym (same p) ∙ e); rises = tt; below = λ p x e k. absurd (cc k) }
+
+pub all_from-same : (cites : ℕ → List ℕ) (first f g : ℕ → Bool) → ((p : ℕ) → f p ≡ g p) → IsAllFrom cites first g → IsAllFrom cites first f
+all_from-same cites first f g same h =
+    record {
+      has_first = λ p e. same p ∙ h.has_first p e;
+      closed = λ x y e m. same y ∙ h.closed x y (sym (same x) ∙ e) m;
+      least = λ other has closed p e. h.least other has closed p (sym (same p) ∙ e);
+    }
+
+pub is_eq-same : (k p : ℕ) → is_eq (nat_cmp k p) ≡ (k == p)
+is_eq-same k p = grind (arith, nat_tests)
+
+no_less : (b : Bool) (xs : List ℕ) (y : ℕ) → is_in (if b then [] else xs) y ≡ true → is_in xs y ≡ true
+no_less true xs y e = absurd (cc e)
+no_less false xs y e = e
+
+pub leads_on-down : (rows : List Row) (verdicts : List Verdict) → IsSound rows → LeadDown (leads_on rows verdicts)
+leads_on-down rows verdicts sound x y e =
+    (sound.prev x y (no_less (is_accepted (slice_index_or verdicts x Accepted)) (prev_events rows (event rows x)) y e)).1
+
+pub cond-or : (a b : Bool) → cond a true b ≡ (a || b)
+cond-or true b = refl
+cond-or false b = refl

@@ -1,0 +1,12 @@
+pub mod StateLemmas
+pub mod CoverLemmas
+pub mod JudgementLemmas
+pub mod RecordLemmas
+pub mod GrowthLemmas
+pub mod ExtremityLemmas
+pub mod KeptLemmas
+pub mod BeginLemmas
+pub mod TimelineLemmas
+pub mod ShownLemmas
+pub mod ReceiptOnExamples
+pub mod ReceiptRows

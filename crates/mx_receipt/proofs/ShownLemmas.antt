@@ -1,0 +1,122 @@
+-- What a timeline hands out.
+use Rattle.std.proofs.Common.{◌≡◌, ◌<◌, ◌≤◌, ◌+◌, ◌++◌, ◌⊎◌, inl, inr, ℕ, zero, suc, Bool, true, false, List, [], ◌∷◌, length, refl, sym, ap, ◌∙◌, arith, Option, Some, None}
+use Rattle.std.proofs.lemmas.Bool.{cases_lt}
+use Rattle.std.proofs.lemmas.List.{get_or_append_left, length-append, get_or-map, append-nil}
+use Rattle.std.specs.Arc.{arc_value}
+use Rattle.std.specs.Prelude.{slice_index_or, option_to_list, bytes_eq, cond}
+use Rattle.std.specs.Option.{option_or}
+use Rattle.mx_graph.proofs.RowLemmas.{place_of-push, place_of-below}
+use Rattle.mx_graph.specs.Record.{Row, no_row, row, place_of}
+use Rattle.mx_orders.specs.StateMap.{State}
+use Rattle.mx_receipt.specs.Receipt.{Kept, rows_of, kept_at, states_after, state_before, state_after, forward_extremities, current_state}
+use Rattle.mx_receipt.specs.Judgements.{kept_of}
+use Rattle.mx_receipt.specs.Timelines.{kept_in, IsTimeline, HasKept}
+use Rattle.mx_receipt.specs.declared.verdicts.Verdict.TheVariants.{Accepted}
+use Rattle.mx_receipt.specs.declared.snapshots.Judgement.{Judgement}
+use Rattle.mx_receipt.specs.declared.timelines.Prepared.{Prepared}
+use Rattle.mx_receipt.proofs.ExtremityLemmas.{verdict-at}
+use Rattle.mx_receipt.proofs.RecordLemmas.{at-seam, kept_of-length}
+use Rattle.mx_receipt.proofs.TimelineLemmas.{kept-shown}
+
+-- with or without an event that is prepared
+pub has-kept : (rows : List Row) (js : List Judgement) (exts : List ℕ) (cur : State) (o : Option Prepared) → IsTimeline rows js exts cur o → HasKept rows js exts cur (kept_in rows js o)
+has-kept rows js exts cur None h = record { kept_rows = rows; next_row = None; kept_judgements = js; more_judgements = []; are_rows = sym (append-nil rows); are_judgements = sym (append-nil js); is_kept = h; shown = refl }
+has-kept rows js exts cur (Some p) h = record { kept_rows = h.earlier; next_row = Some h.row; kept_judgements = h.judged; more_judgements = h.judgement ∷ []; are_rows = h.are_rows; are_judgements = h.are_judgements; is_kept = h.before; shown = kept-shown rows js exts cur p h }
+
+states_after-length : (kept : List Kept) (n : ℕ) → length (states_after kept n) ≡ n
+states_after-length kept zero = refl
+states_after-length kept (suc n) =
+    let e : length (states_after kept n) ≡ n = states_after-length kept n in
+    let f : length (states_after kept (suc n)) ≡ length (states_after kept n) + 1 = length-append (states_after kept n) _ in
+    omega arith
+
+-- each state after an event is the one at its place
+states_after-at : (kept : List Kept) (n p : ℕ) → p < n → slice_index_or (states_after kept n) p [] ≡ state_after kept p
+unfolding state_after state_before
+states_after-at kept zero p l = absurd (omega arith)
+states_after-at kept (suc n) p l = by (cases_lt p n) (states_after-at kept n p)
+  where
+    len : length (states_after kept n) ≡ n
+    len = states_after-length kept n
+
+    by : (p < n) ⊎ (n ≤ p) → (p < n → slice_index_or (states_after kept n) p [] ≡ state_after kept p) → slice_index_or (states_after kept (suc n)) p [] ≡ state_after kept p
+    by (inl m) later = get_or_append_left (states_after kept n) _ [] p (let e : length (states_after kept n) ≡ n = len in omega arith) ∙ later m
+    by (inr m) later =
+        let e : p ≡ n = omega arith in
+        ap (λ q. slice_index_or (states_after kept (suc n)) q []) (e ∙ sym len) ∙ at-seam (states_after kept n) _ [] ∙ ap (state_after kept) (sym e)
+
+-- ---- the place of an id
+
+found-before : (rows : List Row) (o : Option Row) (id : List ℕ) (p : ℕ) → place_of (rows ++ option_to_list o) id ≡ Some p → p < length rows → place_of rows id ≡ Some p
+found-before rows None id p e l = ap (λ rs. place_of rs id) (sym (append-nil rows)) ∙ e
+found-before rows (Some r) id p e l = by (place_of rows id) (bytes_eq r.id id) refl (sym (place_of-push rows r id) ∙ e)
+  where
+    by : (w : Option ℕ) (b : Bool) → place_of rows id ≡ w → option_or (place_of rows id) (cond b (Some (length rows)) None) ≡ Some p → place_of rows id ≡ Some p
+    by (Some q) b f g = f ∙ ap (λ w. option_or w (cond b (Some (length rows)) None)) (sym f) ∙ g
+    by None true f g = absurd (let same : length rows ≡ p = (let h : Some (length rows) ≡ Some p = ap (λ w. option_or w (Some (length rows))) (sym f) ∙ g in cc) in omega arith)
+    by None false f g = absurd (let h : None ≡ Some p = ap (λ w. option_or w None) (sym f) ∙ g in cc)
+
+found-after : (rows : List Row) (o : Option Row) (id : List ℕ) → ((p : ℕ) → place_of (rows ++ option_to_list o) id ≡ Some p → length rows ≤ p) → place_of rows id ≡ None
+found-after rows o id h = by (place_of rows id) refl
+  where
+    longer : (w : Option Row) (q : ℕ) → place_of rows id ≡ Some q → place_of (rows ++ option_to_list w) id ≡ Some q
+    longer None q e = ap (λ rs. place_of rs id) (append-nil rows) ∙ e
+    longer (Some r) q e = place_of-push rows r id ∙ ap (λ w. option_or w (cond (bytes_eq r.id id) (Some (length rows)) None)) e
+
+    by : (w : Option ℕ) → place_of rows id ≡ w → place_of rows id ≡ None
+    by None e = e
+    by (Some q) e = absurd (let low : q < length rows = place_of-below rows id q e in let high : length rows ≤ q = h q (longer o q e) in omega arith)
+
+module _ (rows : List Row) (js : List Judgement) (exts : List ℕ) (cur : State) (kept : List Kept) (h : HasKept rows js exts cur kept) where
+  pub shown-length : length kept ≡ length h.kept_judgements
+  shown-length = ap length h.shown ∙ kept_of-length h.kept_rows h.kept_judgements h.is_kept.count
+
+  pub shown-rows : rows_of kept ≡ h.kept_rows
+  shown-rows = ap rows_of h.shown ∙ sym h.is_kept.are_kept
+
+  pub shown-current : cur ≡ current_state kept
+  shown-current = h.is_kept.is_current ∙ ap current_state (sym h.shown)
+
+  pub shown-extremities : exts ≡ forward_extremities kept
+  shown-extremities = h.is_kept.are_extremities ∙ ap forward_extremities (sym h.shown)
+
+  shown-index : (p : ℕ) → p < length kept → p < length h.kept_judgements
+  shown-index p l = let e : length kept ≡ length h.kept_judgements = shown-length in omega arith
+
+  -- what stands at the place of a kept event
+  shown-at : (p : ℕ) (v : Judgement) → p < length kept → v ≡ slice_index_or js p v → v ≡ slice_index_or h.kept_judgements p v
+  shown-at p v l e = e ∙ ap (λ is. slice_index_or is p v) h.are_judgements ∙ get_or_append_left h.kept_judgements h.more_judgements v p (shown-index p l)
+
+  pub shown-verdict : (p : ℕ) (v : Judgement) → p < length kept → v ≡ slice_index_or js p v → v.verdict ≡ (kept_at kept p).verdict
+  shown-verdict p v l e =
+      ap (λ (j : Judgement). j.verdict) (shown-at p v l e) ∙ sym (get_or-map (λ (j : Judgement). j.verdict) h.kept_judgements p v Accepted (shown-index p l))
+      ∙ sym (verdict-at h.kept_rows h.kept_judgements p h.is_kept.count) ∙ ap (λ ks. (kept_at ks p).verdict) (sym h.shown)
+
+  pub shown-before : (p : ℕ) (v : Judgement) → p < length kept → v ≡ slice_index_or js p v → arc_value v.before ≡ state_before kept p
+  shown-before p v l e =
+      ap (λ (j : Judgement). arc_value j.before) (shown-at p v l e) ∙ sym (get_or-map (λ (j : Judgement). arc_value j.before) h.kept_judgements p v [] (shown-index p l))
+      ∙ h.is_kept.befores p (shown-index p l) ∙ ap (λ ks. state_before ks p) (sym h.shown)
+
+  pub shown-after : (p : ℕ) (v : Judgement) → p < length kept → v ≡ slice_index_or js p v → arc_value v.after ≡ state_after kept p
+  shown-after p v l e =
+      ap (λ (j : Judgement). arc_value j.after) (shown-at p v l e) ∙ sym (get_or-map (λ (j : Judgement). arc_value j.after) h.kept_judgements p v [] (shown-index p l))
+      ∙ ap (λ ss. slice_index_or ss p []) h.is_kept.afters ∙ states_after-at (kept_of h.kept_rows h.kept_judgements) (length h.kept_judgements) p (shown-index p l)
+      ∙ ap (λ ks. state_after ks p) (sym h.shown)
+
+  pub shown-row : (p : ℕ) → p < length kept → row rows p ≡ row (rows_of kept) p
+  shown-row p l =
+      let e : length kept ≡ length h.kept_judgements = shown-length in
+      let f : length h.kept_rows ≡ length h.kept_judgements = h.is_kept.count in
+      ap (λ rs. row rs p) h.are_rows ∙ get_or_append_left h.kept_rows (option_to_list h.next_row) no_row p (omega arith) ∙ ap (λ rs. row rs p) (sym shown-rows)
+
+  shown-count : length kept ≡ length h.kept_rows
+  shown-count = shown-length ∙ sym h.is_kept.count
+
+  pub shown-found : (id : List ℕ) (p : ℕ) → place_of rows id ≡ Some p → p < length kept → Some p ≡ place_of (rows_of kept) id
+  shown-found id p e l =
+      sym (ap (λ rs. place_of rs id) shown-rows ∙ found-before h.kept_rows h.next_row id p (ap (λ rs. place_of rs id) (sym h.are_rows) ∙ e) (let f : length kept ≡ length h.kept_rows = shown-count in omega arith))
+
+  pub shown-absent : (id : List ℕ) → ((p : ℕ) → place_of rows id ≡ Some p → length kept ≤ p) → None ≡ place_of (rows_of kept) id
+  shown-absent id g =
+      sym (ap (λ rs. place_of rs id) shown-rows ∙ found-after h.kept_rows h.next_row id
+      (λ p e. let f : length kept ≡ length h.kept_rows = shown-count in let l : length kept ≤ p = g p (ap (λ rs. place_of rs id) h.are_rows ∙ e) in omega arith))

@@ -1,0 +1,127 @@
+-- What a timeline shows, and what its parts are.
+use Rattle.std.proofs.Common.{◌≡◌, ◌+◌, ◌-◌, ◌++◌, ℕ, Bool, true, false, not, ◌||◌, ◌&&◌, List, [], ◌∷◌, take, length, refl, sym, ap, subst, ◌∙◌, arith, Option, Some, None, Err, IsErrOf}
+use Rattle.std.proofs.lemmas.List.{length-append}
+use Rattle.std.proofs.lemmas.List.Folds.{list_any-append}
+use Rattle.std.specs.Arc.{arc_value}
+use Rattle.std.specs.Prelude.{slice_get, is_some, is_none, nat_le, codes}
+use Rattle.std.specs.List.{list_any, list_all}
+use Rattle.mx_ident.specs.Identifier.{refuse_if}
+use Rattle.mx_redact.specs.Fields.{Event}
+use Rattle.mx_pdu.specs.Event.{has_kind, prev_ids, auth_ids}
+use Rattle.mx_graph.specs.declared.refusals.NotAdded.{NotAdded}
+use Rattle.mx_graph.specs.declared.refusals.NotAdded.TheVariants.{Known, MissingPrevEvent, MissingAuthEvent, Full}
+use Rattle.mx_graph.specs.Adding.{add_error, is_known, most_rows}
+use Rattle.mx_graph.specs.Record.{Row, place_of}
+use Rattle.mx_orders.specs.StateMap.{State}
+use Rattle.mx_receipt.specs.Receipt.{Kept, offer_error, lacks_cited, installed, judged}
+use Rattle.mx_receipt.specs.Judgements.{kept_of, kept_row, IsKept, IsAdded}
+use Rattle.mx_receipt.specs.Timelines.{kept_in, prepared_in, IsPrepared, IsTimeline}
+use Rattle.mx_receipt.specs.declared.snapshots.Judgement.{Judgement}
+use Rattle.mx_receipt.specs.declared.timelines.Prepared.{Prepared}
+use Rattle.mx_receipt.proofs.RecordLemmas.{take-whole, kept_of-push, kept_of-length}
+
+get-seam : {A : Type 0} (xs : List A) (y : A) → slice_get (xs ++ y ∷ []) (length xs) ≡ Some y
+get-seam [] y = refl
+get-seam (x ∷ xs) y = get-seam xs y
+
+-- ---- an event that is prepared
+
+module _ (earlier : List Row) (r : Row) (js : List Judgement) (j : Judgement) (count : length earlier ≡ length js) where
+  one_less : length (js ++ j ∷ []) - 1 ≡ length (kept_of earlier js)
+  one_less =
+      let e : length (js ++ j ∷ []) ≡ length js + 1 = length-append js (j ∷ []) in
+      let f : length (kept_of earlier js) ≡ length js = kept_of-length earlier js count in
+      omega arith
+
+  shown-kept : take (length (js ++ j ∷ []) - 1) (kept_of (earlier ++ r ∷ []) (js ++ j ∷ [])) ≡ kept_of earlier js
+  shown-kept = (λ i. take (one_less i) (kept_of-push earlier js r j count i)) ∙ take-whole (kept_of earlier js) (kept_row r j ∷ [])
+
+  shown-prepared : slice_get (kept_of (earlier ++ r ∷ []) (js ++ j ∷ [])) (length (js ++ j ∷ []) - 1) ≡ Some (kept_row r j)
+  shown-prepared = (λ i. slice_get (kept_of-push earlier js r j count i) (one_less i)) ∙ get-seam (kept_of earlier js) (kept_row r j)
+
+module _ (rows : List Row) (js : List Judgement) (exts : List ℕ) (cur : State) (p : Prepared) (h : IsPrepared rows js exts cur p) where
+  pub kept-shown : kept_in rows js (Some p) ≡ kept_of h.earlier h.judged
+  kept-shown = (λ i. take (length (h.are_judgements i) - 1) (kept_of (h.are_rows i) (h.are_judgements i))) ∙ shown-kept h.earlier h.row h.judged h.judgement h.before.count
+
+  pub prepared-shown : prepared_in rows js (Some p) ≡ Some (kept_row h.row h.judgement)
+  prepared-shown = (λ i. slice_get (kept_of (h.are_rows i) (h.are_judgements i)) (length (h.are_judgements i) - 1)) ∙ shown-prepared h.earlier h.row h.judged h.judgement h.before.count
+
+  -- it is the next one
+  pub installed-shown : kept_of rows js ≡ installed (kept_in rows js (Some p)) (prepared_in rows js (Some p))
+  installed-shown =
+      (λ i. kept_of (h.are_rows i) (h.are_judgements i)) ∙ kept_of-push h.earlier h.judged h.row h.judgement h.before.count
+      ∙ λ i. installed (sym kept-shown i) (sym prepared-shown i)
+
+  -- without the last row and the last verdict
+  module _ (rows' : List Row) (js' : List Judgement) (less_rows : (es : List Row) (r : Row) → rows ≡ es ++ r ∷ [] → rows' ≡ es) (less_judgements : (is : List Judgement) (j : Judgement) → js ≡ is ++ j ∷ [] → js' ≡ is) where
+    pub discarded-kept : IsKept rows' js' exts cur
+    discarded-kept =
+        subst (λ rs. IsKept rs js' exts cur) (sym (less_rows h.earlier h.row h.are_rows))
+        (subst (λ is. IsKept h.earlier is exts cur) (sym (less_judgements h.judged h.judgement h.are_judgements)) h.before)
+
+    pub discarded-shown : kept_of rows' js' ≡ kept_in rows js (Some p)
+    discarded-shown = (λ i. kept_of (less_rows h.earlier h.row h.are_rows i) (less_judgements h.judged h.judgement h.are_judgements i)) ∙ sym kept-shown
+
+-- where no event is shown as prepared, none is
+pub none-prepared : (rows : List Row) (js : List Judgement) (exts : List ℕ) (cur : State) (o : Option Prepared) → IsTimeline rows js exts cur o → prepared_in rows js o ≡ None → o ≡ None
+none-prepared rows js exts cur None h e = refl
+none-prepared rows js exts cur (Some p) h e = absurd (cc (sym (prepared-shown rows js exts cur p h) ∙ e))
+
+-- ---- an event that was added
+
+module _ (rows : List Row) (js : List Judgement) (exts : List ℕ) (cur : State) (kept : IsKept rows js exts cur) (id : List ℕ) (e : Event) (rows' : List Row) (js' : List Judgement) (p : Prepared)
+    (added : IsAdded rows js id e rows' js' p.extremities.items (arc_value p.current)) where
+  pub is_prepared : IsPrepared rows' js' exts cur p
+  is_prepared = record {
+    earlier = rows;
+    row = record { id = id; event = e; rejected = Rattle.mx_receipt.specs.Receipt.is_rejected added.judgement.verdict };
+    judged = js;
+    judgement = added.judgement;
+    are_rows = added.are_rows;
+    are_judgements = added.are_judgements;
+    before = kept;
+    after = added.is_kept;
+  }
+
+  pub added-kept : kept_in rows' js' (Some p) ≡ kept_of rows js
+  unfolding is_prepared
+  added-kept = kept-shown rows' js' exts cur p is_prepared
+
+  pub added-prepared : prepared_in rows' js' (Some p) ≡ Some (judged (kept_of rows js) id e)
+  unfolding is_prepared
+  added-prepared = prepared-shown rows' js' exts cur p is_prepared ∙ λ i. Some (record { id = id; event = e; verdict = added.is_verdict i })
+
+-- ---- an event that a record takes can be added
+
+not_refused : {X : Type 0} (b : Bool) (r : X) (next : Option X) → refuse_if b r next ≡ None → (b ≡ false) × (next ≡ None)
+not_refused true r next e = absurd (cc e)
+not_refused false r next e = (refl, e)
+
+or_parts : (a b : Bool) → (a || b) ≡ false → (a ≡ false) × (b ≡ false)
+or_parts true b e = absurd (cc e)
+or_parts false b e = (refl, e)
+
+known-here : (o : Option ℕ) → is_none o ≡ false → is_some o ≡ true
+known-here None e = absurd (cc e)
+known-here (Some x) e = refl
+
+known-all : (rows : List Row) (ids : List (List ℕ)) → list_any (λ id. is_none (place_of rows id)) ids ≡ false → list_all (is_known rows) ids ≡ true
+known-all rows [] e = refl
+known-all rows (id ∷ ids) e =
+    let parts = or_parts (is_none (place_of rows id)) (list_any (λ x. is_none (place_of rows x)) ids) e in
+    λ i. known-here (place_of rows id) parts.0 i && known-all rows ids parts.1 i
+
+pub taken-free : (rows : List Row) (id : List ℕ) (e : Event) (rejected : Bool) → offer_error rows id e ≡ None → add_error rows (record { id = id; event = e; rejected = rejected }) ≡ None
+unfolding offer_error add_error
+taken-free rows id e rejected h =
+    let first = not_refused (is_some (place_of rows id)) _ _ h in
+    let second = not_refused (has_kind (codes "m.room.create") e) _ _ first.1 in
+    let third = not_refused (lacks_cited rows e) _ _ second.1 in
+    let fourth = not_refused (nat_le most_rows (length rows)) _ _ third.1 in
+    let cited = or_parts (list_any (λ x. is_none (place_of rows x)) (prev_ids e)) (list_any (λ x. is_none (place_of rows x)) (auth_ids e)) (sym (list_any-append (λ x. is_none (place_of rows x)) (prev_ids e) (auth_ids e)) ∙ third.0) in
+    λ i. refuse_if {E = NotAdded} (first.0 i) Known (refuse_if {E = NotAdded} (not (known-all rows (prev_ids e) cited.0 i)) MissingPrevEvent
+    (refuse_if {E = NotAdded} (not (known-all rows (auth_ids e) cited.1 i)) MissingAuthEvent (refuse_if {E = NotAdded} (fourth.0 i) Full None)))
+
+-- one error of two results
+pub same-error : {T U E : Type 0} (e x : E) → IsErrOf {T = T} (Err e) x → IsErrOf {T = U} (Err e) x
+same-error e x h = ap Err (let g : e ≡ x = cc in g)

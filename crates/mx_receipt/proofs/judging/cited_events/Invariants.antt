@@ -1,0 +1,8 @@
+use Rattle.std.proofs.Common.{◌≡◌, map, take}
+use Rattle.mx_auth.specs.Keys.{cited_shown}
+use Rattle.mx_receipt.specs.Citing.{cited_in}
+use Rattle.mx_receipt.proofs.judging.cited_events.Given as goal
+
+-- those so far
+abbrev pub invariant-loop-number : goal.invariant-loop-number
+invariant-loop-number l = map cited_shown l.cited.items ≡ map (cited_in l.graph) (take l.number-index l.numbers)

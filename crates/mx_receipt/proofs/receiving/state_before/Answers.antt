@@ -1,0 +1,24 @@
+use Rattle.std.proofs.Common.{◌≡◌, ◌<◌, length, sym, subst, ◌∙◌, IfOk}
+use Rattle.std.specs.Arc.{arc_value}
+use Rattle.std.specs.List.{All}
+use Rattle.mx_graph.specs.Record.{is_in}
+use Rattle.mx_graph.proofs.Closure.{all-in}
+use Rattle.mx_state_res.proofs.SetLemmas.{rising-is}
+use Rattle.mx_state_res.specs.Resolution.{resolve}
+use Rattle.mx_receipt.specs.Judgements.{afters}
+use Rattle.mx_receipt.specs.Receipt.{states_at}
+use Rattle.mx_receipt.proofs.CoverLemmas.{in-all}
+use Rattle.mx_receipt.proofs.receiving.state_before.Goals as goal
+
+pub resolved_after-requires-clause-events : goal.resolved_after-requires-clause-events
+resolved_after-requires-clause-events c =
+    subst (All (λ p. p < length c.args.judgements.now)) (sym c.deref.ensures.value)
+    (all-in (λ p. p < length c.args.judgements.now) c.in_ok-prev_events.prev_events.items
+    (λ y e. subst (λ n. y < n) c.requires.rows (in-all (λ p. p < length c.args.graph.now) c.args.prev_events.now y c.requires.prev (sym (c.in_ok-prev_events.ensures.same y) ∙ e))))
+
+pub returns-clause-resolved : goal.returns-clause-resolved
+returns-clause-resolved c =
+    subst (λ xs. IfOk c.resolved_after.result (λ state. arc_value state ≡ resolve c.args.graph.now (states_at (afters c.args.judgements.now) xs)))
+    (c.deref.ensures.value ∙ rising-is c.args.graph.now c.in_ok-prev_events.prev_events.items (is_in c.args.prev_events.now) c.in_ok-prev_events.ensures.rises
+    (λ p e. in-all (λ q. q < length c.args.graph.now) c.args.prev_events.now p c.requires.prev (sym (c.in_ok-prev_events.ensures.same p) ∙ e)) c.in_ok-prev_events.ensures.same)
+    c.resolved_after.ensures.resolved

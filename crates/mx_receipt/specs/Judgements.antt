@@ -1,0 +1,88 @@
+-- What is kept beside the rows of a record, for private clauses.
+use Rattle.std.specs.Prelude.{◌≡◌, ℕ, ◌<◌, ◌++◌, ◌∷◌, Bool, true, false, not, List, [], All, length, map, filter, slice_index_or, if◌then◌else◌}
+use Rattle.std.specs.Arc.{arc_value}
+use Rattle.mx_redact.specs.Fields.{Event}
+use Rattle.mx_graph.specs.Edges.{IsAllFrom}
+use Rattle.mx_graph.specs.Record.{Row, event, is_in, prev_events}
+use Rattle.mx_orders.specs.StateMap.{State}
+use Rattle.mx_receipt.specs.Receipt.{Kept, verdict, is_accepted, is_rejected, rows_of, with_kept, states_after, state_before, state_before_next, forward_extremities, current_state}
+use Rattle.mx_receipt.specs.declared.verdicts.Verdict.{Verdict}
+use Rattle.mx_receipt.specs.declared.verdicts.Verdict.TheVariants.{Accepted}
+use Rattle.mx_receipt.specs.declared.snapshots.Judgement.{Judgement}
+
+-- the events of the record under their verdicts; a row beyond the verdicts is not among them
+abbrev pub kept_of : List Row → List Judgement → List Kept
+kept_of [] judgements = []
+kept_of (row ∷ rows) [] = []
+kept_of (row ∷ rows) (j ∷ judgements) = record { id = row.id; event = row.event; verdict = j.verdict } ∷ kept_of rows judgements
+
+abbrev pub verdicts_of : List Judgement → List Verdict
+verdicts_of = map (λ j. j.verdict)
+
+abbrev pub afters : List Judgement → List State
+afters = map (λ j. arc_value j.after)
+
+abbrev pub befores : List Judgement → List State
+befores = map (λ j. arc_value j.before)
+
+-- the state's events are rows
+abbrev pub Knows : List Row → State → Type 0
+Knows rows s = All (λ e. e.1 < length rows) s
+
+abbrev pub KnowsAll : List Row → List Judgement → Type 0
+KnowsAll rows = All (λ j. Knows rows (arc_value j.after))
+
+-- what is kept agrees with the definitions, which work it out of the record
+pub record IsKept (rows : List Row) (judgements : List Judgement) (extremities : List ℕ) (current : State) : Type 0 where
+  pub are_kept : rows ≡ rows_of (kept_of rows judgements)
+  pub count : length rows ≡ length judgements
+  pub befores : (p : ℕ) → p < length judgements → slice_index_or (befores judgements) p [] ≡ state_before (kept_of rows judgements) p
+  pub afters : afters judgements ≡ states_after (kept_of rows judgements) (length judgements)
+  pub are_extremities : extremities ≡ forward_extremities (kept_of rows judgements)
+  pub is_current : current ≡ current_state (kept_of rows judgements)
+  pub knows : KnowsAll rows judgements
+  pub knows_before : All (λ j. Knows rows (arc_value j.before)) judgements
+  pub knows_current : Knows rows current
+  pub below : All (λ p. p < length judgements) extremities
+
+-- ---- the extremities that an event replaces
+
+-- an event that was not accepted leads on to its prev events
+abbrev pub leads_on : List Row → List Verdict → ℕ → List ℕ
+leads_on rows verdicts p = if is_accepted (slice_index_or verdicts p Accepted) then [] else prev_events rows (event rows p)
+
+-- the events that these lead to, through events that were not accepted
+abbrev pub IsCovered : List Row → List Verdict → List ℕ → (ℕ → Bool) → Type 0
+IsCovered rows verdicts prev covered = IsAllFrom (leads_on rows verdicts) (is_in prev) covered
+
+-- the extremities that are not covered, and the event
+pub record AreNext (rows : List Row) (verdicts : List Verdict) (prev extremities : List ℕ) (number : ℕ) (next : List ℕ) : Type 0 where
+  pub covered : ℕ → Bool
+  pub is_covered : IsCovered rows verdicts prev covered
+  pub are : next ≡ filter (λ p. not (covered p)) extremities ++ number ∷ []
+
+-- an accepted event replaces extremities, and another one changes none
+pub record AreAfter (rows : List Row) (verdicts : List Verdict) (prev extremities : List ℕ) (number : ℕ) (verdict : Verdict) (next : List ℕ) : Type 0 where
+  pub stay : is_accepted verdict ≡ false → next ≡ extremities
+  pub replace : is_accepted verdict ≡ true → AreNext rows verdicts prev extremities number next
+
+-- ---- what one more row makes of it
+
+abbrev pub kept_row : Row → Judgement → Kept
+kept_row r j = record { id = r.id; event = r.event; verdict = j.verdict }
+
+-- an event's row and judgement, and the extremities after it
+pub record IsJudged (rows : List Row) (judgements : List Judgement) (extremities : List ℕ) (r : Row) (j : Judgement) (next : List ℕ) : Type 0 where
+  pub flag : r.rejected ≡ is_rejected j.verdict
+  pub before : arc_value j.before ≡ state_before_next (kept_of rows judgements) r.event
+  pub after : arc_value j.after ≡ with_kept (arc_value j.before) (kept_row r j) (length rows)
+  pub knows_before : Knows rows (arc_value j.before)
+  pub are_next : AreAfter rows (verdicts_of judgements) (prev_events rows r.event) extremities (length rows) j.verdict next
+
+-- an event was added under its verdict
+pub record IsAdded (rows : List Row) (judgements : List Judgement) (id : List ℕ) (e : Event) (rows' : List Row) (judgements' : List Judgement) (extremities : List ℕ) (current : State) : Type 0 where
+  pub judgement : Judgement
+  pub is_verdict : judgement.verdict ≡ verdict (kept_of rows judgements) e
+  pub are_rows : rows' ≡ rows ++ record { id = id; event = e; rejected = is_rejected judgement.verdict } ∷ []
+  pub are_judgements : judgements' ≡ judgements ++ judgement ∷ []
+  pub is_kept : IsKept rows' judgements' extremities current

@@ -1,0 +1,6 @@
+pub mod Receipt
+pub mod KeptCode
+pub mod TimelineView
+pub mod Citing
+pub mod Judgements
+pub mod Timelines

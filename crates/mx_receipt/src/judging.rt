@@ -1,0 +1,81 @@
+// The verdict on an event.
+ghost use Rattle.std.specs.Prelude.{◌≡◌, ◌<◌, All, IfOk, length, map};
+ghost use Rattle.std.specs.Result.{result_err};
+ghost use Rattle.mx_auth.specs.Keys.{cited_shown};
+ghost use Rattle.mx_auth.specs.Rules.{Cited, auth_rules, rules};
+ghost use Rattle.mx_graph.specs.Record as record_of;
+ghost use Rattle.mx_orders.specs.StateMap.{view};
+ghost use Rattle.mx_receipt.specs.Receipt as definition;
+ghost use Rattle.mx_receipt.specs.Citing.{cited_in};
+ghost use Rattle.mx_receipt.specs.declared.verdicts.Verdict.TheVariants.{Accepted, SoftFailed as soft_failed, Rejected as rejected};
+
+use crate::citing::numbers_of;
+use crate::room_states::{failure_in, state_of};
+use crate::verdicts::Verdict;
+use mx_auth::{CitedEvent, Rule, judge_auth_events};
+use mx_graph::{EventNo, Graph};
+use mx_pdu::Pdu;
+use mx_state_res::StateMap;
+use std::alloc::{AllocError, Global};
+
+/// The verdict on an event, by its auth events, by the state before it, and by the room's current state.
+///
+/// Source: the Matrix specification, Server-Server API, "Checks performed on receipt of a PDU", checks 4, 5 and 6.
+pub(crate) fn judged(
+    alloc: Global,
+    graph: &Graph,
+    event: &Pdu,
+    before: &StateMap,
+    current: &StateMap,
+) -> Result<Verdict, AllocError>
+    requires before { All (λ e. e.1 < length graph.now) before.now }
+    requires current { All (λ e. e.1 < length graph.now) current.now }
+    ensures { IfOk result (λ verdict. verdict
+        ≡ definition.accept_or rejected (definition.auth_failure graph.now event.now)
+        (definition.accept_or rejected (rules event.now (view graph.now before.now))
+        (definition.accept_or soft_failed (rules event.now (view graph.now current.now)) Accepted))) }
+{
+    if let Some(rule) = auth_failure(alloc, graph, event)? {
+        return Ok(Verdict::Rejected(rule));
+    }
+    if let Some(rule) = failure_in(graph, before, event) {
+        return Ok(Verdict::Rejected(rule));
+    }
+    if let Some(rule) = failure_in(graph, current, event) {
+        return Ok(Verdict::SoftFailed(rule));
+    }
+    Ok(Verdict::Accepted)
+}
+
+// The line that does not allow an event by its auth events, or in the state that these make.
+#[tactic(auto, unfolding(crate::specs::Receipt::auth_failure))]
+fn auth_failure(alloc: Global, graph: &Graph, event: &Pdu) -> Result<Option<Rule>, AllocError>
+    ensures { IfOk result (λ rule. rule ≡ definition.auth_failure graph.now event.now) }
+{
+    let numbers = numbers_of(alloc, graph, event.auth_events())?;
+    let cited = cited_events(alloc, graph, &numbers)?;
+    if let Err(rule) = judge_auth_events(event, &cited) {
+        return Ok(Some(rule));
+    }
+    let state = state_of(alloc, graph, &numbers)?;
+    Ok(failure_in(graph, &state, event))
+}
+
+fn cited_events<'g>(
+    alloc: Global,
+    graph: &'g Graph,
+    numbers: &[EventNo],
+) -> Result<Vec<CitedEvent<'g>>, AllocError>
+    requires { All (λ number. number < length graph.now) numbers.now }
+    ensures { IfOk result (λ cited. map cited_shown cited.items ≡ map (cited_in graph.now) numbers.now) }
+{
+    let mut cited = Vec::with_capacity(alloc, numbers.len())?;
+    for number in numbers {
+        let row = graph.row(*number);
+        cited.push(CitedEvent {
+            event: &row.event,
+            rejected: row.rejected,
+        })?;
+    }
+    Ok(cited)
+}

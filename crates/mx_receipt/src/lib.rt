@@ -1,0 +1,21 @@
+//! What a room makes of the events that it receives: the verdict on each, the states before and after it, the forward
+//! extremities and the current state (Matrix specification, Server-Server API, checks performed on receipt of a PDU).
+#![tactic(auto)]
+
+mod citing;
+mod covering;
+mod judging;
+mod receiving;
+mod refusals;
+mod room_states;
+mod snapshots;
+mod soundness;
+mod timelines;
+mod verdicts;
+
+pub use refusals::{NotReceived, OfferError};
+pub use timelines::Timeline;
+pub use verdicts::Verdict;
+
+#[cfg(test)]
+mod tests;

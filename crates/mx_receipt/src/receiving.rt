@@ -1,0 +1,288 @@
+// The receipt of an event.
+ghost use Rattle.std.specs.Prelude.{◌≡◌, ◌<◌, ◌↔◌, ◌++◌, ◌∷◌, All, IfOk, is_none, IsErrOf, None, OnErr, OnOk, Option, Some, [], ℕ, List, length};
+ghost use Rattle.std.specs.Arc.{arc_value};
+ghost use Rattle.std.specs.List.{list_any};
+ghost use Rattle.std.specs.Result.{result_err};
+ghost use Rattle.mx_graph.specs.Adding.{add_error};
+ghost use Rattle.mx_graph.specs.Graph.{IsSound};
+ghost use Rattle.mx_graph.specs.Record as record_of;
+ghost use Rattle.mx_orders.specs.StateMap.{State};
+ghost use Rattle.mx_state_res.specs.Resolution as resolution;
+ghost use Rattle.mx_receipt.specs.Judgements.{IsKept, KnowsAll, Knows, AreAfter, IsAdded, IsJudged, afters, kept_of, verdicts_of};
+ghost use Rattle.mx_receipt.specs.Receipt as definition;
+ghost use Rattle.mx_graph.specs.Record.{Row};
+ghost use Rattle.mx_receipt.specs.TimelineView.{IsSoundCreate};
+ghost use Rattle.mx_receipt.specs.declared.snapshots.Judgement.{Judgement as Judged};
+ghost use Rattle.mx_receipt.specs.declared.refusals.NotReceived.{NotReceived as Cause};
+
+use crate::citing::numbers_of;
+use crate::covering::next_extremities;
+use crate::judging::judged;
+use crate::refusals::{NotReceived, OfferError};
+use crate::snapshots::{Judgement, resolved_after, state_after};
+use crate::soundness::graph_is_sound;
+use crate::timelines::Prepared;
+use crate::verdicts::Verdict;
+use mx_graph::{EventNo, Graph, GraphRow, MOST_ROWS};
+use mx_ident::EventId;
+use mx_pdu::Pdu;
+use mx_state_res::{StateMap, rising};
+use std::alloc::{AllocError, Global};
+use std::sync::Arc;
+
+// Whether a record takes an event, and if not, why.
+#[tactic(auto, unfolding(crate::specs::Receipt::offer_error))]
+pub(crate) fn check(graph: &Graph, event: &Pdu, id: &EventId) -> Result<(), NotReceived>
+    ensures { result_err result ≡ definition.offer_error graph.now id.now event.now }
+{
+    if graph.find(id).is_some() {
+        return Err(NotReceived::Known);
+    }
+    if event.kind() == "m.room.create" {
+        return Err(NotReceived::SecondCreate);
+    }
+    if lacks_cited(graph, event) {
+        return Err(NotReceived::MissingEvents);
+    }
+    if graph.len() >= MOST_ROWS {
+        return Err(NotReceived::RoomFull);
+    }
+    Ok(())
+}
+
+// Whether an event that it follows or rests on is not held.
+fn lacks_cited(graph: &Graph, event: &Pdu) -> bool
+    ensures { result ≡ definition.lacks_cited graph.now event.now }
+{
+    lacks_any(graph, event.prev_events()) || lacks_any(graph, event.auth_events())
+}
+
+fn lacks_any(graph: &Graph, ids: &[EventId]) -> bool
+    ensures { result ≡ list_any (λ id. is_none (record_of.place_of graph.now id)) ids.now }
+{
+    ids.iter().any(|id| graph.find(id).is_none())
+}
+
+// The state before an event that comes next: the resolution of the states after its prev events, each once.
+fn state_before(
+    alloc: Global,
+    graph: &Graph,
+    judgements: &[Judgement],
+    prev_events: &[EventNo],
+) -> Result<Arc<StateMap>, AllocError>
+    requires rows { length graph.now ≡ length judgements.now }
+    requires prev { All (λ prev. prev < length graph.now) prev_events.now }
+    requires known { KnowsAll graph.now judgements.now }
+    ensures resolved { IfOk result (λ state. arc_value state ≡ resolution.resolve graph.now
+        (definition.states_at (afters judgements.now) (record_of.events_where graph.now (record_of.is_in prev_events.now)))) }
+    ensures known { IfOk result (λ state. Knows graph.now (arc_value state)) }
+{
+    let prev_events = rising(alloc, prev_events)?;
+    resolved_after(alloc, graph, judgements, &prev_events)
+}
+
+// The forward extremities after an event.
+fn extremities_after(
+    alloc: Global,
+    graph: &Graph,
+    judgements: &[Judgement],
+    prev_events: &[EventNo],
+    extremities: &[EventNo],
+    number: EventNo,
+    verdict: Verdict,
+) -> Result<Vec<EventNo>, AllocError>
+    requires rows { length judgements.now ≡ length graph.now }
+    requires prev { All (λ prev. prev < length graph.now) prev_events.now }
+    ensures { IfOk result (λ next.
+        AreAfter graph.now (verdicts_of judgements.now) prev_events.now extremities.now number verdict next.items) }
+{
+    if verdict.is_accepted() {
+        next_extremities(alloc, graph, judgements, prev_events, extremities, number)
+    } else {
+        Vec::from_slice(alloc, extremities)
+    }
+}
+
+// An event's judgement, and the forward extremities after it.
+#[derive(Debug, Drop)]
+struct JudgedEvent {
+    judgement: Judgement,
+    extremities: Vec<EventNo>,
+}
+
+// Judges an event, and finds the states before and after it and the forward extremities after it.
+fn judged_event(
+    alloc: Global,
+    graph: &Graph,
+    judgements: &[Judgement],
+    extremities: &[EventNo],
+    current: &StateMap,
+    event: &Pdu,
+) -> Result<JudgedEvent, AllocError>
+    requires kept { IsKept graph.now judgements.now extremities.now current.now }
+    ensures verdict { IfOk result (λ judged. judged.judgement.verdict ≡ definition.verdict (kept_of graph.now judgements.now) event.now) }
+    ensures judged { IfOk result (λ judged. (id : List ℕ) → IsJudged graph.now judgements.now extremities.now
+        (record { id = id; event = event.now; rejected = definition.is_rejected judged.judgement.verdict }) judged.judgement judged.extremities.items) }
+{
+    let prev_events = numbers_of(alloc, graph, event.prev_events())?;
+    let before = state_before(alloc, graph, judgements, &prev_events)?;
+    let verdict = judged(alloc, graph, event, &before, current)?;
+    let number = next_number(graph);
+    let after = state_after(alloc, &before, event, number, verdict)?;
+    let extremities = extremities_after(
+        alloc,
+        graph,
+        judgements,
+        &prev_events,
+        extremities,
+        number,
+        verdict,
+    )?;
+    Ok(JudgedEvent {
+        judgement: Judgement {
+            verdict,
+            before,
+            after,
+        },
+        extremities,
+    })
+}
+
+// The number of a row that comes next.
+fn next_number(graph: &Graph) -> EventNo
+    ensures { result ≡ length graph.now }
+{
+    EventNo::at(graph.len() as u32)
+}
+
+// Adds a row that a graph takes.
+fn store(graph: &mut Graph, row: GraphRow) -> Result<(), AllocError>
+    requires { add_error graph.old row ≡ None }
+    ensures ok { OnOk result (graph.new ≡ graph.old ++ row ∷ []) }
+    ensures err { OnErr result (graph.new ≡ graph.old) }
+{
+    match graph.add(row) {
+        Ok(_) => Ok(()),
+        Err(_) => Err(AllocError),
+    }
+}
+
+// Adds an event that is judged. It gives the forward extremities and the current state with it.
+fn add(
+    alloc: Global,
+    graph: &mut Graph,
+    judgements: &mut Vec<Judgement>,
+    row: GraphRow,
+    event: JudgedEvent,
+) -> Result<Prepared, AllocError>
+    requires free { add_error graph.old row ≡ None }
+    requires known { KnowsAll (graph.old ++ row ∷ []) (judgements.old.items ++ event.judgement ∷ []) }
+    requires below { All (λ p. p < length (judgements.old.items ++ event.judgement ∷ [])) event.extremities.items }
+    ensures rows { OnOk result (graph.new ≡ graph.old ++ row ∷ []) }
+    ensures judgements { OnOk result (judgements.new.items ≡ judgements.old.items ++ event.judgement ∷ []) }
+    ensures extremities { IfOk result (λ prepared. prepared.extremities.items ≡ event.extremities.items) }
+    ensures current { IfOk result (λ prepared. arc_value prepared.current ≡ resolution.resolve graph.new
+        (definition.states_at (afters judgements.new.items) event.extremities.items)) }
+    ensures known { IfOk result (λ prepared. Knows graph.new (arc_value prepared.current)) }
+    ensures err_rows { OnErr result (graph.new ≡ graph.old) }
+    ensures err_judgements { OnErr result (judgements.new.items ≡ judgements.old.items) }
+{
+    let JudgedEvent {
+        judgement,
+        extremities,
+    } = event;
+    judgements.reserve(1)?;
+    store(graph, row)?;
+    judgements.push_reserved(judgement);
+    match resolved_after(alloc, graph, judgements, &extremities) {
+        Ok(current) => Ok(Prepared {
+            extremities,
+            current,
+        }),
+        Err(refused) => {
+            remove_last(graph, judgements);
+            Err(refused)
+        }
+    }
+}
+
+/// Removes the last event. It takes no memory.
+pub(crate) fn remove_last(graph: &mut Graph, judgements: &mut Vec<Judgement>)
+    ensures rows { (rows : List Row) (row : Row) → graph.old ≡ rows ++ row ∷ [] → graph.new ≡ rows }
+    ensures judgements { (js : List Judged) (j : Judged) → judgements.old.items ≡ js ++ j ∷ [] → judgements.new.items ≡ js }
+{
+    graph.remove_last();
+    judgements.pop();
+}
+
+/// Judges an event and adds it. At an error the room stays.
+pub(crate) fn prepare_in(
+    alloc: Global,
+    graph: &mut Graph,
+    judgements: &mut Vec<Judgement>,
+    extremities: &[EventNo],
+    current: &StateMap,
+    event: Pdu,
+    id: EventId,
+) -> Result<(Verdict, Prepared), OfferError>
+    requires kept { IsKept graph.old judgements.old.items extremities.now current.now }
+    ensures verdict { IfOk result (λ made. made.0 ≡ definition.verdict (kept_of graph.old judgements.old.items) event) }
+    ensures added { IfOk result (λ made. IsAdded graph.old judgements.old.items id event
+        graph.new judgements.new.items made.1.extremities.items (arc_value made.1.current)) }
+    ensures free { OnOk result (definition.offer_error graph.old id event ≡ None) }
+    ensures refused { (cause : Cause)
+        → (IsErrOf result (OfferError.NotReceived cause) ↔ (definition.offer_error graph.old id event ≡ Some cause)) }
+    ensures err_rows { OnErr result (graph.new ≡ graph.old) }
+    ensures err_judgements { OnErr result (judgements.new.items ≡ judgements.old.items) }
+{
+    check(graph, &event, &id)?;
+    graph_is_sound(graph);
+    let judged = judged_event(alloc, graph, judgements, extremities, current, &event)?;
+    let verdict = judged.judgement.verdict;
+    let row = GraphRow {
+        id,
+        event,
+        rejected: verdict.is_rejected(),
+    };
+    let prepared = add(alloc, graph, judgements, row, judged)?;
+    graph_is_sound(graph);
+    Ok((verdict, prepared))
+}
+
+/// Makes a create event the first event of a room. It is accepted.
+pub(crate) fn begin_in(
+    alloc: Global,
+    graph: &mut Graph,
+    judgements: &mut Vec<Judgement>,
+    event: Pdu,
+    id: EventId,
+) -> Result<Prepared, AllocError>
+    requires sound { IsSoundCreate event }
+    requires rows { graph.old ≡ [] }
+    requires judgements { judgements.old.items ≡ [] }
+    ensures kept { IfOk result (λ first. IsKept graph.new judgements.new.items first.extremities.items (arc_value first.current)) }
+    ensures begun { OnOk result (kept_of graph.new judgements.new.items ≡ definition.begun id event) }
+{
+    graph_is_sound(graph);
+    let before = Arc::new(alloc, StateMap::new(alloc))?;
+    let first = EventNo::at(0);
+    let after = state_after(alloc, &before, &event, first, Verdict::Accepted)?;
+    let mut extremities = Vec::new(alloc);
+    extremities.push(first)?;
+    let judged = JudgedEvent {
+        judgement: Judgement {
+            verdict: Verdict::Accepted,
+            before,
+            after,
+        },
+        extremities,
+    };
+    let row = GraphRow {
+        id,
+        event,
+        rejected: false,
+    };
+    let prepared = add(alloc, graph, judgements, row, judged)?;
+    graph_is_sound(graph);
+    Ok(prepared)
+}

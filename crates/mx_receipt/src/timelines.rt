@@ -1,0 +1,235 @@
+// A room's events under their verdicts.
+ghost use Rattle.std.specs.Prelude.{◌≡◌, ◌<◌, ◌≤◌, ◌↔◌, ◌++◌, ◌∷◌, All, IfOk, IfSome, IsErrOf, None, OnErr, OnOk, Option, Some, [], length};
+ghost use Rattle.std.specs.Arc.{arc_value};
+ghost use Rattle.std.specs.Result.{result_err};
+ghost use Rattle.mx_graph.specs.Record.{place_of, row as row_at};
+ghost use Rattle.mx_receipt.specs.Judgements.{IsKept, kept_of};
+ghost use Rattle.mx_receipt.specs.Receipt as definition;
+ghost use Rattle.mx_receipt.specs.TimelineView.{IsSoundCreate};
+ghost use Rattle.mx_receipt.specs.Timelines.{IsTimeline};
+ghost use Rattle.mx_receipt.specs.declared.refusals.NotReceived.{NotReceived as Cause};
+
+use crate::receiving::{begin_in, prepare_in, remove_last};
+use crate::refusals::{NotReceived, OfferError};
+use crate::snapshots::Judgement;
+use crate::verdicts::Verdict;
+use mx_graph::{EventNo, Graph, GraphRow};
+use mx_ident::EventId;
+use mx_pdu::Pdu;
+use mx_state_res::StateMap;
+use std::alloc::{AllocError, Global};
+use std::marker::Model;
+use std::sync::Arc;
+
+// What an event that is prepared will make of the room.
+#[derive(Debug, Drop)]
+pub(crate) struct Prepared {
+    pub extremities: Vec<EventNo>,
+    pub current: Arc<StateMap>,
+}
+
+/// The events of a room in the order of their arrival, each under its verdict, with the states before and after each,
+/// the forward extremities and the current state.
+///
+/// An event can be received in one step ([`offer`](Timeline::offer)), or in two: [`prepare`](Timeline::prepare) makes
+/// whatever needs memory, and [`install`](Timeline::install), which needs none, adds the event.
+///
+/// Source: the Matrix specification, Server-Server API, "Checks performed on receipt of a PDU".
+#[derive(Debug, Drop)]
+pub struct Timeline {
+    alloc: Global,
+    graph: Graph,
+    // One for each row of the graph.
+    judgements: Vec<Judgement>,
+    extremities: Vec<EventNo>,
+    current: Arc<StateMap>,
+    // Where an event is prepared, the last row is its row.
+    prepared: Option<Prepared>,
+}
+
+impl Model for Timeline {
+    ghost use Rattle.std.specs.Arc.{arc_value};
+    ghost use Rattle.mx_receipt.specs.TimelineView.{TimelineView, timeline_code};
+    ghost use Rattle.mx_receipt.specs.Timelines.{IsTimeline, kept_in, prepared_in};
+
+    ghost Value = { TimelineView };
+
+    ghost coded = { timeline_code };
+
+    ghost view = { λ t. record {
+      kept = kept_in t.graph t.judgements.items t.prepared;
+      prepared = prepared_in t.graph t.judgements.items t.prepared;
+    } };
+
+    ghost invariant = { λ t. IsTimeline t.graph t.judgements.items t.extremities.items (arc_value t.current) t.prepared };
+}
+
+impl Timeline {
+    /// The timeline that a create event begins. It is accepted.
+    pub fn begin(alloc: Global, event: Pdu, id: EventId) -> Result<Timeline, AllocError>
+        requires { IsSoundCreate event }
+        ensures { IfOk result (λ timeline. timeline ≡ record { kept = definition.begun id event; prepared = None }) }
+    {
+        let mut graph = Graph::new(alloc);
+        let mut judgements = Vec::new(alloc);
+        let first = begin_in(alloc, &mut graph, &mut judgements, event, id)?;
+        Ok(Timeline {
+            alloc,
+            graph,
+            judgements,
+            extremities: first.extremities,
+            current: first.current,
+            prepared: None,
+        })
+    }
+
+    /// How many events the room has.
+    pub fn len(&self) -> usize
+        ensures { result ≡ length self.now.kept }
+    {
+        match &self.prepared {
+            Some(_) => self.judgements.len() - 1,
+            None => self.judgements.len(),
+        }
+    }
+
+    /// The number of the event with this id. It takes no memory, and the time is logarithmic in the events.
+    pub fn find(&self, id: &EventId) -> Option<EventNo>
+        ensures place { result ≡ place_of (definition.rows_of self.now.kept) id.now }
+        ensures below { IfSome result (λ number. number < length self.now.kept) }
+    {
+        match self.graph.find(id) {
+            Some(number) => {
+                if number.index() < self.len() {
+                    Some(number)
+                } else {
+                    None
+                }
+            }
+            None => None,
+        }
+    }
+
+    /// The event with this number as it is kept, with its id, and whether it was rejected.
+    pub fn row(&self, number: EventNo) -> &GraphRow
+        requires { number < length self.now.kept }
+        ensures { result.now ≡ row_at (definition.rows_of self.now.kept) number }
+    {
+        self.graph.row(number)
+    }
+
+    /// The verdict on the event with this number.
+    pub fn verdict(&self, number: EventNo) -> Verdict
+        requires { number < length self.now.kept }
+        ensures { result ≡ (definition.kept_at self.now.kept number).verdict }
+    {
+        self.judgements[number.index()].verdict
+    }
+
+    /// The state before the event with this number: the resolution of the states after its prev events.
+    pub fn state_before(&self, number: EventNo) -> &StateMap
+        requires { number < length self.now.kept }
+        ensures { result.now ≡ definition.state_before self.now.kept number }
+    {
+        &self.judgements[number.index()].before
+    }
+
+    /// The state after the event with this number: that before it, with the event where it is a state event and was not
+    /// rejected.
+    pub fn state_after(&self, number: EventNo) -> &StateMap
+        requires { number < length self.now.kept }
+        ensures { result.now ≡ definition.state_after self.now.kept number }
+    {
+        &self.judgements[number.index()].after
+    }
+
+    /// The room's current state: the resolution of the states after the forward extremities.
+    ///
+    /// Source: the Matrix specification, Server-Server API, "Checks performed on receipt of a PDU", soft failure.
+    pub fn current(&self) -> &StateMap
+        ensures { result.now ≡ definition.current_state self.now.kept }
+    {
+        &self.current
+    }
+
+    /// The forward extremities, rising: the accepted events that are no ancestors of accepted events.
+    pub fn extremities(&self) -> &[EventNo]
+        ensures { result.now ≡ definition.forward_extremities self.now.kept }
+    {
+        &self.extremities
+    }
+
+    /// Receives an event: judges it and adds it to the room.
+    ///
+    /// `NotReceived` with the first cause that holds, and `Memory`; at an error the room stays. The time is that of a
+    /// look-up for each event that it cites, of the rules, and of a resolution where its prev events, or the forward
+    /// extremities, are several.
+    ///
+    /// Source: the Matrix specification, Server-Server API, "Checks performed on receipt of a PDU".
+    pub fn offer(&mut self, event: Pdu, id: EventId) -> Result<Verdict, OfferError>
+        ensures verdict { IfOk result (λ verdict. verdict ≡ definition.verdict self.old.kept event) }
+        ensures received { OnOk result (self.new ≡ record { kept = definition.received self.old.kept (id, event); prepared = None }) }
+        ensures free { OnOk result (definition.offer_error (definition.rows_of self.old.kept) id event ≡ None) }
+        ensures refused { (cause : Cause) → (IsErrOf result (OfferError.NotReceived cause)
+            ↔ (definition.offer_error (definition.rows_of self.old.kept) id event ≡ Some cause)) }
+        ensures err { OnErr result (self.new ≡ record { kept = self.old.kept; prepared = None }) }
+    {
+        let verdict = self.prepare(event, id);
+        self.install();
+        verdict
+    }
+
+    /// Judges an event and makes whatever needs memory to add it, and changes nothing else. An event that was prepared
+    /// before is given up.
+    ///
+    /// The errors are those of [`offer`](Timeline::offer).
+    pub fn prepare(&mut self, event: Pdu, id: EventId) -> Result<Verdict, OfferError>
+        ensures verdict { IfOk result (λ verdict. verdict ≡ definition.verdict self.old.kept event) }
+        ensures prepared { OnOk result (self.new ≡ record {
+          kept = self.old.kept;
+          prepared = Some (definition.judged self.old.kept id event);
+        }) }
+        ensures free { OnOk result (definition.offer_error (definition.rows_of self.old.kept) id event ≡ None) }
+        ensures refused { (cause : Cause) → (IsErrOf result (OfferError.NotReceived cause)
+            ↔ (definition.offer_error (definition.rows_of self.old.kept) id event ≡ Some cause)) }
+        ensures err { OnErr result (self.new ≡ record { kept = self.old.kept; prepared = None }) }
+    {
+        self.discard();
+        let made = prepare_in(
+            self.alloc,
+            &mut self.graph,
+            &mut self.judgements,
+            &self.extremities,
+            &self.current,
+            event,
+            id,
+        );
+        match made {
+            Ok((verdict, prepared)) => {
+                self.prepared = Some(prepared);
+                Ok(verdict)
+            }
+            Err(error) => Err(error),
+        }
+    }
+
+    /// Adds the event that is prepared. It takes no memory.
+    pub fn install(&mut self)
+        ensures { self.new ≡ record { kept = definition.installed self.old.kept self.old.prepared; prepared = None } }
+    {
+        if let Some(prepared) = self.prepared.take() {
+            self.extremities = prepared.extremities;
+            self.current = prepared.current;
+        }
+    }
+
+    /// Gives up an event that is prepared. It takes no memory.
+    pub fn discard(&mut self)
+        ensures { self.new ≡ record { kept = self.old.kept; prepared = None } }
+    {
+        if let Some(prepared) = self.prepared.take() {
+            drop(prepared);
+            remove_last(&mut self.graph, &mut self.judgements);
+        }
+    }
+}

@@ -1,0 +1,19 @@
+-- Which create events make a room (Matrix specification, Room Version 6, authorization rules, rule 1; the order is ours).
+use Rattle.std.specs.Prelude.{nat_lt, not, ◌&&◌, [], codes, length, Option, option_map}
+use Rattle.mx_ident.specs.Identifier.{refuse_if}
+use Rattle.mx_redact.specs.Fields.{is_text}
+use Rattle.mx_redact.specs.Hashes.{hash_holds}
+use Rattle.mx_pdu.specs.Event.{has_kind, state_key_of, auth_ids}
+use Rattle.mx_auth.specs.Rules.{rules}
+use Rattle.mx_orders.specs.StateMap.{view}
+use Rattle.mx_room.specs.Offer.{Offered}
+use Rattle.mx_room.specs.declared.hosting.HostError.{HostError}
+use Rattle.mx_room.specs.declared.hosting.HostError.TheVariants.{NotACreateEvent, CitesAuthEvents, Unsigned, BadContentHash, BreaksRule}
+
+-- why a create event makes no room, in the order of the checks
+unfoldable pub host_error : Offered → Option HostError
+host_error o =
+    refuse_if (not (has_kind (codes "m.room.create") o.pdu && is_text [] (state_key_of o.pdu))) NotACreateEvent
+    (refuse_if (nat_lt 0 (length (auth_ids o.pdu))) CitesAuthEvents
+    (refuse_if (not o.signed) Unsigned
+    (refuse_if (not (hash_holds o.pdu)) BadContentHash (option_map BreaksRule (rules o.pdu (view [] []))))))

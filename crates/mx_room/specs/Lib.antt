@@ -1,0 +1,4 @@
+pub mod Offer
+pub mod Hosting
+pub mod Asking
+pub mod RoomView

@@ -1,0 +1,46 @@
+-- An offered event, and what a room does with it (Matrix specification, Server-Server API, checks performed on receipt
+-- of a PDU).
+use Rattle.std.specs.Prelude.{nat_le, Bool, not, if◌then◌else◌, List, codes, length, Option, None, Some}
+use Rattle.mx_redact.specs.Fields.{Event}
+use Rattle.mx_redact.specs.Redaction.{redact}
+use Rattle.mx_redact.specs.Hashes.{hash_holds}
+use Rattle.mx_pdu.specs.Event.{has_kind}
+pub use Rattle.mx_pdu.specs.declared.offering.Offered.{Offered}
+use Rattle.mx_graph.specs.Adding.{most_rows}
+use Rattle.mx_graph.specs.Record.{place_of}
+use Rattle.mx_receipt.specs.Receipt.{Kept, rows_of, kept_at, lacks_cited, verdict}
+use Rattle.mx_receipt.specs.declared.refusals.NotReceived.{NotReceived}
+use Rattle.mx_receipt.specs.declared.refusals.NotReceived.TheVariants as received
+use Rattle.mx_room.specs.declared.outcomes.Refusal.{Refusal}
+use Rattle.mx_room.specs.declared.outcomes.Outcome.{Outcome}
+use Rattle.mx_room.specs.declared.outcomes.Outcome.TheVariants as outcome
+use Rattle.mx_room.specs.declared.outcomes.Refusal.TheVariants.{SecondCreate, Signature, MissingEvents, RoomFull}
+
+-- Server-Server API, checks performed on receipt of a PDU, 3: redacted where its content hash is wrong
+abbrev pub as_kept : Offered → Event
+as_kept o = if hash_holds o.pdu then o.pdu else redact o.pdu
+
+-- what becomes of an event of a new id; `e` is the event as it would be kept
+abbrev pub new_outcome : List Kept → Bool → Event → Outcome
+new_outcome kept signed e =
+    if has_kind (codes "m.room.create") e then outcome.Refused SecondCreate
+    else (if not signed then outcome.Refused Signature
+    else (if lacks_cited (rows_of kept) e then outcome.Refused MissingEvents
+    else (if nat_le most_rows (length kept) then outcome.Refused RoomFull else outcome.Kept (verdict kept e))))
+
+unfoldable pub offer_outcome : List Kept → Offered → Outcome
+offer_outcome kept o =
+    elim (place_of (rows_of kept) o.id) [ None ↦ new_outcome kept o.signed (as_kept o) | Some p ↦ outcome.Known (kept_at kept p).verdict ]
+
+-- the row that this outcome adds
+abbrev pub row_by : Offered → Outcome → Option Kept
+row_by o (outcome.Kept v) = Some (record { id = o.id; event = as_kept o; verdict = v })
+row_by o (outcome.Known v) = None
+row_by o (outcome.Refused r) = None
+
+-- a refusal of a record, for private clauses; the first two causes are asked before
+abbrev pub refusal_by : NotReceived → Refusal
+refusal_by received.Known = SecondCreate
+refusal_by received.SecondCreate = SecondCreate
+refusal_by received.MissingEvents = MissingEvents
+refusal_by received.RoomFull = RoomFull

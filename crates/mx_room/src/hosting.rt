@@ -1,0 +1,103 @@
+// Which create events make a room.
+ghost use Rattle.std.specs.Prelude.{◌≡◌, ◌&&◌, nat_lt, length, codes, []};
+ghost use Rattle.mx_redact.specs.Fields.{is_text};
+ghost use Rattle.mx_pdu.specs.Event.{has_kind, state_key_of, auth_ids};
+ghost use Rattle.mx_auth.specs.Rules.{rules};
+ghost use Rattle.mx_orders.specs.StateMap.{view};
+ghost use Rattle.mx_room.specs.Hosting.{host_error};
+
+use mx_auth::{RoomState, Rule, judge};
+use mx_ident::EventId;
+use mx_pdu::{Offered, Pdu};
+use std::alloc::{AllocError, AllocFailed};
+
+/// Why an event makes no room, in the order in which it is asked.
+///
+/// `NotACreateEvent`: its type is not `m.room.create`, or its state key is not empty. `CitesAuthEvents`: it rests on
+/// events. `Unsigned`: its signatures were refused. `BadContentHash`: its content hash is wrong. `BreaksRule`: an
+/// authorization rule refuses it.
+///
+/// Source: the Matrix specification, Room Version 6, "Authorization rules", rule 1; the order is ours.
+#[derive(Clone, Copy, Debug, PartialEq, Eq)]
+pub enum HostError {
+    NotACreateEvent,
+    CitesAuthEvents,
+    Unsigned,
+    BadContentHash,
+    BreaksRule(Rule),
+}
+
+/// Why a room is not hosted: no memory was left, or the event makes none.
+#[derive(Clone, Copy, Debug, PartialEq, Eq)]
+pub enum HostFault {
+    Memory,
+    NotARoom(HostError),
+}
+
+impl From<AllocError> for HostFault {
+    ghost use Rattle.std.specs.Prelude.{◌≡◌};
+    ghost use Rattle.mx_room.specs.declared.hosting.HostFault.TheVariants.{Memory};
+
+    ghost from_gives = { λ _ f. f ≡ Memory };
+
+    fn from(_refused: AllocError) -> HostFault {
+        HostFault::Memory
+    }
+}
+
+// The state of a room that is not hosted.
+#[derive(Clone, Copy, Debug)]
+struct NoState;
+
+impl RoomState for NoState {
+    ghost use Rattle.std.specs.Prelude.{[]};
+    ghost use Rattle.mx_orders.specs.StateMap.{view};
+
+    ghost state = { λ _. view [] [] };
+
+    fn create_id(&self) -> Option<&EventId> {
+        None
+    }
+
+    fn entry(&self, _kind: &str, _key: &str) -> Option<&Pdu> {
+        None
+    }
+}
+
+/// Why the event makes no room, where it makes none. It takes no memory.
+#[tactic(auto, unfolding(crate::specs::Hosting::host_error))]
+pub fn hosting_fault(offered: &Offered) -> Option<HostError>
+    ensures { result ≡ host_error offered.now }
+{
+    let event = &offered.pdu;
+    if !is_create(event) {
+        Some(HostError::NotACreateEvent)
+    } else if cites_auth_events(event) {
+        Some(HostError::CitesAuthEvents)
+    } else if !offered.signed {
+        Some(HostError::Unsigned)
+    } else if !event.hash_holds() {
+        Some(HostError::BadContentHash)
+    } else {
+        broken_rule(event).map(HostError::BreaksRule)
+    }
+}
+
+// A create event, with the empty state key.
+fn is_create(event: &Pdu) -> bool
+    ensures { result ≡ (has_kind (codes "m.room.create") event.now && is_text [] (state_key_of event.now)) }
+{
+    event.kind() == "m.room.create" && event.state_key() == Some("")
+}
+
+fn cites_auth_events(event: &Pdu) -> bool
+    ensures { result ≡ nat_lt 0 (length (auth_ids event.now)) }
+{
+    !event.auth_events().is_empty()
+}
+
+fn broken_rule(event: &Pdu) -> Option<Rule>
+    ensures { result ≡ rules event.now (view [] []) }
+{
+    judge(event, &NoState).err()
+}

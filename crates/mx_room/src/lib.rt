@@ -1,0 +1,18 @@
+//! A room: its hosting, the events that it receives, and what it answers about them (Matrix specification,
+//! Server-Server API).
+#![tactic(auto)]
+
+mod forms;
+mod hosting;
+mod outcomes;
+mod queries;
+mod rooms;
+
+pub use forms::kept_form;
+pub use hosting::{HostError, HostFault, hosting_fault};
+pub use outcomes::{Outcome, Refusal};
+pub use queries::{Denied, Query, QueryReply};
+pub use rooms::Room;
+
+#[cfg(test)]
+mod tests;

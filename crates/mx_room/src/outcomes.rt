@@ -1,0 +1,24 @@
+// What becomes of an offered event.
+use mx_receipt::Verdict;
+
+/// Why a room does not keep an offered event, in the order in which it is asked.
+///
+/// `SecondCreate`: it is a create event. `Signature`: its signatures were refused. `MissingEvents`: an event that it
+/// follows or rests on is not held. `RoomFull`: the room has 50,000 events.
+///
+/// Source: the Matrix specification, Server-Server API, "Checks performed on receipt of a PDU".
+#[derive(Clone, Copy, Debug, PartialEq, Eq)]
+pub enum Refusal {
+    SecondCreate,
+    Signature,
+    MissingEvents,
+    RoomFull,
+}
+
+/// What becomes of an offered event: it is kept under a verdict, or known already under one, or refused.
+#[derive(Clone, Copy, Debug, PartialEq, Eq)]
+pub enum Outcome {
+    Kept(Verdict),
+    Known(Verdict),
+    Refused(Refusal),
+}

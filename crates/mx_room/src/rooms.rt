@@ -1,0 +1,232 @@
+// One room.
+ghost use Rattle.std.specs.Prelude.{◌≡◌, ◌↔◌, IfOk, IsErrOf, None, OnErr, OnOk, Option, Some, codes, length, option_copied};
+ghost use Rattle.mx_pdu.specs.Event.{has_kind, room_of};
+ghost use Rattle.mx_receipt.specs.Receipt as receipt;
+ghost use Rattle.mx_room.specs.Asking.{event_shown, query_answer};
+ghost use Rattle.mx_room.specs.Hosting.{host_error};
+ghost use Rattle.mx_room.specs.Offer.{as_kept, offer_outcome, refusal_by, row_by};
+ghost use Rattle.mx_room.specs.RoomView.{IsHosted, create_id};
+ghost use Rattle.mx_room.specs.declared.hosting.HostError.{HostError as Cause};
+
+use crate::forms::kept_form;
+use crate::hosting::{HostFault, hosting_fault};
+use crate::outcomes::{Outcome, Refusal};
+use crate::queries::{Denied, Query, QueryReply};
+use mx_graph::EventNo;
+use mx_ident::{EventId, RoomId};
+use mx_pdu::{Offered, Pdu};
+use mx_receipt::{NotReceived, OfferError, Timeline};
+use std::alloc::{AllocError, Global};
+use std::marker::Model;
+
+/// A room that is hosted.
+///
+/// An event can be received in one step ([`receive`](Room::receive)), or in two: [`prepare`](Room::prepare) makes
+/// whatever needs memory, and [`install`](Room::install), which needs none, adds the event.
+#[derive(Debug, Drop)]
+pub struct Room {
+    id: RoomId,
+    timeline: Timeline,
+}
+
+impl Model for Room {
+    ghost use Rattle.mx_room.specs.RoomView.{RoomView, room_code, IsHosted};
+
+    ghost Value = { RoomView };
+
+    ghost coded = { room_code };
+
+    ghost view = { λ room. record { id = room.id; kept = room.timeline.kept; prepared = room.timeline.prepared } };
+
+    ghost invariant = { λ room. IsHosted room.timeline.kept };
+}
+
+impl Room {
+    /// The room that a create event makes.
+    ///
+    /// `NotARoom` with the first cause that holds, and `Memory`.
+    pub fn host(alloc: Global, offered: &Offered) -> Result<Room, HostFault>
+        ensures hosted { IfOk result (λ room. room ≡ record {
+          id = room_of offered.now.pdu;
+          kept = receipt.begun offered.now.id offered.now.pdu;
+          prepared = None;
+        }) }
+        ensures free { OnOk result (host_error offered.now ≡ None) }
+        ensures refused { (cause : Cause) → (IsErrOf result (HostFault.NotARoom cause) ↔ (host_error offered.now ≡ Some cause)) }
+    {
+        if let Some(error) = hosting_fault(offered) {
+            return Err(HostFault::NotARoom(error));
+        }
+        let room = begun(alloc, offered)?;
+        Ok(room)
+    }
+
+    /// What becomes of an offered event, which is kept where it can be. At an error the room stays.
+    ///
+    /// Source: the Matrix specification, Server-Server API, "Checks performed on receipt of a PDU".
+    pub fn receive(&mut self, alloc: Global, offered: &Offered) -> Result<Outcome, AllocError>
+        ensures outcome { IfOk result (λ outcome. outcome ≡ offer_outcome self.old.kept offered.now) }
+        ensures received { OnOk result (self.new ≡ record {
+          id = self.old.id;
+          kept = receipt.installed self.old.kept (row_by offered.now (offer_outcome self.old.kept offered.now));
+          prepared = None;
+        }) }
+        ensures err { OnErr result (self.new ≡ record { id = self.old.id; kept = self.old.kept; prepared = None }) }
+    {
+        let outcome = self.prepare(alloc, offered);
+        self.install();
+        outcome
+    }
+
+    /// What becomes of an offered event: whatever needs memory to keep it is made, and nothing else changes. An event
+    /// that was prepared before is given up.
+    pub fn prepare(&mut self, alloc: Global, offered: &Offered) -> Result<Outcome, AllocError>
+        ensures outcome { IfOk result (λ outcome. outcome ≡ offer_outcome self.old.kept offered.now) }
+        ensures prepared { OnOk result (self.new ≡ record {
+          id = self.old.id;
+          kept = self.old.kept;
+          prepared = row_by offered.now (offer_outcome self.old.kept offered.now);
+        }) }
+        ensures err { OnErr result (self.new ≡ record { id = self.old.id; kept = self.old.kept; prepared = None }) }
+    {
+        prepare_in(alloc, &mut self.timeline, offered)
+    }
+
+    /// Adds the event that is prepared. It takes no memory.
+    pub fn install(&mut self)
+        ensures { self.new ≡ record { id = self.old.id; kept = receipt.installed self.old.kept self.old.prepared; prepared = None } }
+    {
+        self.timeline.install();
+    }
+
+    /// Gives up an event that is prepared. It takes no memory.
+    pub fn discard(&mut self)
+        ensures { self.new ≡ record { id = self.old.id; kept = self.old.kept; prepared = None } }
+    {
+        self.timeline.discard();
+    }
+
+    /// Its id.
+    pub fn id(&self) -> &RoomId
+        ensures { result.now ≡ self.now.id }
+    {
+        &self.id
+    }
+
+    /// How many events it has.
+    pub fn len(&self) -> usize
+        ensures { result ≡ length self.now.kept }
+    {
+        self.timeline.len()
+    }
+
+    /// The id of its create event.
+    pub fn create_id(&self) -> &EventId
+        ensures id { result.now ≡ create_id self.now.kept }
+        // It has an event.
+        ensures hosted { IsHosted self.now.kept }
+    {
+        &self.timeline.row(EventNo::at(0)).id
+    }
+
+    /// The answer to a query. `AllocError` where no memory is left for it.
+    pub fn ask(&self, query: &Query) -> Result<Result<QueryReply, Denied>, AllocError>
+        ensures { IfOk result (λ reply. reply ≡ query_answer self.now.kept query.now) }
+    {
+        answer_in(&self.timeline, query)
+    }
+
+    /// The event with this id, as it is kept; none where the room has none or has rejected it. It takes no memory.
+    pub fn event(&self, id: &EventId) -> Option<&Pdu>
+        ensures { option_copied result ≡ event_shown self.now.kept id.now }
+    {
+        event_in(&self.timeline, id)
+    }
+}
+
+fn begun(alloc: Global, offered: &Offered) -> Result<Room, AllocError>
+    requires { host_error offered.now ≡ None }
+    ensures { IfOk result (λ room. room ≡ record {
+      id = room_of offered.now.pdu;
+      kept = receipt.begun offered.now.id offered.now.pdu;
+      prepared = None;
+    }) }
+{
+    let id = offered.pdu.room_id().clone()?;
+    let event = offered.pdu.clone()?;
+    let event_id = offered.id.clone()?;
+    let timeline = Timeline::begin(alloc, event, event_id)?;
+    Ok(Room { id, timeline })
+}
+
+#[tactic(auto, unfolding(crate::specs::Offer::offer_outcome))]
+fn prepare_in(
+    alloc: Global,
+    timeline: &mut Timeline,
+    offered: &Offered,
+) -> Result<Outcome, AllocError>
+    ensures outcome { IfOk result (λ outcome. outcome ≡ offer_outcome timeline.old.kept offered.now) }
+    ensures prepared { OnOk result (timeline.new ≡ record {
+      kept = timeline.old.kept;
+      prepared = row_by offered.now (offer_outcome timeline.old.kept offered.now);
+    }) }
+    ensures err { OnErr result (timeline.new ≡ record { kept = timeline.old.kept; prepared = None }) }
+{
+    timeline.discard();
+    if let Some(number) = timeline.find(&offered.id) {
+        return Ok(Outcome::Known(timeline.verdict(number)));
+    }
+    let event = kept_form(alloc, offered)?;
+    if is_of_create_kind(&event) {
+        return Ok(Outcome::Refused(Refusal::SecondCreate));
+    }
+    if !offered.signed {
+        return Ok(Outcome::Refused(Refusal::Signature));
+    }
+    let id = offered.id.clone()?;
+    match timeline.prepare(event, id) {
+        Ok(verdict) => Ok(Outcome::Kept(verdict)),
+        Err(OfferError::Memory) => Err(AllocError),
+        Err(OfferError::NotReceived(cause)) => Ok(Outcome::Refused(refusal_of(cause))),
+    }
+}
+
+#[tactic(auto, unfolding(crate::specs::Asking::query_answer))]
+fn answer_in(timeline: &Timeline, query: &Query) -> Result<Result<QueryReply, Denied>, AllocError>
+    ensures { IfOk result (λ reply. reply ≡ query_answer timeline.now.kept query.now) }
+{
+    match query {
+        Query::Event(id) => match event_in(timeline, id) {
+            Some(event) => Ok(Ok(QueryReply::Event(event.clone()?))),
+            None => Ok(Err(Denied::NotFound)),
+        },
+    }
+}
+
+fn is_of_create_kind(event: &Pdu) -> bool
+    ensures { result ≡ has_kind (codes "m.room.create") event.now }
+{
+    event.kind() == "m.room.create"
+}
+
+// The refusal by a cause that is no other than these two.
+fn refusal_of(cause: NotReceived) -> Refusal
+    ensures { result ≡ refusal_by cause }
+{
+    match cause {
+        NotReceived::Known | NotReceived::SecondCreate => Refusal::SecondCreate,
+        NotReceived::MissingEvents => Refusal::MissingEvents,
+        NotReceived::RoomFull => Refusal::RoomFull,
+    }
+}
+
+#[tactic(auto, unfolding(crate::specs::Asking::event_shown))]
+fn event_in<'t>(timeline: &'t Timeline, id: &EventId) -> Option<&'t Pdu>
+    ensures { option_copied result ≡ event_shown timeline.now.kept id.now }
+{
+    let number = timeline.find(id)?;
+    if timeline.verdict(number).is_rejected() {
+        return None;
+    }
+    Some(&timeline.row(number).event)
+}

@@ -1,0 +1,117 @@
+-- What a call is about to change, by what its room tells.
+use Rattle.std.proofs.Common.{◌≡◌, ℕ, ◌<◌, List, [], ◌∷◌, length, get_or, set, take, drop, ◌++◌, append-nil, Option, Some, None, refl, sym, ◌∙◌, ap, subst, arith}
+use Rattle.std.specs.Prelude.{option_map, option_to_list, All}
+use Rattle.std.specs.BTreeMap.{BTreeMap}
+use Rattle.std.proofs.lemmas.List.{get_or_default, set-get_or, take_all, drop_all}
+use Rattle.mx_pdu.specs.Event.{room_of}
+use Rattle.mx_keeper.specs.declared.rows.ShardRow.{ShardRow}
+use Rattle.mx_receipt.specs.Receipt.{Kept}
+use Rattle.mx_room.specs.Hosting.{host_error}
+use Rattle.mx_room.specs.Offer.{Offered, offer_outcome, row_by}
+use Rattle.mx_room.specs.RoomView.{RoomView, IsHosted}
+use Rattle.mx_room.specs.declared.hosting.HostError.{HostError}
+use Rattle.mx_room.specs.declared.outcomes.Outcome.{Outcome}
+use Rattle.mx_shard.specs.LoneRoom.{to_host, to_offer, answer, added, hosting, first_rows}
+use Rattle.mx_shard.specs.Inside.{no_room, room_at, rows_in, IsReady, IsNumbered, number_of, with_prepared}
+use Rattle.mx_shard.specs.Changes.{IsAnswered, IsNewRoom, IsNewRow, IsHosting, IsOffering, row_for}
+use Rattle.mx_shard.specs.declared.hosting.Hosting.{Hosting}
+use Rattle.mx_shard.specs.declared.hosting.Hosting.TheVariants as hosts
+use Rattle.mx_shard.specs.declared.hosting.NewRoom.{NewRoom}
+use Rattle.mx_shard.specs.declared.offering.NewRow.{NewRow}
+use Rattle.mx_shard.specs.declared.offering.Offering.{Offering}
+use Rattle.mx_shard.specs.declared.offering.Offering.TheVariants as offers
+use Rattle.mx_shard.specs.declared.answers.Answer.{Answer}
+use Rattle.mx_shard.specs.declared.answers.Answer.TheVariants.{NotHosted, NotHost, ToOffered}
+use Rattle.mx_shard.proofs.RoomLemmas.{room_found, rows_found}
+
+-- ---- what is told, at what it was found to be
+
+pub made_of : (xs rooms : List RoomView) (caller : ℕ) (o : Offered) (h : Hosting) (made new : NewRoom) → xs ≡ rooms → h ≡ hosts.Made made → new ≡ made → IsHosting xs caller o h → IsNewRoom rooms caller o new
+made_of xs rooms caller o h made new e is same told = subst (λ rs. IsNewRoom rs caller o new) e (subst (IsNewRoom xs caller o) (sym same) (subst (IsHosting xs caller o) is told))
+
+pub made_id : (rooms : List RoomView) (caller : ℕ) (o : Offered) (new : NewRoom) → IsNewRoom rooms caller o new → new.room.id ≡ room_of o.pdu
+made_id rooms caller o new made = ap (λ (room : RoomView). room.id) made.room
+
+pub host_answered : (xs rooms : List RoomView) (caller : ℕ) (o : Offered) (h : Hosting) (a : Answer) → xs ≡ rooms → h ≡ hosts.Answered a → IsHosting xs caller o h → IsAnswered (rows_in rooms (room_of o.pdu)) (to_host o) a
+host_answered xs rooms caller o h a e is told = subst (λ rs. IsAnswered (rows_in rs (room_of o.pdu)) (to_host o) a) e (subst (IsHosting xs caller o) is told)
+
+pub prepared_of : (xs rooms after : List RoomView) (numbers : BTreeMap (List ℕ) ℕ) (caller : ℕ) (o : Offered) (f : Offering) (new : NewRow) → xs ≡ rooms → f ≡ offers.Prepared new → IsOffering xs after numbers caller o f → IsNewRow rooms after numbers caller o new
+prepared_of xs rooms after numbers caller o f new e is told = subst (λ rs. IsNewRow rs after numbers caller o new) e (subst (IsOffering xs after numbers caller o) is told)
+
+pub offer_told : (xs rooms after : List RoomView) (numbers : BTreeMap (List ℕ) ℕ) (caller : ℕ) (o : Offered) (f : Offering) (a : Answer) → xs ≡ rooms → f ≡ offers.Answered a → IsOffering xs after numbers caller o f →
+    (after ≡ rooms) × ((origin : List ℕ) → IsAnswered (rows_in rooms (room_of o.pdu)) (to_offer origin o) a)
+offer_told xs rooms after numbers caller o f a e is told =
+    subst (λ rs. (after ≡ rs) × ((origin : List ℕ) → IsAnswered (rows_in rs (room_of o.pdu)) (to_offer origin o) a)) e (subst (IsOffering xs after numbers caller o) is told)
+
+-- what a slice of a `Vec` holds when it is given back
+pub written_back : (len : ℕ) (items given : List RoomView) → len ≡ length items → length given ≡ length items → take len (given ++ drop (length given) items) ≡ given
+written_back len items given whole same =
+    ap (λ rest. take len (given ++ rest)) (drop_all (length given) items (omega arith)) ∙ ap (take len) (append-nil given) ∙ take_all len given (omega arith)
+
+-- ---- a room that is not hosted
+
+pub not_host : (kept : List Kept) (o : Offered) (error : HostError) → kept ≡ [] → host_error o ≡ Some error → IsAnswered kept (to_host o) (NotHost error)
+not_host kept o error none is = record {
+  answer = ap (hosting o) (sym is) ∙ ap (λ rows. answer rows (to_host o)) (sym none);
+  nothing = ap (λ rows. added rows (to_host o)) none ∙ ap (first_rows o) is;
+}
+
+pub not_hosted : (kept : List Kept) (origin : List ℕ) (o : Offered) → kept ≡ [] → IsAnswered kept (to_offer origin o) NotHosted
+not_hosted kept origin o none = record {
+  answer = ap (λ rows. answer rows (to_offer origin o)) (sym none);
+  nothing = ap (λ rows. added rows (to_offer origin o)) none;
+}
+
+-- ---- an event that is offered to a room with events
+
+pub offer_answer : (kept : List Kept) (origin : List ℕ) (o : Offered) → IsHosted kept → ToOffered (offer_outcome kept o) ≡ answer kept (to_offer origin o)
+offer_answer [] origin o h = absurd (omega arith)
+offer_answer (k ∷ ks) origin o h = refl
+
+pub offer_added : (kept : List Kept) (origin : List ℕ) (o : Offered) → IsHosted kept → option_to_list (row_by o (offer_outcome kept o)) ≡ added kept (to_offer origin o)
+offer_added [] origin o h = absurd (omega arith)
+offer_added (k ∷ ks) origin o h = refl
+
+some_row : (f : Kept → ShardRow) (v : Option Kept) (row : ShardRow) → Some row ≡ option_map f v → (k : Kept) × (v ≡ Some k) × (row ≡ f k)
+some_row f None row e = absurd (cc e)
+some_row f (Some k) row e = (k, refl, cc e)
+
+no_row : (f : Kept → ShardRow) (v : Option Kept) → None ≡ option_map f v → v ≡ None
+no_row f None e = refl
+no_row f (Some k) e = absurd (cc e)
+
+-- the room with this number, which is read at d, is now r'
+module _ (rooms : List RoomView) (numbers : BTreeMap (List ℕ) ℕ) (caller : ℕ) (o : Offered) (n : ℕ) (d r' : RoomView) (x : Outcome) (told : Option ShardRow)
+    (numbered : IsNumbered numbers rooms) (held : number_of numbers (room_of o.pdu) ≡ Some n) (outcome : x ≡ offer_outcome (get_or rooms n d).kept o)
+    (rows : told ≡ option_map (row_for (room_of o.pdu) caller) (row_by o (offer_outcome (get_or rooms n d).kept o))) (prepared : r' ≡ with_prepared (get_or rooms n d) (row_by o (offer_outcome (get_or rooms n d).kept o))) where
+  pub number_within : n < length rooms
+  number_within = (room_found numbers rooms (room_of o.pdu) n numbered held).within
+
+  at : get_or rooms n d ≡ room_at rooms n
+  at = get_or_default rooms n d no_room number_within
+
+  pub new_row : (row : ShardRow) → told ≡ Some row → IsNewRow rooms (set rooms n r') numbers caller o (record { number = n; outcome = x; row = row })
+  new_row row some =
+      let r : RoomView = get_or rooms n d in
+      let s = some_row (row_for (room_of o.pdu) caller) (row_by o (offer_outcome r.kept o)) row (sym some ∙ rows) in
+      record {
+        kept = s.0;
+        found = held;
+        outcome = outcome ∙ ap (λ (q : RoomView). offer_outcome q.kept o) at;
+        adds = ap (λ (q : RoomView). row_by o (offer_outcome q.kept o)) (sym at) ∙ s.1;
+        rooms = ap (set rooms n) (prepared ∙ ap (with_prepared r) s.1 ∙ ap (λ (q : RoomView). with_prepared q (Some s.0)) at);
+        row = s.2;
+      }
+
+  pub nothing_new : All IsReady rooms → told ≡ None → (set rooms n r' ≡ rooms) × ((origin : List ℕ) → IsAnswered (rows_in rooms (room_of o.pdu)) (to_offer origin o) (ToOffered x))
+  nothing_new ready none =
+      let r : RoomView = get_or rooms n d in
+      let v : row_by o (offer_outcome r.kept o) ≡ None = no_row (row_for (room_of o.pdu) caller) (row_by o (offer_outcome r.kept o)) (sym none ∙ rows) in
+      let mine : IsReady r = subst IsReady (sym at) (ready n no_room number_within) in
+      let same : rows_in rooms (room_of o.pdu) ≡ r.kept = rows_found rooms (room_of o.pdu) n (room_found numbers rooms (room_of o.pdu) n numbered held) ∙ ap (λ (q : RoomView). q.kept) (sym at) in (
+        ap (set rooms n) (prepared ∙ ap (with_prepared r) (v ∙ sym mine.free) ∙ at) ∙ set-get_or rooms n no_room,
+        λ origin. record {
+          answer = ap ToOffered outcome ∙ offer_answer r.kept origin o mine.hosted ∙ ap (λ kept. answer kept (to_offer origin o)) (sym same);
+          nothing = ap (λ kept. added kept (to_offer origin o)) same ∙ sym (offer_added r.kept origin o mine.hosted) ∙ ap option_to_list v;
+        },
+      )

@@ -1,0 +1,353 @@
+-- A shard's rooms and its journal, after a call.
+use Rattle.std.proofs.Common.{◌≡◌, ℕ, ◌<◌, true, false, cond, IsTrue, List, [], ◌∷◌, ◌++◌, length, set, map, Option, Some, None, refl, sym, ◌∙◌, ap, subst, arith, length-append, append-nil, ◌⊎◌, inl, inr}
+use Rattle.std.specs.Prelude.{All, bytes_eq, option_to_list}
+use Rattle.std.specs.BTreeMap.{BTreeMap}
+use Rattle.std.specs.Map.{lookup}
+use Rattle.std.specs.Cmp.Lexicographic.{slice_cmp}
+use Rattle.std.specs.Ordering.{is_eq, nat_cmp}
+use Rattle.std.proofs.lemmas.Bool.{cases_eq}
+use Rattle.std.proofs.lemmas.List.{get_or_append_left, get_or_push, get_or-set_same, get_or-set_other, map_push, length-set, set-set, set-get_or}
+use Rattle.std.proofs.lemmas.List.Elements.{All-head, All-tail, All-append, All-map, All-push, All-set}
+use Rattle.mx_keeper.specs.Keeping.{with_row}
+use Rattle.mx_keeper.specs.Places.{PlaceView, is_at}
+use Rattle.mx_keeper.specs.declared.rows.ShardRow.{ShardRow}
+use Rattle.mx_pdu.specs.Event.{room_of}
+use Rattle.mx_receipt.specs.Receipt.{Kept, begun, kept_at}
+use Rattle.mx_receipt.specs.declared.verdicts.Verdict.TheVariants.{Accepted}
+use Rattle.mx_room.specs.Offer.{Offered}
+use Rattle.mx_room.specs.RoomView.{RoomView}
+use Rattle.mx_shard.specs.LoneRoom.{Call, call_room, to_host, to_offer, answer, added, hosting, first_rows}
+use Rattle.mx_shard.specs.Journal.{Entry, entry_of, record_of, journal_after, stored, IsLegal}
+use Rattle.mx_shard.specs.Inside.{no_room, room_at, rows_at, rows_in, with_prepared, with_kept, IsReady, IsNumbered, IsMoved, IsSameMap, IsSound, entry_in, journal_of, IsWithin, IsIndexed}
+use Rattle.mx_shard.specs.Changes.{IsAnswered, IsNewRoom, IsNewRow, row_for}
+use Rattle.mx_shard.specs.declared.answers.Answer.{Answer}
+use Rattle.mx_shard.specs.declared.answers.Answer.TheVariants.{Hosted, ToOffered}
+use Rattle.mx_shard.specs.declared.hosting.NewRoom.{NewRoom}
+use Rattle.mx_shard.specs.declared.offering.NewRow.{NewRow}
+use Rattle.mx_shard.specs.declared.journal_places.JournalPlace.{JournalPlace}
+use Rattle.mx_shard.proofs.JournalLaws.{record-after, record-after-other}
+use Rattle.mx_shard.proofs.LegalLaws.{legal-after, legal-start}
+use Rattle.mx_shard.proofs.Places.{IsFound}
+use Rattle.mx_shard.proofs.RoomLemmas.{text-eq, room_found, rows_found, id_found, rows_push, rows_set, numbers_push, numbers_set, numbers_same, no_number, moved_back}
+use Rattle.mx_shard.proofs.ChangeLemmas.{offer_answer, offer_added}
+
+-- ---- rooms that grow
+
+-- what stands at a place stays
+record Grows (before after : List RoomView) : Type 0 where
+  same : (p : JournalPlace) → IsWithin before p → entry_in (room_at after p.room) p ≡ entry_in (room_at before p.room) p
+  within : (p : JournalPlace) → IsWithin before p → IsWithin after p
+
+grows-push : (rooms : List RoomView) (room : RoomView) → Grows rooms (rooms ++ room ∷ [])
+grows-push rooms room = record {
+  same = λ p w. ap (λ r. entry_in r p) (get_or_append_left rooms (room ∷ []) no_room p.room w.room);
+  within = λ p w. record {
+    room = let l : p.room < length rooms = w.room in omega (arith, length-append rooms (room ∷ []));
+    row = subst (λ (r : RoomView). p.row < length r.kept) (sym (get_or_append_left rooms (room ∷ []) no_room p.room w.room)) w.row;
+  };
+}
+
+entry-more : (old new : RoomView) (more : List Kept) (p : JournalPlace) → new.id ≡ old.id → new.kept ≡ old.kept ++ more → p.row < length old.kept → entry_in new p ≡ entry_in old p
+entry-more old new more p named grown l =
+    ap (λ id. entry_of id p.caller (kept_at new.kept p.row)) named
+    ∙ ap (λ kept. entry_of old.id p.caller (kept_at kept p.row)) grown
+    ∙ ap (entry_of old.id p.caller) (get_or_append_left old.kept more (kept_at [] p.row) p.row l)
+
+grows-set : (rooms : List RoomView) (n : ℕ) (room : RoomView) (more : List Kept) → n < length rooms → room.id ≡ (room_at rooms n).id → room.kept ≡ (room_at rooms n).kept ++ more → Grows rooms (set rooms n room)
+grows-set rooms n room more l named grown = record {
+  same = λ p w. elim (cases_eq p.room n) [
+    | inl e ↦
+        let here : room_at (set rooms n room) p.room ≡ room = ap (room_at (set rooms n room)) e ∙ get_or-set_same rooms n room no_room l in
+        let old : room_at rooms n ≡ room_at rooms p.room = ap (room_at rooms) (sym e) in
+        ap (λ r. entry_in r p) here ∙ entry-more (room_at rooms n) room more p named grown (subst (λ (r : RoomView). p.row < length r.kept) (sym old) w.row) ∙ ap (λ r. entry_in r p) old
+    | inr ne ↦ ap (λ r. entry_in r p) (get_or-set_other rooms n p.room room no_room ne)
+  ];
+  within = λ p w. record {
+    room = let m : p.room < length rooms = w.room in omega (arith, length-set rooms n room);
+    row = elim (cases_eq p.room n) [
+      | inl e ↦
+          let here : room_at (set rooms n room) p.room ≡ room = ap (room_at (set rooms n room)) e ∙ get_or-set_same rooms n room no_room l in
+          let short : p.row < length (room_at rooms n).kept = subst (λ (r : RoomView). p.row < length r.kept) (ap (room_at rooms) e) w.row in
+          let long : length room.kept ≡ length ((room_at rooms n).kept ++ more) = ap (λ (ks : List Kept). length ks) grown in
+          subst (λ (r : RoomView). p.row < length r.kept) (sym here) (omega (arith, length-append (room_at rooms n).kept more))
+      | inr ne ↦ subst (λ (r : RoomView). p.row < length r.kept) (sym (get_or-set_other rooms n p.room room no_room ne)) w.row
+    ];
+  };
+}
+
+journal-grows : (before after : List RoomView) → Grows before after → (places : List JournalPlace) → All (IsWithin before) places → journal_of after places ≡ journal_of before places
+journal-grows before after grows [] within = refl
+journal-grows before after grows (p ∷ ps) within =
+    ap (λ e. e ∷ journal_of after ps) (grows.same p (All-head (IsWithin before) p ps within))
+    ∙ ap (λ es. entry_in (room_at before p.room) p ∷ es) (journal-grows before after grows ps (All-tail (IsWithin before) p ps within))
+
+all-grows : (before after : List RoomView) → Grows before after → (places : List JournalPlace) → All (IsWithin before) places → All (IsWithin after) places
+all-grows before after grows places within = λ k d l. grows.within _ (within k d l)
+
+-- ---- a call that adds an event
+
+-- the rooms and the journal are as after the call
+pub record IsAfter (before after : List RoomView) (numbers : BTreeMap (List ℕ) ℕ) (places places' : List JournalPlace) (caller : ℕ) (id : List ℕ) (call : Call) : Type 0 where
+  pub indexed : IsIndexed after numbers places'
+  pub journal : journal_of after places' ≡ journal_after (journal_of before places) caller id call
+
+module _ (before after : List RoomView) (numbers numbers' : BTreeMap (List ℕ) ℕ) (places : List JournalPlace) (p : JournalPlace) (caller : ℕ) (id : List ℕ) (call : Call) (k : Kept)
+    (indexed : IsIndexed before numbers places) (grows : Grows before after) (numbered : IsNumbered numbers' after) (ready : All IsReady after) (here : IsWithin after p)
+    (entry : entry_in (room_at after p.room) p ≡ entry_of id caller k) (adds : added (rows_in before id) call ≡ k ∷ [])
+    (rows : (q : List ℕ) → rows_in after q ≡ cond (bytes_eq id q) (rows_in before id ++ k ∷ []) (rows_in before q)) where
+  journal-is : journal_of after (places ++ p ∷ []) ≡ journal_after (journal_of before places) caller id call
+  journal-is =
+      map_push (λ (q : JournalPlace). entry_in (room_at after q.room) q) places p
+      ∙ ap (λ es. es ++ entry_in (room_at after p.room) p ∷ []) (journal-grows before after grows places indexed.within)
+      ∙ ap (λ e. journal_of before places ++ e ∷ []) entry
+      ∙ ap (λ ks. journal_of before places ++ map (entry_of id caller) ks) (sym adds ∙ ap (λ rows. added rows call) (sym (indexed.records id)))
+
+  record-is : (q : List ℕ) → record_of (journal_after (journal_of before places) caller id call) q ≡ rows_in after q
+  record-is q =
+      elim (bytes_eq id q) as (λ b. bytes_eq id q ≡ b → record_of (journal_after (journal_of before places) caller id call) q ≡ cond b (rows_in before id ++ k ∷ []) (rows_in before q)) [
+        | true ↦ λ h.
+            subst (λ i. record_of (journal_after (journal_of before places) caller id call) i ≡ rows_in before id ++ k ∷ []) (text-eq id q h)
+            (record-after (journal_of before places) caller id call ∙ ap (λ rows. rows ++ added rows call) (indexed.records id) ∙ ap (λ ks. rows_in before id ++ ks) adds)
+        | false ↦ λ h. record-after-other (journal_of before places) caller id q call h ∙ indexed.records q
+      ] refl
+      ∙ sym (rows q)
+
+  index-more : IsAfter before after numbers' places (places ++ p ∷ []) caller id call
+  index-more = record {
+    indexed = record {
+      numbered = numbered;
+      ready = ready;
+      within = All-push (IsWithin after) places p (all-grows before after grows places indexed.within) here;
+      records = λ q. ap (λ js. record_of js q) journal-is ∙ record-is q;
+    };
+    journal = journal-is;
+  }
+
+-- ---- what is stored, and where
+
+pub stored_after : (rows : Option (List ShardRow)) (journal : List Entry) (caller : ℕ) (id : List ℕ) (call : Call) (k : Kept) (row : ShardRow) → rows ≡ Some (stored journal) →
+    added (record_of journal id) call ≡ k ∷ [] → row ≡ row_for id caller k → with_row rows row ≡ Some (stored (journal_after journal caller id call))
+stored_after rows journal caller id call k row before adds is =
+    ap (λ o. with_row o row) before
+    ∙ ap (λ r. Some (stored journal ++ r ∷ [])) is
+    ∙ ap (λ (rs : List ShardRow). Some rs) (sym (map_push (λ (e : Entry). let r : ShardRow = record { room = e.room; event = e.event; caller = e.caller } in r) journal (entry_of id caller k)))
+    ∙ ap (λ ks. Some (stored (journal ++ map (entry_of id caller) ks))) (sym adds)
+
+pub here_after : (place : PlaceView) (journal : List Entry) (caller : ℕ) (id : List ℕ) (call : Call) → IsTrue (is_at place id) → All (λ e. IsTrue (is_at place e.room)) journal →
+    All (λ e. IsTrue (is_at place e.room)) (journal_after journal caller id call)
+here_after place journal caller id call h here =
+    All-append (λ (e : Entry). IsTrue (is_at place e.room)) journal (map (entry_of id caller) (added (record_of journal id) call)) here
+    (All-map (λ (e : Entry). IsTrue (is_at place e.room)) (entry_of id caller) (added (record_of journal id) call) (λ k d l. h))
+
+pub either_left : {P : Type 0} (left new given : Option (List ShardRow)) → P ⊎ (left ≡ new) → new ≡ given → P ⊎ (left ≡ given)
+either_left left new given (inl was) e = inl was
+either_left left new given (inr h) e = inr (h ∙ e)
+
+pub either_each : {P : Type 0} (left new : Option (List ShardRow)) (given : List ℕ → Option (List ShardRow)) → P ⊎ (left ≡ new) → ((origin : List ℕ) → new ≡ given origin) → P ⊎ ((origin : List ℕ) → left ≡ given origin)
+either_each left new given (inl was) e = inl was
+either_each left new given (inr h) e = inr (λ origin. h ∙ e origin)
+
+-- nothing is added
+pub journal_same : (journal : List Entry) (caller : ℕ) (id : List ℕ) (call : Call) → added (record_of journal id) call ≡ [] → journal ≡ journal_after journal caller id call
+journal_same journal caller id call none = sym (ap (λ ks. journal ++ map (entry_of id caller) ks) none ∙ append-nil journal)
+
+-- ---- what holds of a shard
+
+no_record : (id : List ℕ) → record_of [] id ≡ []
+unfolding record_of
+no_record id = refl
+
+pub sound_start : (place : PlaceView) (rooms : List RoomView) (numbers : BTreeMap (List ℕ) ℕ) (places : List JournalPlace) → rooms ≡ [] → numbers.entries ≡ [] → places ≡ [] → IsSound place rooms numbers places
+sound_start place rooms numbers places no_rooms no_numbers no_places =
+    subst (λ rs. IsSound place rs numbers places) (sym no_rooms) (subst (IsSound place [] numbers) (sym no_places) (record {
+      indexed = record {
+        numbered = record {
+          each = λ id. ap (lookup (λ q. is_eq (slice_cmp nat_cmp id q))) no_numbers;
+          once = λ n d l. absurd (omega arith);
+        };
+        ready = λ k d l. absurd (omega arith);
+        within = λ k d l. absurd (omega arith);
+        records = no_record;
+      };
+      here = λ k d l. absurd (omega arith);
+      legal = legal-start;
+    }))
+
+module _ (place : PlaceView) (before after : List RoomView) (numbers numbers' : BTreeMap (List ℕ) ℕ) (places places' : List JournalPlace) (sound : IsSound place before numbers places) where
+  pub journal_stays : after ≡ before → places' ≡ places → journal_of after places' ≡ journal_of before places
+  journal_stays rooms ps = ap (λ rs. journal_of rs places') rooms ∙ ap (journal_of before) ps
+
+  -- the rooms and the journal stay
+  pub sound_same : after ≡ before → places' ≡ places → IsSameMap numbers numbers' → IsSound place after numbers' places'
+  sound_same rooms ps same =
+      subst (λ rs. IsSound place rs numbers' places') (sym rooms) (subst (IsSound place before numbers') (sym ps) (record {
+        indexed = record {
+          numbered = numbers_same numbers numbers' before sound.indexed.numbered same;
+          ready = sound.indexed.ready;
+          within = sound.indexed.within;
+          records = sound.indexed.records;
+        };
+        here = sound.here;
+        legal = sound.legal;
+      }))
+
+  pub sound_after : (caller : ℕ) (id : List ℕ) (call : Call) → call_room call ≡ Some id → IsTrue (is_at place id) → IsAfter before after numbers' places places' caller id call → IsSound place after numbers' places'
+  sound_after caller id call own h later = record {
+    indexed = later.indexed;
+    here = subst (λ js. All (λ (e : Entry). IsTrue (is_at place e.room)) js) (sym later.journal) (here_after place (journal_of before places) caller id call h sound.here);
+    legal = subst IsLegal (sym later.journal) (legal-after (journal_of before places) caller id call own sound.legal);
+  }
+
+  -- an answer that adds nothing
+  pub answer_is : (id : List ℕ) (call : Call) (a : Answer) → IsAnswered (rows_in before id) call a → a ≡ answer (record_of (journal_of before places) id) call
+  answer_is id call a told = told.answer ∙ ap (λ rows. answer rows call) (sym (sound.indexed.records id))
+
+  pub journal_is_same : (caller : ℕ) (id : List ℕ) (call : Call) (a : Answer) → IsAnswered (rows_in before id) call a → journal_of before places ≡ journal_after (journal_of before places) caller id call
+  journal_is_same caller id call a told = journal_same (journal_of before places) caller id call (ap (λ rows. added rows call) (sound.indexed.records id) ∙ told.nothing)
+
+-- the entry of a room that was added at the end
+pub place_after : (caller : ℕ) (rooms rooms' : List RoomView) (places places' after : List JournalPlace) → rooms ≡ rooms' → places ≡ places' → after ≡ places ++ record { room = length rooms; row = 0; caller = caller } ∷ [] →
+    after ≡ places' ++ record { room = length rooms'; row = 0; caller = caller } ∷ []
+place_after caller rooms rooms' places places' after e f is = is ∙ (λ i. f i ++ record { room = length (e i); row = 0; caller = caller } ∷ [])
+
+-- ---- a room that is hosted
+
+abbrev first : Offered → Kept
+first o = record { id = o.id; event = o.pdu; verdict = Accepted }
+
+module _ (before : List RoomView) (numbers : BTreeMap (List ℕ) ℕ) (places : List JournalPlace) (caller : ℕ) (o : Offered) (new : NewRoom)
+    (indexed : IsIndexed before numbers places) (made : IsNewRoom before caller o new) where
+  no_rows : rows_in before (room_of o.pdu) ≡ []
+  no_rows = ap rows_at made.missing
+
+  host_adds : added (rows_in before (room_of o.pdu)) (to_host o) ≡ first o ∷ []
+  host_adds = ap (λ rows. added rows (to_host o)) no_rows ∙ ap (first_rows o) made.free
+
+  pub host_reply : Hosted new.id ≡ answer (record_of (journal_of before places) (room_of o.pdu)) (to_host o)
+  host_reply = ap Hosted made.id ∙ ap (hosting o) (sym made.free) ∙ ap (λ rows. answer rows (to_host o)) (sym (indexed.records (room_of o.pdu) ∙ no_rows))
+
+  pub host_stored : (rows : Option (List ShardRow)) → rows ≡ Some (stored (journal_of before places)) → with_row rows new.row ≡ Some (stored (journal_after (journal_of before places) caller (room_of o.pdu) (to_host o)))
+  host_stored rows is = stored_after rows (journal_of before places) caller (room_of o.pdu) (to_host o) (first o) new.row is (ap (λ rows. added rows (to_host o)) (indexed.records (room_of o.pdu)) ∙ host_adds) made.row
+
+  abbrev room : RoomView
+  room = record { id = room_of o.pdu; kept = begun o.id o.pdu; prepared = None }
+
+  abbrev first_place : JournalPlace
+  first_place = record { room = length before; row = 0; caller = caller }
+
+  at-end : room_at (before ++ room ∷ []) (length before) ≡ room
+  at-end = get_or_push before room no_room (length before) refl
+
+  host_one : (numbers' : BTreeMap (List ℕ) ℕ) → IsMoved numbers numbers' (room_of o.pdu) (Some (length before)) →
+      IsAfter before (before ++ room ∷ []) numbers' places (places ++ first_place ∷ []) caller (room_of o.pdu) (to_host o)
+  host_one numbers' moved =
+      index-more before (before ++ room ∷ []) numbers numbers' places first_place caller (room_of o.pdu) (to_host o) (first o) indexed (grows-push before room)
+      (numbers_push numbers numbers' before room (room_of o.pdu) indexed.numbered made.missing refl moved)
+      (All-push IsReady before room indexed.ready (record { hosted = omega arith; free = refl }))
+      (record {
+        room = omega (arith, length-append before (room ∷ []));
+        row = subst (λ (r : RoomView). 0 < length r.kept) (sym at-end) (omega arith);
+      })
+      (ap (λ r. entry_in r first_place) at-end) host_adds
+      (λ q. rows_push before room (room_of o.pdu) made.missing refl q ∙ ap (λ ks. cond (bytes_eq (room_of o.pdu) q) (ks ++ first o ∷ []) (rows_in before q)) (sym no_rows))
+
+  pub host_after : (after : List RoomView) (numbers' : BTreeMap (List ℕ) ℕ) (key : List ℕ) (places' : List JournalPlace) → after ≡ before ++ new.room ∷ [] → key ≡ room_of o.pdu →
+      IsMoved numbers numbers' key (Some (length before)) → places' ≡ places ++ first_place ∷ [] → IsAfter before after numbers' places places' caller (room_of o.pdu) (to_host o)
+  host_after after numbers' key places' is named moved more =
+      subst (λ rooms. IsAfter before rooms numbers' places places' caller (room_of o.pdu) (to_host o)) (sym (is ∙ ap (λ (r : RoomView). before ++ r ∷ []) made.room))
+      (subst (λ ps. IsAfter before (before ++ room ∷ []) numbers' places ps caller (room_of o.pdu) (to_host o)) (sym more)
+      (host_one numbers' (subst (λ i. IsMoved numbers numbers' i (Some (length before))) named moved)))
+
+  -- the number was added and taken away again
+  pub host_removed : (second third : BTreeMap (List ℕ) ℕ) (key key' : List ℕ) → key ≡ room_of o.pdu → key' ≡ room_of o.pdu → IsMoved numbers second key (Some (length before)) → IsMoved second third key' None → IsSameMap numbers third
+  host_removed second third key key' named named' there back =
+      moved_back numbers second third (room_of o.pdu) (Some (length before)) (no_number numbers before (room_of o.pdu) indexed.numbered made.missing)
+      (subst (λ i. IsMoved numbers second i (Some (length before))) named there) (subst (λ i. IsMoved second third i None) named' back)
+
+-- ---- an event that is kept
+
+-- the entry of an event that was added to a room
+pub place_kept : (n caller : ℕ) (rooms rooms' : List RoomView) (places places' after : List JournalPlace) → rooms ≡ rooms' → places ≡ places' →
+    after ≡ places ++ record { room = n; row = length (room_at rooms n).kept; caller = caller } ∷ [] → after ≡ places' ++ record { room = n; row = length (room_at rooms' n).kept; caller = caller } ∷ []
+place_kept n caller rooms rooms' places places' after e f is = is ∙ (λ i. f i ++ record { room = n; row = length (room_at (e i) n).kept; caller = caller } ∷ [])
+
+module _ (before mid : List RoomView) (numbers : BTreeMap (List ℕ) ℕ) (places : List JournalPlace) (caller : ℕ) (o : Offered) (new : NewRow)
+    (indexed : IsIndexed before numbers places) (made : IsNewRow before mid numbers caller o new) where
+  abbrev old : RoomView
+  old = room_at before new.number
+
+  found : IsFound (λ room. bytes_eq room.id (room_of o.pdu)) before new.number
+  found = room_found numbers before (room_of o.pdu) new.number indexed.numbered made.found
+
+  own_rows : rows_in before (room_of o.pdu) ≡ old.kept
+  own_rows = rows_found before (room_of o.pdu) new.number found
+
+  is_ready : IsReady old
+  is_ready = indexed.ready new.number no_room found.within
+
+  offer_adds : (origin : List ℕ) → added (rows_in before (room_of o.pdu)) (to_offer origin o) ≡ made.kept ∷ []
+  offer_adds origin =
+      ap (λ rows. added rows (to_offer origin o)) own_rows ∙ sym (offer_added old.kept origin o is_ready.hosted)
+      ∙ ap option_to_list made.adds
+
+  pub offer_reply : (origin : List ℕ) → ToOffered new.outcome ≡ answer (record_of (journal_of before places) (room_of o.pdu)) (to_offer origin o)
+  offer_reply origin =
+      ap ToOffered made.outcome ∙ offer_answer old.kept origin o is_ready.hosted
+      ∙ ap (λ rows. answer rows (to_offer origin o)) (sym (indexed.records (room_of o.pdu) ∙ own_rows))
+
+  pub offer_stored : (origin : List ℕ) (rows : Option (List ShardRow)) → rows ≡ Some (stored (journal_of before places)) →
+      with_row rows new.row ≡ Some (stored (journal_after (journal_of before places) caller (room_of o.pdu) (to_offer origin o)))
+  offer_stored origin rows is =
+      stored_after rows (journal_of before places) caller (room_of o.pdu) (to_offer origin o) made.kept new.row is
+      (ap (λ rows. added rows (to_offer origin o)) (indexed.records (room_of o.pdu)) ∙ offer_adds origin) made.row
+
+  pub number_below : new.number < length mid
+  number_below = let l : new.number < length before = found.within in subst (λ (rs : List RoomView). new.number < length rs) (sym made.rooms) (omega (arith, length-set before new.number (with_prepared old (Some made.kept))))
+
+  prepared_at : room_at mid new.number ≡ with_prepared old (Some made.kept)
+  prepared_at = ap (λ (rs : List RoomView). room_at rs new.number) made.rooms ∙ get_or-set_same before new.number (with_prepared old (Some made.kept)) no_room found.within
+
+  -- given up, the rooms are as before
+  pub discarded : (after : List RoomView) → after ≡ set mid new.number (with_prepared (room_at mid new.number) None) → after ≡ before
+  discarded after is =
+      is ∙ ap (λ (r : RoomView). set mid new.number (with_prepared r None)) prepared_at
+      ∙ ap (λ (rs : List RoomView). set rs new.number (with_prepared old None)) made.rooms
+      ∙ set-set before new.number (with_prepared old (Some made.kept)) (with_prepared old None)
+      ∙ ap (λ x. set before new.number (with_prepared old x)) (sym is_ready.free)
+      ∙ set-get_or before new.number no_room
+
+  abbrev grown : RoomView
+  grown = with_kept old (Some made.kept)
+
+  abbrev last_place : JournalPlace
+  last_place = record { room = new.number; row = length old.kept; caller = caller }
+
+  at-number : room_at (set before new.number grown) new.number ≡ grown
+  at-number = get_or-set_same before new.number grown no_room found.within
+
+  offer_one : (origin : List ℕ) → IsAfter before (set before new.number grown) numbers places (places ++ last_place ∷ []) caller (room_of o.pdu) (to_offer origin o)
+  offer_one origin =
+      index-more before (set before new.number grown) numbers numbers places last_place caller (room_of o.pdu) (to_offer origin o) made.kept indexed
+      (grows-set before new.number grown (made.kept ∷ []) found.within refl refl)
+      (numbers_set numbers before new.number grown (room_of o.pdu) indexed.numbered found (id_found before (room_of o.pdu) new.number found))
+      (All-set IsReady before new.number grown (record { hosted = omega (arith, length-append old.kept (made.kept ∷ [])); free = refl }) indexed.ready)
+      (record {
+        room = let l : new.number < length before = found.within in omega (arith, length-set before new.number grown);
+        row = subst (λ (r : RoomView). length old.kept < length r.kept) (sym at-number) (omega (arith, length-append old.kept (made.kept ∷ [])));
+      })
+      (ap (λ r. entry_in r last_place) at-number
+      ∙ ap (λ id. entry_of id caller (kept_at (old.kept ++ made.kept ∷ []) (length old.kept))) (id_found before (room_of o.pdu) new.number found)
+      ∙ ap (entry_of (room_of o.pdu) caller) (get_or_push old.kept made.kept (kept_at [] 0) (length old.kept) refl))
+      (offer_adds origin)
+      (λ q. rows_set before new.number grown (room_of o.pdu) found (id_found before (room_of o.pdu) new.number found) q ∙ ap (λ ks. cond (bytes_eq (room_of o.pdu) q) (ks ++ made.kept ∷ []) (rows_in before q)) (sym own_rows))
+
+  pub offer_after : (origin : List ℕ) (after : List RoomView) (places' : List JournalPlace) → after ≡ set mid new.number (with_kept (room_at mid new.number) (room_at mid new.number).prepared) →
+      places' ≡ places ++ record { room = new.number; row = length (room_at mid new.number).kept; caller = caller } ∷ [] → IsAfter before after numbers places places' caller (room_of o.pdu) (to_offer origin o)
+  offer_after origin after places' is more =
+      let rooms : after ≡ set before new.number grown =
+      is ∙ ap (λ (r : RoomView). set mid new.number (with_kept r r.prepared)) prepared_at
+      ∙ ap (λ (rs : List RoomView). set rs new.number grown) made.rooms
+      ∙ set-set before new.number (with_prepared old (Some made.kept)) grown in
+      let ps : places' ≡ places ++ last_place ∷ [] = more ∙ ap (λ (r : RoomView). places ++ (let p : JournalPlace = record { room = new.number; row = length r.kept; caller = caller } in p) ∷ []) prepared_at in
+      subst (λ rs. IsAfter before rs numbers places places' caller (room_of o.pdu) (to_offer origin o)) (sym rooms)
+      (subst (λ qs. IsAfter before (set before new.number grown) numbers places qs caller (room_of o.pdu) (to_offer origin o)) (sym ps) (offer_one origin))

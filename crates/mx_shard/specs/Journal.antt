@@ -1,0 +1,69 @@
+-- What is kept of several rooms, in order (our own).
+use Rattle.std.specs.Prelude.{ℕ, nat_le, Bool, true, not, ◌&&◌, List, [], ◌∷◌, ◌++◌, codes, bytes_eq, length, map, filter, fold, is_none, IsTrue}
+use Rattle.std.specs.List.{list_any, list_all}
+use Rattle.mx_redact.specs.Fields.{Event}
+use Rattle.mx_pdu.specs.Event.{has_kind, prev_ids, auth_ids, room_of}
+use Rattle.mx_graph.specs.Adding.{most_rows}
+use Rattle.mx_receipt.specs.Receipt.{Kept, begun, received}
+use Rattle.mx_keeper.specs.declared.rows.ShardRow.{ShardRow}
+use Rattle.mx_room.specs.Hosting.{host_error}
+use Rattle.mx_shard.specs.LoneRoom.{Call, added}
+
+-- an event as it was kept, with its id, its room and the number of the caller that offered it
+pub record Entry : Type 0 where
+  pub room : List ℕ
+  pub id : List ℕ
+  pub event : Event
+  pub caller : ℕ
+
+abbrev pub entries_of : List Entry → List ℕ → List Entry
+entries_of journal room = filter (λ e. bytes_eq e.room room) journal
+
+-- the record that entries of one room make: the first is accepted, each later one is judged by those before it
+abbrev pub record_by : List Entry → List Kept
+record_by [] = []
+record_by (e ∷ es) = fold received (begun e.id e.event) (map (λ e. (e.id, e.event)) es)
+
+unfoldable pub record_of : List Entry → List ℕ → List Kept
+record_of journal room = record_by (entries_of journal room)
+
+-- the entry for an event that a room has kept
+abbrev pub entry_of : List ℕ → ℕ → Kept → Entry
+entry_of room caller k = record { room = room; id = k.id; event = k.event; caller = caller }
+
+-- the journal after a room's call by a caller
+abbrev pub journal_after : List Entry → ℕ → List ℕ → Call → List Entry
+journal_after journal caller room call = journal ++ map (entry_of room caller) (added (record_of journal room) call)
+
+-- the rows that are stored of a journal
+abbrev pub stored : List Entry → List ShardRow
+stored = map (λ e. record { room = e.room; event = e.event; caller = e.caller })
+
+-- ---- which journals arise
+
+-- a create event that makes a room; its signature is not asked again
+abbrev pub is_first : Entry → Bool
+is_first e = is_none (host_error (record { pdu = e.event; id = e.id; signed = true }))
+
+abbrev pub has_id : List Entry → List ℕ → Bool
+has_id es id = list_any (λ e. bytes_eq e.id id) es
+
+-- an event that the room can keep after these: it is new, and what it cites is there
+abbrev pub may_follow : List Entry → Entry → Bool
+may_follow earlier e =
+    not (has_kind (codes "m.room.create") e.event) && not (has_id earlier e.id)
+    && list_all (has_id earlier) (prev_ids e.event ++ auth_ids e.event)
+
+abbrev pub all_follow : List Entry → List Entry → Bool
+all_follow earlier [] = true
+all_follow earlier (e ∷ es) = may_follow earlier e && all_follow (earlier ++ e ∷ []) es
+
+-- entries of one room that can arise
+abbrev pub are_legal : List Entry → Bool
+are_legal [] = true
+are_legal (e ∷ es) =
+    is_first e && all_follow (e ∷ []) es && nat_le (length (e ∷ es)) most_rows
+    && list_all (λ f. bytes_eq (room_of f.event) f.room) (e ∷ es)
+
+abbrev pub IsLegal : List Entry → Type 0
+IsLegal journal = (room : List ℕ) → IsTrue (are_legal (entries_of journal room))

@@ -1,0 +1,6 @@
+pub mod LoneRoom
+pub mod Shown
+pub mod Journal
+pub mod View
+pub mod Inside
+pub mod Changes

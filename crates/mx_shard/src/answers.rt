@@ -1,0 +1,18 @@
+// A room's answers.
+use mx_ident::EventId;
+use mx_room::{Denied, HostError, Outcome, QueryReply};
+
+/// What a room answers to a call.
+///
+/// `NotHosted`: the room is not hosted. `Hosted`: it is hosted from now on, by the event with this id. `AlreadyHosted`:
+/// it was hosted, by the create event with this id. `NotHost`: the event makes no room. `ToOffered`: what became of an
+/// offered event. `ToAsked`: what a query gives.
+#[derive(Debug, Drop)]
+pub enum Answer {
+    NotHosted,
+    Hosted(EventId),
+    AlreadyHosted(EventId),
+    NotHost(HostError),
+    ToOffered(Outcome),
+    ToAsked(Result<QueryReply, Denied>),
+}

@@ -1,0 +1,219 @@
+// The rooms of a shard.
+ghost use Rattle.std.specs.Prelude.{◌≡◌, ◌≢◌, ◌≤◌, ◌↔◌, ◌⊎◌, [], Option, Some, None, List, ℕ, true, false, IfOk, OnOk, OnErr, IsErrOf, IsTrue, All};
+ghost use Rattle.mx_keeper.specs.Keeping.{Rose};
+ghost use Rattle.mx_keeper.specs.Places.{is_at};
+ghost use Rattle.mx_keeper.specs.declared.rows.ShardRow.{ShardRow};
+ghost use Rattle.mx_pdu.specs.Event.{room_of};
+ghost use Rattle.mx_shard.specs.LoneRoom.{to_host, to_offer, to_ask, call_room, answer};
+ghost use Rattle.mx_shard.specs.Shown.{IsAnswer};
+ghost use Rattle.mx_shard.specs.Journal.{record_of, journal_after, stored, IsLegal};
+
+use crate::answers::Answer;
+use crate::asking::answer_in;
+use crate::hosting::{Hosting, add_room, hosting_in, remove_room, reserve_room};
+use crate::journal_places::JournalPlace;
+use crate::offering::{Offering, discard_in, install_in, offering_in};
+use crate::refusals::ShardError;
+use crate::storing::store;
+use mx_ident::RoomId;
+use mx_keeper::{Keeper, KeeperFault, Place, ShardRow};
+use mx_pdu::Offered;
+use mx_room::{Query, Room};
+use std::alloc::Global;
+use std::collections::BTreeMap;
+use std::marker::Model;
+
+/// The rooms of one place: a journal of the events that they kept, whose entries are rows of a keeper.
+///
+/// Each call names the number of its caller. Unless the shard was refused for storage, and while its keeper is honest,
+/// the keeper is open and its rows are the entries of the journal.
+#[derive(Drop)]
+pub struct Shard<K: Keeper<Row = ShardRow>> {
+    alloc: Global,
+    keeper: K,
+    place: Place,
+    is_refused: bool,
+    rooms: Vec<Room>,
+    // Where among the rooms each id stands.
+    numbers: BTreeMap<RoomId, usize>,
+    journal: Vec<JournalPlace>,
+}
+
+impl<K: Keeper<Row = ShardRow>> Model for Shard<K> {
+    ghost use Rattle.std.specs.Prelude.{◌≡◌, Some, false};
+    ghost use Rattle.mx_shard.specs.View.{ShardView, shard_code};
+    ghost use Rattle.mx_shard.specs.Journal.{stored};
+    ghost use Rattle.mx_shard.specs.Inside.{journal_of, IsSound};
+
+    ghost Value = { ShardView K };
+
+    ghost coded = { shard_code K.code };
+
+    ghost view = { λ shard. record { keeper = shard.keeper; journal = journal_of shard.rooms.items shard.journal.items; place = shard.place; is_refused = shard.is_refused } };
+
+    ghost invariant = { λ shard.
+        IsSound shard.place shard.rooms.items shard.numbers shard.journal.items
+        × (shard.is_refused ≡ false → K.is_honest shard.keeper
+        → K.is_open shard.keeper × (K.rows shard.keeper ≡ Some (stored (journal_of shard.rooms.items shard.journal.items)))) };
+}
+
+impl<K: Keeper<Row = ShardRow>> Shard<K> {
+    /// A shard over a keeper that has no rows, at this place.
+    ///
+    /// `Memory` where no memory is left. `Storage` where the keeper failed, or has rows or what does not read as rows.
+    /// A refused call drops the keeper.
+    pub fn reopen(alloc: Global, keeper: K, place: Place) -> Result<Shard<K>, ShardError>
+        ensures journal { IfOk result (λ shard. shard.journal ≡ []) }
+        ensures place { IfOk result (λ shard. shard.place ≡ place) }
+        ensures taken { IfOk result (λ shard. shard.is_refused ≡ false) }
+        ensures honest { IfOk result (λ shard. K.is_honest shard.keeper → K.is_honest keeper × (K.rows keeper ≡ Some [])) }
+        ensures crash { IfOk result (λ shard. K.is_honest shard.keeper → (left : Option (List ShardRow)) → K.may_leave shard.keeper left → K.may_leave keeper left) }
+
+        // What became of the keeper tells why.
+        ensures storage { result ≡ Err ShardError.Storage → (after : K) × (K.is_honest after → K.is_honest keeper)
+            × (Rose (K.failed keeper) (K.failed after) ⊎ (K.is_honest after → K.is_open keeper → K.rows keeper ≢ Some [])) }
+    {
+        let mut keeper = keeper;
+        match keeper.rows() {
+            Ok(rows) => {
+                if !rows.is_empty() {
+                    return Err(ShardError::Storage);
+                }
+                Ok(Shard {
+                    alloc,
+                    keeper,
+                    place,
+                    is_refused: false,
+                    rooms: Vec::new(alloc),
+                    numbers: BTreeMap::new(alloc),
+                    journal: Vec::new(alloc),
+                })
+            }
+            Err(KeeperFault::Memory) => Err(ShardError::Memory),
+            Err(KeeperFault::Store) => Err(ShardError::Storage),
+            Err(KeeperFault::Table) => Err(ShardError::Storage),
+        }
+    }
+
+    /// Its place, and what always holds of its journal and its rows.
+    pub fn place(&self) -> Place
+        ensures place { result ≡ self.now.place }
+        // Each room is of this place.
+        ensures here { All (λ entry. IsTrue (is_at self.now.place entry.room)) self.now.journal }
+        // Of each room only a create event that makes one is the first, and each later one is new and follows events of
+        // its room; there are at most 50,000.
+        ensures legal { IsLegal self.now.journal }
+        ensures rows { self.now.is_refused ≡ false → K.is_honest self.now.keeper
+            → K.is_open self.now.keeper × (K.rows self.now.keeper ≡ Some (stored self.now.journal)) }
+    {
+        self.place
+    }
+
+    /// Hosts the room of the event, where it is not hosted and the event makes one.
+    ///
+    /// `Memory` where no memory is left. `Storage` where the keeper's count of failures rose in this call, or an earlier
+    /// call was refused so; from then on the shard answers `Storage`. At an error the journal stays.
+    pub fn host(&mut self, caller: u64, offered: &Offered) -> Result<Answer, ShardError>
+        requires { IsTrue (is_at self.old.place (room_of offered.now.pdu)) }
+        ensures reply { IfOk result (λ reply. reply ≡ answer (record_of self.old.journal (room_of offered.now.pdu)) (to_host offered.now)) }
+        ensures journal { OnOk result (self.new.journal ≡ journal_after self.old.journal caller (room_of offered.now.pdu) (to_host offered.now)) }
+        ensures err { OnErr result (self.new.journal ≡ self.old.journal) }
+        ensures place { self.new.place ≡ self.old.place }
+
+        ensures storage { result ≡ Err ShardError.Storage → (self.old.is_refused ≡ true) ⊎ Rose (K.failed self.old.keeper) (K.failed self.new.keeper) }
+        ensures refused { IsErrOf result ShardError.Storage ↔ (self.new.is_refused ≡ true) }
+        ensures stays_refused { self.old.is_refused ≡ true → result ≡ Err ShardError.Storage }
+        ensures counted { K.failed self.old.keeper ≤ K.failed self.new.keeper }
+
+        // After `Ok` a crash leaves the rows of the journal. At each exit it leaves what it might have left before the
+        // call, or the rows with the one that this call adds.
+        ensures honest { K.is_honest self.new.keeper → K.is_honest self.old.keeper }
+        ensures durable { K.is_honest self.new.keeper → OnOk result ((left : Option (List ShardRow)) → K.may_leave self.new.keeper left → left ≡ Some (stored self.new.journal)) }
+        ensures crash { K.is_honest self.new.keeper → (left : Option (List ShardRow)) → K.may_leave self.new.keeper left
+            → K.may_leave self.old.keeper left ⊎ (left ≡ Some (stored (journal_after self.old.journal caller (room_of offered.now.pdu) (to_host offered.now)))) }
+    {
+        if self.is_refused {
+            return Err(ShardError::Storage);
+        }
+        match hosting_in(self.alloc, &self.rooms, &self.numbers, caller, offered)? {
+            Hosting::Answered(answer) => Ok(answer),
+            Hosting::Made(new) => {
+                let new = reserve_room(&mut self.rooms, &mut self.numbers, &mut self.journal, new)?;
+                match store(&mut self.keeper, &mut self.is_refused, &new.row) {
+                    Ok(()) => Ok(add_room(&mut self.rooms, &mut self.journal, caller, new)),
+                    Err(error) => {
+                        remove_room(&mut self.numbers, new);
+                        Err(error)
+                    }
+                }
+            }
+        }
+    }
+
+    /// Offers the event to its room, which keeps it where it can.
+    ///
+    /// The errors are those of [`host`](Shard::host).
+    ///
+    /// Source: the Matrix specification, Server-Server API, "Checks performed on receipt of a PDU".
+    pub fn offer(&mut self, caller: u64, offered: &Offered) -> Result<Answer, ShardError>
+        requires { IsTrue (is_at self.old.place (room_of offered.now.pdu)) }
+        ensures reply { IfOk result (λ reply. (origin : List ℕ) → reply ≡ answer (record_of self.old.journal (room_of offered.now.pdu)) (to_offer origin offered.now)) }
+        ensures journal { OnOk result ((origin : List ℕ) → self.new.journal ≡ journal_after self.old.journal caller (room_of offered.now.pdu) (to_offer origin offered.now)) }
+        ensures err { OnErr result (self.new.journal ≡ self.old.journal) }
+        ensures place { self.new.place ≡ self.old.place }
+
+        ensures storage { result ≡ Err ShardError.Storage → (self.old.is_refused ≡ true) ⊎ Rose (K.failed self.old.keeper) (K.failed self.new.keeper) }
+        ensures refused { IsErrOf result ShardError.Storage ↔ (self.new.is_refused ≡ true) }
+        ensures stays_refused { self.old.is_refused ≡ true → result ≡ Err ShardError.Storage }
+        ensures counted { K.failed self.old.keeper ≤ K.failed self.new.keeper }
+
+        // As of `host`.
+        ensures honest { K.is_honest self.new.keeper → K.is_honest self.old.keeper }
+        ensures durable { K.is_honest self.new.keeper → OnOk result ((left : Option (List ShardRow)) → K.may_leave self.new.keeper left → left ≡ Some (stored self.new.journal)) }
+        ensures crash { K.is_honest self.new.keeper → (left : Option (List ShardRow)) → K.may_leave self.new.keeper left
+            → K.may_leave self.old.keeper left ⊎ ((origin : List ℕ) → left ≡ Some (stored (journal_after self.old.journal caller (room_of offered.now.pdu) (to_offer origin offered.now)))) }
+    {
+        if self.is_refused {
+            return Err(ShardError::Storage);
+        }
+        self.journal.reserve(1)?;
+        match offering_in(self.alloc, &mut self.rooms, &self.numbers, caller, offered)? {
+            Offering::Answered(answer) => Ok(answer),
+            Offering::Prepared(new) => {
+                match store(&mut self.keeper, &mut self.is_refused, &new.row) {
+                    Ok(()) => Ok(install_in(&mut self.rooms, &mut self.journal, caller, new)),
+                    Err(error) => {
+                        discard_in(&mut self.rooms, new);
+                        Err(error)
+                    }
+                }
+            }
+        }
+    }
+
+    /// The answer to a query: that of the room which it names, or what some room of this place shows.
+    ///
+    /// `Memory` where no memory is left. `Storage` exactly where an earlier call was refused so. The time of a query by
+    /// an event's id alone is that of a look-up in each room.
+    pub fn ask(&self, query: &Query) -> Result<Answer, ShardError>
+        ensures reply { IfOk result (λ reply. (origin : List ℕ) (now : ℕ)
+            → IsAnswer (record_of self.now.journal) (to_ask origin now query.now) (call_room (to_ask origin now query.now)) reply) }
+        // Each room is of this place.
+        ensures here { All (λ entry. IsTrue (is_at self.now.place entry.room)) self.now.journal }
+        ensures storage { IsErrOf result ShardError.Storage ↔ (self.now.is_refused ≡ true) }
+    {
+        if self.is_refused {
+            return Err(ShardError::Storage);
+        }
+        let answer = answer_in(&self.rooms, query)?;
+        Ok(answer)
+    }
+
+    /// What keeps its rows.
+    pub fn into_keeper(self) -> K
+        ensures keeper { result ≡ self.keeper }
+        ensures rows { self.is_refused ≡ false → K.is_honest result → K.is_open result × (K.rows result ≡ Some (stored self.journal)) }
+    {
+        self.keeper
+    }
+}

@@ -1,0 +1,54 @@
+// Rows that are added to a keeper.
+ghost use Rattle.std.specs.Prelude.{◌≡◌, ◌≤◌, ◌↔◌, ◌⊎◌, IfOk, Option, List, true, false, OnOk, OnErr, IsErrOf};
+ghost use Rattle.mx_keeper.specs.Keeping.{with_row, Rose};
+ghost use Rattle.mx_keeper.specs.declared.rows.ShardRow.{ShardRow};
+ghost use Rattle.mx_pdu.specs.Event.{room_of};
+
+use crate::refusals::ShardError;
+use mx_keeper::{Keeper, KeeperFault, ShardRow};
+use mx_pdu::{Offered, Pdu};
+use std::alloc::AllocError;
+
+/// The row that is stored of an offered event in the form in which it is kept.
+pub(crate) fn row_for(offered: &Offered, event: Pdu, caller: u64) -> Result<ShardRow, AllocError>
+    ensures { IfOk result (λ row. row ≡ record { room = room_of offered.now.pdu; event = event; caller = caller }) }
+{
+    let room = offered.pdu.room_id().clone()?;
+    Ok(ShardRow {
+        room,
+        event,
+        caller,
+    })
+}
+
+/// Adds a row to the keeper. Where the keeper fails, all later calls are to be refused.
+///
+/// `Memory` where no memory is left. `Storage` where the keeper's count of failures rose.
+pub(crate) fn store<K: Keeper<Row = ShardRow>>(
+    keeper: &mut K,
+    is_refused: &mut bool,
+    row: &ShardRow,
+) -> Result<(), ShardError>
+    requires { is_refused.old ≡ false }
+    ensures refused { IsErrOf result ShardError.Storage ↔ (is_refused.new ≡ true) }
+    ensures storage { result ≡ Err ShardError.Storage → Rose (K.failed keeper.old) (K.failed keeper.new) }
+    ensures counted { K.failed keeper.old ≤ K.failed keeper.new }
+    ensures honest { K.is_honest keeper.new → K.is_honest keeper.old }
+    ensures ok { K.is_honest keeper.new → OnOk result (K.is_open keeper.new × (K.rows keeper.new ≡ with_row (K.rows keeper.old) row.now)) }
+    ensures err { K.is_honest keeper.new → K.is_open keeper.old → OnErr result (is_refused.new ≡ false → K.is_open keeper.new × (K.rows keeper.new ≡ K.rows keeper.old)) }
+
+    // What a crash leaves.
+    ensures durable { K.is_honest keeper.new → OnOk result ((left : Option (List ShardRow)) → K.may_leave keeper.new left → left ≡ with_row (K.rows keeper.old) row.now) }
+    ensures crash { K.is_honest keeper.new → (left : Option (List ShardRow)) → K.may_leave keeper.new left
+        → K.may_leave keeper.old left ⊎ (left ≡ with_row (K.rows keeper.old) row.now) }
+{
+    match keeper.append(row) {
+        Ok(()) => Ok(()),
+        Err(KeeperFault::Memory) => Err(ShardError::Memory),
+        Err(KeeperFault::Store) => {
+            *is_refused = true;
+            Err(ShardError::Storage)
+        }
+        Err(KeeperFault::Table) => unreachable!(),
+    }
+}

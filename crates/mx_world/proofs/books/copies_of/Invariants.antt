@@ -1,5 +1,0 @@
-use Rattle.std.proofs.Common.{◌≡◌, take}
-use Rattle.mx_world.proofs.books.copies_of.Given as goal
-
-abbrev pub invariant-loop-offered : goal.invariant-loop-offered
-invariant-loop-offered l = l.copies.items ≡ take l.offered-index l.events

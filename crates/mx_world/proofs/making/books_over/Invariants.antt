@@ -1,0 +1,15 @@
+use Rattle.std.proofs.Common.{◌≡◌, ℕ, ◌+◌, ◌<◌, [], length, get_or, replicate}
+use Rattle.std.specs.Vec.Iter.{into_iter_len}
+use Rattle.mx_keeper.specs.Places.{PlaceView}
+use Rattle.mx_world.specs.Worlds.{book_journals}
+use Rattle.mx_world.specs.Inside.{book_places}
+use Rattle.mx_world.proofs.making.books_over.Given as goal
+
+-- each so far stands at its place with no rows, and there is one for each keeper that is taken
+abbrev pub invariant-loop-keeper : goal.invariant-loop-keeper
+invariant-loop-keeper g l = record {
+  each : (n : ℕ) (d : PlaceView) → n < length l.books.items → get_or (book_places l.books.items) n d ≡ record { number = n; count = l.count };
+  journals : book_journals l.books.items ≡ replicate (length l.books.items) [];
+  long : length l.books.items + into_iter_len l.keeper-iterator ≡ l.count;
+  all : l.count ≡ length l.fn.keepers.items;
+}

@@ -1,0 +1,15 @@
+use Rattle.std.proofs.Common.{◌∙◌, sym}
+use Rattle.mx_world.proofs.RoomLemmas.{none-more, none-shown, shown-in}
+use Rattle.mx_world.proofs.rooms.ask_in.Goals as goal
+
+pub loop-shard-preserved : goal.loop-shard-preserved
+loop-shard-preserved g c =
+    none-more c.args.shards.now c.loop-shard.shard-index c.shard-item.result c.args.query.now c.in_ok-answer.answer c.loop-shard-test.true c.shard-item.is c.loop-shard.invariant (sym c.is_shown.ensures ∙ c.if-is_shown.false) c.in_ok-answer.ensures.reply
+
+pub returns-then-is_shown-clause-reply : goal.returns-then-is_shown-clause-reply
+returns-then-is_shown-clause-reply g c = λ origin now.
+    shown-in c.args.shards.now c.loop-shard.shard-index c.shard-item.result c.args.query.now c.in_ok-answer.answer c.requires c.loop-shard-test.true c.shard-item.is c.in_ok-answer.ensures.here (sym c.is_shown.ensures ∙ c.if-is_shown.true) origin now
+    (c.in_ok-answer.ensures.reply origin now)
+
+pub returns-clause-reply : goal.returns-clause-reply
+returns-clause-reply g c = none-shown c.args.shards.now c.loop-shard.shard-index c.args.query.now c.requires c.loop-shard-test.false c.loop-shard.invariant

@@ -1,0 +1,59 @@
+use Rattle.std.proofs.Common.{[], inl, inr, ◌≡◌, ◌∙◌, ℕ, List, Some, Err, get_or, set, sym, ap, refl, subst, length, ◌<◌}
+use Rattle.std.specs.Prelude.{OnErr}
+use Rattle.mx_keeper.specs.Places.{place_of}
+use Rattle.mx_pdu.specs.Event.{room_of}
+use Rattle.mx_shard.specs.LoneRoom.{to_offer, record_alone}
+use Rattle.mx_shard.specs.Journal.{record_of}
+use Rattle.mx_shard.specs.declared.refusals.ShardError.{ShardError}
+use Rattle.mx_world.specs.Calls.{if_put_to}
+use Rattle.mx_world.specs.Worlds.{journal_at, shard_journals, records_of}
+use Rattle.mx_world.proofs.PlaceLemmas.{placed-is_at, places-set, journals-set, any-set, room-called}
+use Rattle.mx_world.proofs.RoomLemmas.{offered_answers}
+use Rattle.mx_world.proofs.RefusalLemmas.{of_shard-storage, on_err}
+use Rattle.mx_world.proofs.rooms.offer_in.Goals as goal
+
+pub offer-requires : goal.offer-requires
+offer-requires g c =
+    let room : c.as_str.result.now ≡ room_of c.args.offered.now.pdu = c.as_str.ensures.text ∙ c.room_id.ensures in
+    placed-is_at c.args.shards.now (λ shard. shard.place) c.number_for-number.result c.index-shards-number.result (room_of c.args.offered.now.pdu) c.requires
+    (c.number_for-number.ensures.number ∙ ap (place_of (length c.args.shards.now)) room) c.number_for-number.ensures.within
+
+pub returns-in_err-answer-clause-err : goal.returns-in_err-answer-clause-err
+returns-in_err-answer-clause-err g c =
+    on_err c.from_residual.result (journals-set c.args.shards.now (λ shard. shard.journal) c.number_for-number.result c.index-shards-number.result c.offer.new.self c.number_for-number.ensures.within c.in_err-answer.ensures.err)
+
+pub returns-in_err-answer-clause-places : goal.returns-in_err-answer-clause-places
+returns-in_err-answer-clause-places g c =
+    places-set c.args.shards.now (λ shard. shard.place) c.number_for-number.result c.index-shards-number.result c.offer.new.self c.number_for-number.ensures.within c.offer.ensures.place
+
+pub returns-in_err-answer-clause-storage : goal.returns-in_err-answer-clause-storage
+returns-in_err-answer-clause-storage g c = λ is.
+    any-set c.args.shards.now (λ shard. shard.is_refused) c.number_for-number.result c.offer.new.self c.number_for-number.ensures.within
+    (c.in_err-answer.ensures.refused.0 (ap (λ e. Err e) (of_shard-storage c.from_residual.result c.in_err-answer.field-0.0 c.from_residual.ensures.1 is)))
+
+pub returns-in-ToOffered-clause-records : goal.returns-in-ToOffered-clause-records
+returns-in-ToOffered-clause-records g c = λ origin room.
+    let own : c.as_str.result.now ≡ room_of c.args.offered.now.pdu = c.as_str.ensures.text ∙ c.room_id.ensures in
+    room-called c.args.shards.now c.number_for-number.result c.index-shards-number.result c.offer.new.self (room_of c.args.offered.now.pdu) (to_offer origin c.args.offered.now) room refl
+    (c.number_for-number.ensures.number ∙ ap (place_of (length c.args.shards.now)) own) c.number_for-number.ensures.within (c.in_ok-answer.ensures.journal origin)
+
+pub returns-in-ToOffered-clause-places : goal.returns-in-ToOffered-clause-places
+returns-in-ToOffered-clause-places g c =
+    places-set c.args.shards.now (λ shard. shard.place) c.number_for-number.result c.index-shards-number.result c.offer.new.self c.number_for-number.ensures.within c.offer.ensures.place
+
+pub returns-in-NotHosted-clause-records : goal.returns-in-NotHosted-clause-records
+returns-in-NotHosted-clause-records g c = λ origin room.
+    let own : c.as_str.result.now ≡ room_of c.args.offered.now.pdu = c.as_str.ensures.text ∙ c.room_id.ensures in
+    room-called c.args.shards.now c.number_for-number.result c.index-shards-number.result c.offer.new.self (room_of c.args.offered.now.pdu) (to_offer origin c.args.offered.now) room refl
+    (c.number_for-number.ensures.number ∙ ap (place_of (length c.args.shards.now)) own) c.number_for-number.ensures.within (c.in_ok-answer.ensures.journal origin)
+
+pub returns-in-NotHosted-clause-places : goal.returns-in-NotHosted-clause-places
+returns-in-NotHosted-clause-places g c =
+    places-set c.args.shards.now (λ shard. shard.place) c.number_for-number.result c.index-shards-number.result c.offer.new.self c.number_for-number.ensures.within c.offer.ensures.place
+
+pub unreachable-requires : goal.unreachable-requires
+unreachable-requires g c =
+    elim (offered_answers (record_of (get_or c.args.shards.now c.number_for-number.result c.index-shards-number.result).journal (room_of c.args.offered.now.pdu)) c.args.offered.now) [
+      | inl h ↦ c.in_default.not-NotHosted (c.in_ok-answer.ensures.reply [] ∙ h)
+      | inr h ↦ c.in_default.not-ToOffered _ (c.in_ok-answer.ensures.reply [] ∙ h)
+    ]

@@ -1,0 +1,13 @@
+use Rattle.std.proofs.Common.{length}
+use Rattle.mx_world.specs.Worlds.{shard_journals}
+use Rattle.mx_world.proofs.MakingLemmas.{same-length, no-records}
+use Rattle.mx_world.proofs.worlds.World.new.Goals as goal
+
+pub returns-clause-records : goal.returns-clause-records
+returns-clause-records g c = no-records (shard_journals c.in_ok-shards.shards.items) (length c.args.shard_keepers.items) c.in_ok-shards.ensures.journals
+
+pub returns-clause-shards : goal.returns-clause-shards
+returns-clause-shards g c = same-length c.in_ok-shards.shards.items (λ shard. shard.journal) (length c.args.shard_keepers.items) c.in_ok-shards.ensures.journals
+
+pub returns-clause-books : goal.returns-clause-books
+returns-clause-books g c = same-length c.in_ok-books.books.items (λ book. book.journal) (length c.args.book_keepers.items) c.in_ok-books.ensures.journals

@@ -1,0 +1,72 @@
+-- What always holds of a server's parts, for private clauses.
+use Rattle.std.specs.Prelude.{ℕ, ◌≡◌, ◌<◌, ◌≤◌, Bool, true, false, Ok, List, [], ◌∷◌, ◌++◌, length, map, get_or, Option, Some, None}
+use Rattle.mx_keeper.specs.Places.{PlaceView}
+use Rattle.mx_receipt.specs.Receipt.{Kept}
+use Rattle.mx_room.specs.Offer.{Offered}
+use Rattle.mx_room.specs.declared.outcomes.Outcome.{Outcome}
+use Rattle.mx_shard.specs.View.{ShardView}
+use Rattle.mx_shard.specs.declared.answers.Answer.{Answer}
+use Rattle.mx_shard.specs.declared.answers.Answer.TheVariants.{NotHosted, ToOffered, ToAsked}
+use Rattle.mx_book.specs.Journal.{State, free, begun, kept}
+use Rattle.mx_book.specs.View.{BookView}
+use Rattle.mx_book.specs.declared.pairs.Pair.{Pair}
+use Rattle.mx_book.specs.declared.entries.BookEntry.{BookEntry}
+use Rattle.mx_world.specs.Replies.{told_of}
+use Rattle.mx_world.specs.View.{Progress}
+use Rattle.mx_world.specs.Worlds.{states_of, book_journals, found}
+use Rattle.mx_world.specs.declared.answers.Told.{Told}
+
+abbrev pub shard_places : {K : Type 0} → List (ShardView K) → List PlaceView
+shard_places shards = map (λ shard. shard.place) shards
+
+abbrev pub book_places : {L : Type 0} → List (BookView L) → List PlaceView
+book_places books = map (λ book. book.place) books
+
+-- there are between 1 and 64, each at the place with its number
+pub record ArePlaced (places : List PlaceView) : Type 0 where
+  pub some : 0 < length places
+  pub few : length places ≤ 64
+  pub each : (n : ℕ) (d : PlaceView) → n < length places → get_or places n d ≡ record { number = n; count = length places }
+
+-- what is open was begun by the caller 0, and nothing else is begun and not ended
+abbrev pub Agrees : Option Progress → State → Type 0
+Agrees (Some progress) free = ⊥
+Agrees (Some progress) (begun caller) = caller ≡ 0
+Agrees (Some progress) (kept reply) = ⊥
+Agrees None free = Unit {0}
+Agrees None (begun caller) = ⊥
+Agrees None (kept reply) = Unit {0}
+
+abbrev pub AllAgree : List (Pair × Progress) → List (List BookEntry) → Type 0
+AllAgree going journals = (p : Pair) → Agrees (found going p) (states_of journals p)
+
+-- shards and books stand at their places, and the books agree with what is open
+pub record IsSound {K L : Type 0} (shards : List (ShardView K)) (books : List (BookView L)) (going : List (Pair × Progress)) : Type 0 where
+  pub shards_placed : ArePlaced (shard_places shards)
+  pub books_placed : ArePlaced (book_places books)
+  pub agree : AllAgree going (book_journals books)
+
+-- the state that opening a transaction leaves
+abbrev pub opened : State → State
+opened free = begun 0
+opened (begun caller) = begun caller
+opened (kept reply) = kept reply
+
+-- the answer to an offered event; with no outcome its room is not hosted
+abbrev pub offered_answer : Option Outcome → Answer
+offered_answer None = NotHosted
+offered_answer (Some outcome) = ToOffered outcome
+
+-- what one more answer makes of a transaction that is open, where the rooms have these records
+abbrev pub progress_after : (List ℕ → List Kept) → List ℕ → List Offered → List Told → Progress
+progress_after rows origin [] told = record { rest = []; told = told }
+progress_after rows origin (o ∷ rest) told = record { rest = rest; told = told ++ told_of rows origin o ∷ [] }
+
+abbrev pub advanced : (List ℕ → List Kept) → List ℕ → Option Progress → Option Progress
+advanced rows origin None = None
+advanced rows origin (Some progress) = Some (progress_after rows origin progress.rest progress.told)
+
+-- the answer gives what is asked for
+abbrev pub shows : Answer → Bool
+shows (ToAsked (Ok reply)) = true
+shows _ = false

@@ -1,0 +1,50 @@
+// Shards and books over keepers.
+ghost use Rattle.std.specs.Prelude.{◌≡◌, ◌≤◌, length, replicate, [], IfOk};
+ghost use Rattle.mx_world.specs.Worlds.{shard_journals, book_journals};
+ghost use Rattle.mx_world.specs.Inside.{shard_places, book_places, ArePlaced};
+
+use crate::refusals::StepError;
+use mx_book::Book;
+use mx_keeper::{BookRow, Keeper, MOST_PLACES, Place, ShardRow};
+use mx_shard::Shard;
+use std::alloc::Global;
+
+/// A shard over each keeper, with no rows.
+pub(crate) fn shards_over<K: Keeper<Row = ShardRow>>(
+    alloc: Global,
+    keepers: Vec<K>,
+) -> Result<Vec<Shard<K>>, StepError>
+    requires some { 1 ≤ length keepers.items }
+    requires few { length keepers.items ≤ MOST_PLACES }
+    ensures placed { IfOk result (λ shards. ArePlaced (shard_places shards.items)) }
+    ensures journals { IfOk result (λ shards. shard_journals shards.items ≡ replicate (length keepers.items) []) }
+{
+    let count = keepers.len();
+    let mut shards = Vec::new(alloc);
+    for keeper in keepers {
+        let place = Place::new(shards.len(), count);
+        let shard = Shard::reopen(alloc, keeper, place)?;
+        shards.push(shard)?;
+    }
+    Ok(shards)
+}
+
+/// A book over each keeper, with no rows.
+pub(crate) fn books_over<L: Keeper<Row = BookRow>>(
+    alloc: Global,
+    keepers: Vec<L>,
+) -> Result<Vec<Book<L>>, StepError>
+    requires some { 1 ≤ length keepers.items }
+    requires few { length keepers.items ≤ MOST_PLACES }
+    ensures placed { IfOk result (λ books. ArePlaced (book_places books.items)) }
+    ensures journals { IfOk result (λ books. book_journals books.items ≡ replicate (length keepers.items) []) }
+{
+    let count = keepers.len();
+    let mut books = Vec::new(alloc);
+    for keeper in keepers {
+        let place = Place::new(books.len(), count);
+        let book = Book::reopen(alloc, keeper, place)?;
+        books.push(book)?;
+    }
+    Ok(books)
+}
