@@ -6,7 +6,7 @@ ghost use Rattle.mx_auth.specs.Rules.{first_line, create_lines};
 use crate::events::is_text;
 use crate::refusals::Rule;
 use mx_pdu::Pdu;
-use mx_redact::text_at;
+use mx_redact::text_field;
 
 /// Judges a create event.
 #[tactic(auto, unfolding(crate::specs::Rules::create_lines))]
@@ -19,10 +19,10 @@ pub(crate) fn judge_create(event: &Pdu) -> Result<(), Rule>
     if event.room_id().server() != event.sender().server() {
         return Err(Rule::CreateOfAnotherServer);
     }
-    if !is_text(text_at(event.content(), "room_version"), "6") {
+    if !is_text(text_field(event.content(), "room_version"), "6") {
         return Err(Rule::CreateVersionUnknown);
     }
-    if text_at(event.content(), "creator").is_none() {
+    if text_field(event.content(), "creator").is_none() {
         return Err(Rule::CreateWithoutCreator);
     }
     Ok(())

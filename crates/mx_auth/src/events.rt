@@ -9,7 +9,7 @@ ghost use Rattle.mx_auth.specs.Rules.{target_of as target, is_own as is_own_even
 
 use mx_ident::EventId;
 use mx_pdu::Pdu;
-use mx_redact::{text_at, value_at};
+use mx_redact::{field, text_field};
 use serde_json::Value;
 
 /// Whether there is a text, and it is this one.
@@ -26,7 +26,7 @@ pub(crate) fn is_text(found: Option<&str>, text: &str) -> bool
 pub(crate) fn membership_of(event: &Pdu) -> Option<&str>
     ensures { option_copied result ≡ membership_text event.now }
 {
-    text_at(event.content(), "membership")
+    text_field(event.content(), "membership")
 }
 
 /// The user whose membership a member event is about.
@@ -65,7 +65,7 @@ pub(crate) fn is_creator(create: Option<&Pdu>, user: &str) -> bool
     ensures { result ≡ is_creator_of (option_copied create.entry) user.now }
 {
     match create {
-        Some(create) => is_text(text_at(create.content(), "creator"), user),
+        Some(create) => is_text(text_field(create.content(), "creator"), user),
         None => false,
     }
 }
@@ -75,6 +75,6 @@ pub(crate) fn is_creator(create: Option<&Pdu>, user: &str) -> bool
 pub(crate) fn is_kept_out(event: &Pdu, create: &Pdu) -> bool
     ensures { result ≡ is_kept_out_by event.now create.now }
 {
-    let federates = value_at(create.content(), "m.federate").and_then(Value::as_bool);
+    let federates = field(create.content(), "m.federate").and_then(Value::as_bool);
     federates == Some(false) && event.sender().server() != create.sender().server()
 }

@@ -9,7 +9,7 @@ use crate::states::{
     RoomState, create_event, is_banned, is_invited_or_joined, is_joined, join_rule_in, levels_in,
 };
 use mx_pdu::Pdu;
-use mx_redact::value_at;
+use mx_redact::field;
 
 /// Judges a member event.
 #[tactic(auto, unfolding(crate::specs::Rules::member_lines))]
@@ -56,7 +56,7 @@ fn judge_invite<S: RoomState>(event: &Pdu, state: &S) -> Result<(), Rule>
 {
     let sender = event.sender().as_str();
     let target = target_of(event);
-    if value_at(event.content(), "third_party_invite").is_some() {
+    if field(event.content(), "third_party_invite").is_some() {
         return Err(Rule::InviteByThirdParty);
     }
     if !is_joined(state, sender) {

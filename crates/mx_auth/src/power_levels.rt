@@ -14,7 +14,7 @@ use crate::states::{RoomState, levels_in, power_event};
 use mx_ident::UserId;
 use mx_levels::level_at;
 use mx_pdu::Pdu;
-use mx_redact::value_at;
+use mx_redact::field;
 use serde_json::{Map, Value};
 
 // Whether two levels are the same, or both absent.
@@ -88,7 +88,7 @@ fn entries_at<'a>(content: &'a Map<String, Value>, map: &str) -> Option<&'a Map<
     ensures { option_map (λ entries. members_view entries.now.entries) result
         ≡ option_and_then as_object (field map.now (object (members_view content.now.entries))) }
 {
-    value_at(content, map).and_then(Value::as_object)
+    field(content, map).and_then(Value::as_object)
 }
 
 // The level at a key of an object, none where there is no object.
@@ -250,7 +250,7 @@ fn is_user_levels(users: &Value) -> bool
 fn has_sound_users(content: &Map<String, Value>) -> bool
     ensures { result ≡ has_sound_users_at (object (members_view content.now.entries)) }
 {
-    match value_at(content, "users") {
+    match field(content, "users") {
         Some(users) => is_user_levels(users),
         None => true,
     }

@@ -7,7 +7,7 @@ use crate::events::{is_text, membership_of};
 use mx_ident::EventId;
 use mx_levels::Levels;
 use mx_pdu::Pdu;
-use mx_redact::text_at;
+use mx_redact::text_field;
 
 /// A room's state: the event at each type and state key.
 ///
@@ -84,7 +84,7 @@ pub(crate) fn join_rule_in<S: RoomState>(state: &S) -> &str
     ensures { result.now ≡ join_rule (S.state state.now) }
 {
     match state.entry("m.room.join_rules", "") {
-        Some(event) => text_at(event.content(), "join_rule").unwrap_or("invite"),
+        Some(event) => text_field(event.content(), "join_rule").unwrap_or("invite"),
         None => "invite",
     }
 }

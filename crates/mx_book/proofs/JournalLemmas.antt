@@ -6,15 +6,15 @@ use Rattle.std.proofs.lemmas.Bool.{false≢true, and_parts, and_from}
 use Rattle.std.proofs.lemmas.List.{reverse-append}
 use Rattle.std.proofs.lemmas.List.Elements.{filter_map-append, All-append}
 use Rattle.std.proofs.lemmas.Slice.Eq.{bytes_eq-Decides}
-use Rattle.mx_book.specs.Pairs.{same}
-use Rattle.mx_book.specs.Journal.{pair_of, last_of, free, begun, state_after, state_of, follows, is_legal, is_legal_after, row_of, stored}
-use Rattle.mx_book.specs.declared.pairs.Pair.{Pair}
+use Rattle.mx_book.specs.Transactions.{same}
+use Rattle.mx_book.specs.Journal.{transaction_of, last_of, free, begun, hold_after, hold_of, follows, is_legal, is_legal_after, row_of, stored}
+use Rattle.mx_book.specs.declared.transaction_keys.TransactionKey.{TransactionKey}
 use Rattle.mx_book.specs.declared.entries.BookEntry.{BookEntry}
 
-pub same-self : (p : Pair) → same p p ≡ true
+pub same-self : (p : TransactionKey) → same p p ≡ true
 same-self p = and_from (bytes_eq p.origin p.origin) (bytes_eq p.txn p.txn) ((bytes_eq-Decides p.origin p.origin).1 refl) ((bytes_eq-Decides p.txn p.txn).1 refl)
 
-pub same-eq : (p q : Pair) → same p q ≡ true → p ≡ q
+pub same-eq : (p q : TransactionKey) → same p q ≡ true → p ≡ q
 same-eq p q h =
     let parts = and_parts (bytes_eq p.origin q.origin) (bytes_eq p.txn q.txn) h in
     let o : p.origin ≡ q.origin = (bytes_eq-Decides p.origin q.origin).0 parts.0 in
@@ -23,37 +23,37 @@ same-eq p q h =
 
 -- ---- what the journal says of a transaction
 
-pub last_of-push : (journal : List BookEntry) (entry : BookEntry) (p : Pair) → last_of p (journal ++ entry ∷ []) ≡ cond (same p (pair_of entry)) (Some entry) (last_of p journal)
-last_of-push journal entry p = ap (find (λ e. same p (pair_of e))) (reverse-append journal (entry ∷ []))
+pub last_of-push : (journal : List BookEntry) (entry : BookEntry) (p : TransactionKey) → last_of p (journal ++ entry ∷ []) ≡ cond (same p (transaction_of entry)) (Some entry) (last_of p journal)
+last_of-push journal entry p = ap (find (λ e. same p (transaction_of e))) (reverse-append journal (entry ∷ []))
 
-pub state_of-here : (journal : List BookEntry) (entry : BookEntry) (p : Pair) → same p (pair_of entry) ≡ true → state_of (journal ++ entry ∷ []) p ≡ state_after (Some entry)
-state_of-here journal entry p h = ap state_after (last_of-push journal entry p ∙ ap (λ b. cond b (Some entry) (last_of p journal)) h)
+pub hold_of-here : (journal : List BookEntry) (entry : BookEntry) (p : TransactionKey) → same p (transaction_of entry) ≡ true → hold_of (journal ++ entry ∷ []) p ≡ hold_after (Some entry)
+hold_of-here journal entry p h = ap hold_after (last_of-push journal entry p ∙ ap (λ b. cond b (Some entry) (last_of p journal)) h)
 
-pub state_of-there : (journal : List BookEntry) (entry : BookEntry) (p : Pair) → same p (pair_of entry) ≡ false → state_of (journal ++ entry ∷ []) p ≡ state_of journal p
-state_of-there journal entry p h = ap state_after (last_of-push journal entry p ∙ ap (λ b. cond b (Some entry) (last_of p journal)) h)
+pub hold_of-there : (journal : List BookEntry) (entry : BookEntry) (p : TransactionKey) → same p (transaction_of entry) ≡ false → hold_of (journal ++ entry ∷ []) p ≡ hold_of journal p
+hold_of-there journal entry p h = ap hold_after (last_of-push journal entry p ∙ ap (λ b. cond b (Some entry) (last_of p journal)) h)
 
 -- ---- what is legal
 
 pub is_legal_after-push : (earlier entries : List BookEntry) (entry : BookEntry) →
-    is_legal_after earlier (entries ++ entry ∷ []) ≡ (is_legal_after earlier entries && follows (state_of (earlier ++ entries) (pair_of entry)) entry)
+    is_legal_after earlier (entries ++ entry ∷ []) ≡ (is_legal_after earlier entries && follows (hold_of (earlier ++ entries) (transaction_of entry)) entry)
 is_legal_after-push earlier [] entry =
-    last (follows (state_of earlier (pair_of entry)) entry) ∙ ap (λ js. follows (state_of js (pair_of entry)) entry) (sym (append-nil earlier))
+    last (follows (hold_of earlier (transaction_of entry)) entry) ∙ ap (λ js. follows (hold_of js (transaction_of entry)) entry) (sym (append-nil earlier))
   where
     last : (b : Bool) → (b && true) ≡ b
     last true = refl
     last false = refl
 is_legal_after-push earlier (first ∷ entries) entry =
-    ap (λ b. follows (state_of earlier (pair_of first)) first && b) (is_legal_after-push (earlier ++ first ∷ []) entries entry)
-    ∙ ap (λ js. follows (state_of earlier (pair_of first)) first && (is_legal_after (earlier ++ first ∷ []) entries && follows (state_of js (pair_of entry)) entry)) (append_assoc earlier (first ∷ []) entries)
-    ∙ joined (follows (state_of earlier (pair_of first)) first) (is_legal_after (earlier ++ first ∷ []) entries) (follows (state_of (earlier ++ first ∷ entries) (pair_of entry)) entry)
+    ap (λ b. follows (hold_of earlier (transaction_of first)) first && b) (is_legal_after-push (earlier ++ first ∷ []) entries entry)
+    ∙ ap (λ js. follows (hold_of earlier (transaction_of first)) first && (is_legal_after (earlier ++ first ∷ []) entries && follows (hold_of js (transaction_of entry)) entry)) (append_assoc earlier (first ∷ []) entries)
+    ∙ joined (follows (hold_of earlier (transaction_of first)) first) (is_legal_after (earlier ++ first ∷ []) entries) (follows (hold_of (earlier ++ first ∷ entries) (transaction_of entry)) entry)
   where
     joined : (a b c : Bool) → (a && (b && c)) ≡ (a && b && c)
     joined true b c = refl
     joined false b c = refl
 
-pub is_legal-push : (journal : List BookEntry) (entry : BookEntry) → IsTrue (is_legal journal) → follows (state_of journal (pair_of entry)) entry ≡ true → IsTrue (is_legal (journal ++ entry ∷ []))
+pub is_legal-push : (journal : List BookEntry) (entry : BookEntry) → IsTrue (is_legal journal) → follows (hold_of journal (transaction_of entry)) entry ≡ true → IsTrue (is_legal (journal ++ entry ∷ []))
 is_legal-push journal entry h f =
-    subst IsTrue (sym (is_legal_after-push [] journal entry)) (both (is_legal journal) (follows (state_of journal (pair_of entry)) entry) h f)
+    subst IsTrue (sym (is_legal_after-push [] journal entry)) (both (is_legal journal) (follows (hold_of journal (transaction_of entry)) entry) h f)
   where
     both : (a b : Bool) → IsTrue a → b ≡ true → IsTrue (a && b)
     both true true h f = refl
@@ -82,23 +82,23 @@ all_one {A = A} P x h = λ k d l. at k d l
 
 -- ---- what holds of each transaction holds of one that is not free
 
-not_free : (o : Option BookEntry) (caller : ℕ) → state_after o ≡ begun caller → (entry : BookEntry) × (o ≡ Some entry)
+not_free : (o : Option BookEntry) (caller : ℕ) → hold_after o ≡ begun caller → (entry : BookEntry) × (o ≡ Some entry)
 not_free None caller h = absurd (let e : free ≡ begun caller = h in cc)
 not_free (Some entry) caller h = (entry, refl)
 
-found_in : (P : Pair → Type 0) (p : Pair) (entries : List BookEntry) (entry : BookEntry) → All (λ e. P (pair_of e)) entries → find (λ e. same p (pair_of e)) entries ≡ Some entry → P p
+found_in : (P : TransactionKey → Type 0) (p : TransactionKey) (entries : List BookEntry) (entry : BookEntry) → All (λ e. P (transaction_of e)) entries → find (λ e. same p (transaction_of e)) entries ≡ Some entry → P p
 found_in P p [] entry all h = absurd (let e : None ≡ Some entry = h in cc)
 found_in P p (e ∷ es) entry all h =
-    elim (same p (pair_of e)) as (λ b. same p (pair_of e) ≡ b → cond b (Some e) (find (λ e. same p (pair_of e)) es) ≡ Some entry → P p) [
-      | true ↦ λ is _. subst P (sym (same-eq p (pair_of e) is)) (all_first (λ e. P (pair_of e)) e es all)
-      | false ↦ λ _ later. found_in P p es entry (all_later (λ e. P (pair_of e)) e es all) later
+    elim (same p (transaction_of e)) as (λ b. same p (transaction_of e) ≡ b → cond b (Some e) (find (λ e. same p (transaction_of e)) es) ≡ Some entry → P p) [
+      | true ↦ λ is _. subst P (sym (same-eq p (transaction_of e) is)) (all_first (λ e. P (transaction_of e)) e es all)
+      | false ↦ λ _ later. found_in P p es entry (all_later (λ e. P (transaction_of e)) e es all) later
     ] refl h
 
 All-reverse : (P : BookEntry → Type 0) (entries : List BookEntry) → All P entries → All P (reverse entries)
 All-reverse P [] all = all
 All-reverse P (e ∷ es) all = subst (All P) (sym (reverse-append (e ∷ []) es)) (All-append P (reverse es) (e ∷ []) (All-reverse P es (all_later P e es all)) (all_one P e (all_first P e es all)))
 
-pub holds_of_begun : (P : Pair → Type 0) (journal : List BookEntry) (p : Pair) (caller : ℕ) → All (λ e. P (pair_of e)) journal → state_of journal p ≡ begun caller → P p
+pub holds_of_begun : (P : TransactionKey → Type 0) (journal : List BookEntry) (p : TransactionKey) (caller : ℕ) → All (λ e. P (transaction_of e)) journal → hold_of journal p ≡ begun caller → P p
 holds_of_begun P journal p caller all h =
     let found = not_free (last_of p journal) caller h in
-    found_in P p (reverse journal) found.0 (All-reverse (λ e. P (pair_of e)) journal all) found.1
+    found_in P p (reverse journal) found.0 (All-reverse (λ e. P (transaction_of e)) journal all) found.1

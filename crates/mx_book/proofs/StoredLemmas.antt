@@ -3,18 +3,18 @@ use Rattle.std.proofs.Common.{◌≡◌, ◌⊎◌, inl, inr, ℕ, List, [], ◌
 use Rattle.mx_keeper.specs.Keeping.{with_row}
 use Rattle.mx_keeper.specs.declared.rows.BookRow.{BookRow}
 use Rattle.mx_book.specs.Journal.{stored}
-use Rattle.mx_book.specs.declared.pairs.Pair.{Pair}
+use Rattle.mx_book.specs.declared.transaction_keys.TransactionKey.{TransactionKey}
 use Rattle.mx_book.specs.declared.entries.BookEntry.{BookEntry}
 use Rattle.mx_book.specs.declared.entries.BookEntry.TheVariants.{Begun, Kept, GivenUp}
 use Rattle.mx_book.proofs.JournalLemmas.{stored-push}
 
-pub stored-begun : (journal journal' : List BookEntry) (p : Pair) (caller : ℕ) → journal' ≡ journal ++ Begun p caller ∷ [] → stored journal' ≡ stored journal
+pub stored-begun : (journal journal' : List BookEntry) (p : TransactionKey) (caller : ℕ) → journal' ≡ journal ++ Begun p caller ∷ [] → stored journal' ≡ stored journal
 stored-begun journal journal' p caller e = ap stored e ∙ stored-push journal (Begun p caller) ∙ append-nil (stored journal)
 
-pub stored-given_up : (journal journal' : List BookEntry) (p : Pair) (caller : ℕ) → journal' ≡ journal ++ GivenUp p caller ∷ [] → stored journal' ≡ stored journal
+pub stored-given_up : (journal journal' : List BookEntry) (p : TransactionKey) (caller : ℕ) → journal' ≡ journal ++ GivenUp p caller ∷ [] → stored journal' ≡ stored journal
 stored-given_up journal journal' p caller e = ap stored e ∙ stored-push journal (GivenUp p caller) ∙ append-nil (stored journal)
 
-module _ (journal : List BookEntry) (p : Pair) (caller : ℕ) (reply : List ℕ) (row : BookRow) (is : row ≡ record { origin = p.origin; txn = p.txn; reply = reply }) where
+module _ (journal : List BookEntry) (p : TransactionKey) (caller : ℕ) (reply : List ℕ) (row : BookRow) (is : row ≡ record { origin = p.origin; txn = p.txn; reply = reply }) where
   pub with_row-kept : (rows : Option (List BookRow)) → rows ≡ Some (stored journal) → with_row rows row ≡ Some (stored (journal ++ Kept p caller reply ∷ []))
   with_row-kept rows e = ap (λ o. with_row o row) e ∙ ap (λ r. Some (stored journal ++ r ∷ [])) is ∙ ap (λ (rs : List BookRow). Some rs) (sym (stored-push journal (Kept p caller reply)))
 

@@ -1,5 +1,5 @@
-pub mod Pairs
-pub mod PairLaws
+pub mod Transactions
+pub mod TransactionLaws
 pub mod Journal
 pub mod View
 pub mod Inside

@@ -2,18 +2,17 @@
 ghost use Rattle.std.specs.Prelude.{◌≡◌, ◌≢◌, ◌≤◌, ◌↔◌, ◌++◌, ◌∷◌, [], ◌⊎◌, Option, Some, None, List, ℕ, true, false, IfOk, OnOk, OnErr, IsErrOf, IsTrue, All};
 ghost use Rattle.mx_keeper.specs.Keeping.{Rose};
 ghost use Rattle.mx_keeper.specs.Places.{is_at};
-ghost use Rattle.mx_book.specs.Journal.{pair_of, state_of, begun, opening_of, begins, is_legal, stored};
-ghost use Rattle.mx_book.specs.declared.pairs.Pair.{Pair};
+ghost use Rattle.mx_book.specs.Journal.{transaction_of, hold_of, begun, opening_of, begins, is_legal, stored};
+ghost use Rattle.mx_book.specs.declared.transaction_keys.TransactionKey.{TransactionKey};
 ghost use Rattle.mx_keeper.specs.declared.rows.BookRow.{BookRow};
 
 use crate::entries::BookEntry;
 use crate::openings::Opening;
-use crate::pairs::Pair;
 use crate::recording::{
     add_reply, begin_in, give_up_in, is_begun_in, keep_in, opening_in, remove_reply, row_for,
 };
-use crate::refusals::BookError;
-use mx_keeper::{BookRow, Keeper, KeeperFault, Place, Reply};
+use crate::transaction_keys::TransactionKey;
+use mx_keeper::{BookRow, CallError, Keeper, KeeperFault, Place, Reply};
 use std::alloc::Global;
 use std::collections::BTreeMap;
 use std::marker::Model;
@@ -32,9 +31,9 @@ pub struct Book<K: Keeper<Row = BookRow>> {
     is_refused: bool,
     journal: Vec<BookEntry>,
     // Who began what is not ended.
-    callers: BTreeMap<Pair, u64>,
+    callers: BTreeMap<TransactionKey, u64>,
     // Where in the journal the replies stand.
-    replies: BTreeMap<Pair, usize>,
+    replies: BTreeMap<TransactionKey, usize>,
 }
 
 impl<K: Keeper<Row = BookRow>> Model for Book<K> {
@@ -59,7 +58,7 @@ impl<K: Keeper<Row = BookRow>> Book<K> {
     ///
     /// `Memory` where no memory is left. `Storage` where the keeper failed, or has rows or what does not read as rows.
     /// A refused call drops the keeper.
-    pub fn reopen(alloc: Global, keeper: K, place: Place) -> Result<Book<K>, BookError>
+    pub fn reopen(alloc: Global, keeper: K, place: Place) -> Result<Book<K>, CallError>
         ensures journal { IfOk result (λ book. book.journal ≡ []) }
         ensures place { IfOk result (λ book. book.place ≡ place) }
         ensures taken { IfOk result (λ book. book.is_refused ≡ false) }
@@ -67,14 +66,14 @@ impl<K: Keeper<Row = BookRow>> Book<K> {
         ensures crash { IfOk result (λ book. K.is_honest book.keeper → (left : Option (List BookRow)) → K.may_leave book.keeper left → K.may_leave keeper left) }
 
         // What became of the keeper tells why.
-        ensures storage { result ≡ Err BookError.Storage → (after : K) × (K.is_honest after → K.is_honest keeper)
+        ensures storage { result ≡ Err CallError.Storage → (after : K) × (K.is_honest after → K.is_honest keeper)
             × (Rose (K.failed keeper) (K.failed after) ⊎ (K.is_honest after → K.is_open keeper → K.rows keeper ≢ Some [])) }
     {
         let mut keeper = keeper;
         match keeper.rows() {
             Ok(rows) => {
                 if !rows.is_empty() {
-                    return Err(BookError::Storage);
+                    return Err(CallError::Storage);
                 }
                 Ok(Book {
                     keeper,
@@ -85,9 +84,9 @@ impl<K: Keeper<Row = BookRow>> Book<K> {
                     replies: BTreeMap::new(alloc),
                 })
             }
-            Err(KeeperFault::Memory) => Err(BookError::Memory),
-            Err(KeeperFault::Store) => Err(BookError::Storage),
-            Err(KeeperFault::Table) => Err(BookError::Storage),
+            Err(KeeperFault::Memory) => Err(CallError::Memory),
+            Err(KeeperFault::Store) => Err(CallError::Storage),
+            Err(KeeperFault::Table) => Err(CallError::Storage),
         }
     }
 
@@ -95,7 +94,7 @@ impl<K: Keeper<Row = BookRow>> Book<K> {
     pub fn place(&self) -> Place
         ensures place { result ≡ self.now.place }
         // Each transaction is of a server of this place.
-        ensures here { All (λ entry. IsTrue (is_at self.now.place (pair_of entry).origin)) self.now.journal }
+        ensures here { All (λ entry. IsTrue (is_at self.now.place (transaction_of entry).origin)) self.now.journal }
         // Only what is free was begun, and who began a transaction ended it.
         ensures legal { IsTrue (is_legal self.now.journal) }
         ensures rows { self.now.is_refused ≡ false → K.is_honest self.now.keeper
@@ -108,20 +107,20 @@ impl<K: Keeper<Row = BookRow>> Book<K> {
     ///
     /// `Memory` where no memory is left. `Storage` exactly where an earlier call was refused so. The time is that of a
     /// look-up among the transactions.
-    pub fn open(&mut self, caller: u64, pair: &Pair) -> Result<Opening, BookError>
-        requires { IsTrue (is_at self.old.place pair.now.origin) }
-        ensures reply { IfOk result (λ opening. opening ≡ opening_of (state_of self.old.journal pair.now)) }
-        ensures journal { OnOk result (self.new.journal ≡ self.old.journal ++ begins pair.now caller (state_of self.old.journal pair.now)) }
+    pub fn open(&mut self, caller: u64, key: &TransactionKey) -> Result<Opening, CallError>
+        requires { IsTrue (is_at self.old.place key.now.origin) }
+        ensures reply { IfOk result (λ opening. opening ≡ opening_of (hold_of self.old.journal key.now)) }
+        ensures journal { OnOk result (self.new.journal ≡ self.old.journal ++ begins key.now caller (hold_of self.old.journal key.now)) }
         ensures err { OnErr result (self.new.journal ≡ self.old.journal) }
-        ensures storage { IsErrOf result BookError.Storage ↔ (self.old.is_refused ≡ true) }
+        ensures storage { IsErrOf result CallError.Storage ↔ (self.old.is_refused ≡ true) }
         ensures keeper { self.new.keeper ≡ self.old.keeper }
         ensures place { self.new.place ≡ self.old.place }
         ensures refused { self.new.is_refused ≡ self.old.is_refused }
     {
         if self.is_refused {
-            return Err(BookError::Storage);
+            return Err(CallError::Storage);
         }
-        let opening = opening_in(&self.journal, &self.callers, &self.replies, pair)?;
+        let opening = opening_in(&self.journal, &self.callers, &self.replies, key)?;
         if let Opening::Fresh = opening {
             begin_in(
                 &mut self.journal,
@@ -129,22 +128,22 @@ impl<K: Keeper<Row = BookRow>> Book<K> {
                 &self.replies,
                 &self.place,
                 caller,
-                pair,
+                key,
             )?;
         }
         Ok(opening)
     }
 
     /// Whether this caller began the transaction, and it is not ended.
-    pub fn is_begun(&self, caller: u64, pair: &Pair) -> bool
-        ensures { IsTrue result ↔ (state_of self.now.journal pair.now ≡ begun caller) }
+    pub fn is_begun(&self, caller: u64, key: &TransactionKey) -> bool
+        ensures { IsTrue result ↔ (hold_of self.now.journal key.now ≡ begun caller) }
     {
-        is_begun_in(&self.callers, caller, pair)
+        is_begun_in(&self.callers, caller, key)
     }
 
     /// Whether no transaction is begun and not ended.
     pub fn none_open(&self) -> bool
-        ensures { IsTrue result ↔ ((pair : Pair) (caller : ℕ) → state_of self.now.journal pair ≢ begun caller) }
+        ensures { IsTrue result ↔ ((key : TransactionKey) (caller : ℕ) → hold_of self.now.journal key ≢ begun caller) }
     {
         self.callers.is_empty()
     }
@@ -154,15 +153,15 @@ impl<K: Keeper<Row = BookRow>> Book<K> {
     /// `Memory` where no memory is left. `Storage` where the keeper's count of failures rose in this call, or an earlier
     /// call was refused so; from then on the book answers `Storage`. The time is that of a look-up among the
     /// transactions, and of the keeper.
-    pub fn keep(&mut self, caller: u64, pair: &Pair, reply: Reply) -> Result<(), BookError>
-        requires { state_of self.old.journal pair.now ≡ begun caller }
-        ensures journal { OnOk result (self.new.journal ≡ self.old.journal ++ BookEntry.Kept pair.now caller reply ∷ []) }
+    pub fn keep(&mut self, caller: u64, key: &TransactionKey, reply: Reply) -> Result<(), CallError>
+        requires { hold_of self.old.journal key.now ≡ begun caller }
+        ensures journal { OnOk result (self.new.journal ≡ self.old.journal ++ BookEntry.Kept key.now caller reply ∷ []) }
         ensures err { OnErr result (self.new.journal ≡ self.old.journal) }
         ensures place { self.new.place ≡ self.old.place }
 
-        ensures storage { result ≡ Err BookError.Storage → (self.old.is_refused ≡ true) ⊎ Rose (K.failed self.old.keeper) (K.failed self.new.keeper) }
-        ensures refused { IsErrOf result BookError.Storage ↔ (self.new.is_refused ≡ true) }
-        ensures stays_refused { self.old.is_refused ≡ true → result ≡ Err BookError.Storage }
+        ensures storage { result ≡ Err CallError.Storage → (self.old.is_refused ≡ true) ⊎ Rose (K.failed self.old.keeper) (K.failed self.new.keeper) }
+        ensures refused { IsErrOf result CallError.Storage ↔ (self.new.is_refused ≡ true) }
+        ensures stays_refused { self.old.is_refused ≡ true → result ≡ Err CallError.Storage }
         ensures counted { K.failed self.old.keeper ≤ K.failed self.new.keeper }
 
         // After `Ok` a crash leaves all replies that are kept. At each exit it leaves what it might have left before the
@@ -170,14 +169,14 @@ impl<K: Keeper<Row = BookRow>> Book<K> {
         ensures honest { K.is_honest self.new.keeper → K.is_honest self.old.keeper }
         ensures durable { K.is_honest self.new.keeper → OnOk result ((left : Option (List BookRow)) → K.may_leave self.new.keeper left → left ≡ Some (stored self.new.journal)) }
         ensures crash { K.is_honest self.new.keeper → (left : Option (List BookRow)) → K.may_leave self.new.keeper left
-            → K.may_leave self.old.keeper left ⊎ (left ≡ Some (stored (self.old.journal ++ BookEntry.Kept pair.now caller reply ∷ []))) }
+            → K.may_leave self.old.keeper left ⊎ (left ≡ Some (stored (self.old.journal ++ BookEntry.Kept key.now caller reply ∷ []))) }
     {
         if self.is_refused {
-            return Err(BookError::Storage);
+            return Err(CallError::Storage);
         }
-        let row = row_for(pair, reply)?;
+        let row = row_for(key, reply)?;
         let place = self.journal.as_slice().len();
-        add_reply(&mut self.replies, pair, place)?;
+        add_reply(&mut self.replies, key, place)?;
         match self.keeper.append(&row) {
             Ok(()) => {
                 keep_in(
@@ -185,28 +184,28 @@ impl<K: Keeper<Row = BookRow>> Book<K> {
                     &mut self.callers,
                     &self.place,
                     caller,
-                    pair,
+                    key,
                     row.reply,
                 );
                 Ok(())
             }
             Err(KeeperFault::Memory) => {
-                remove_reply(&mut self.replies, pair);
-                Err(BookError::Memory)
+                remove_reply(&mut self.replies, key);
+                Err(CallError::Memory)
             }
             Err(KeeperFault::Store) => {
-                remove_reply(&mut self.replies, pair);
+                remove_reply(&mut self.replies, key);
                 self.is_refused = true;
-                Err(BookError::Storage)
+                Err(CallError::Storage)
             }
             Err(KeeperFault::Table) => unreachable!(),
         }
     }
 
     /// Ends a transaction with no reply. Nothing is stored. It takes no memory, and is never refused.
-    pub fn give_up(&mut self, caller: u64, pair: &Pair)
-        requires { state_of self.old.journal pair.now ≡ begun caller }
-        ensures journal { self.new.journal ≡ self.old.journal ++ BookEntry.GivenUp pair.now caller ∷ [] }
+    pub fn give_up(&mut self, caller: u64, key: &TransactionKey)
+        requires { hold_of self.old.journal key.now ≡ begun caller }
+        ensures journal { self.new.journal ≡ self.old.journal ++ BookEntry.GivenUp key.now caller ∷ [] }
         ensures keeper { self.new.keeper ≡ self.old.keeper }
         ensures place { self.new.place ≡ self.old.place }
         ensures refused { self.new.is_refused ≡ self.old.is_refused }
@@ -217,7 +216,7 @@ impl<K: Keeper<Row = BookRow>> Book<K> {
             &self.replies,
             &self.place,
             caller,
-            pair,
+            key,
         );
     }
 

@@ -4,15 +4,14 @@
 mod books;
 mod entries;
 mod openings;
-mod pairs;
 mod recording;
-mod refusals;
+mod transaction_keys;
 
 pub use books::Book;
 pub use entries::BookEntry;
+pub use mx_keeper::CallError;
 pub use openings::Opening;
-pub use pairs::Pair;
-pub use refusals::BookError;
+pub use transaction_keys::TransactionKey;
 
 #[cfg(test)]
 mod tests;

@@ -3,13 +3,13 @@ ghost use Rattle.std.specs.Prelude.{◌≡◌, ◌↔◌, ◌+◌, ◌++◌, ◌
 ghost use Rattle.std.specs.Option.{option_copied};
 ghost use Rattle.std.specs.BTreeMap.{btree_map_len, get};
 ghost use Rattle.mx_keeper.specs.Places.{is_at};
-ghost use Rattle.mx_book.specs.Pairs.{pair_cmp};
-ghost use Rattle.mx_book.specs.Journal.{state_of, state_after, free, begun, opening_of};
-ghost use Rattle.mx_book.specs.Inside.{state_at, reply_of, IsMoved, IsSameMap, IsIndexed, IsSound};
+ghost use Rattle.mx_book.specs.Transactions.{transaction_cmp};
+ghost use Rattle.mx_book.specs.Journal.{hold_of, hold_after, free, begun, opening_of};
+ghost use Rattle.mx_book.specs.Inside.{hold_at, reply_of, IsMoved, IsSameMap, IsIndexed, IsSound};
 
 use crate::entries::BookEntry;
 use crate::openings::Opening;
-use crate::pairs::Pair;
+use crate::transaction_keys::TransactionKey;
 use mx_keeper::{BookRow, Place, Reply};
 use std::alloc::AllocError;
 use std::collections::BTreeMap;
@@ -19,17 +19,17 @@ use std::collections::BTreeMap;
 /// What opening the transaction answers.
 pub(crate) fn opening_in(
     journal: &[BookEntry],
-    callers: &BTreeMap<Pair, u64>,
-    replies: &BTreeMap<Pair, usize>,
-    pair: &Pair,
+    callers: &BTreeMap<TransactionKey, u64>,
+    replies: &BTreeMap<TransactionKey, usize>,
+    key: &TransactionKey,
 ) -> Result<Opening, AllocError>
     requires { IsIndexed journal.now callers.now replies.now }
-    ensures { IfOk result (λ opening. opening ≡ opening_of (state_of journal.now pair.now)) }
+    ensures { IfOk result (λ opening. opening ≡ opening_of (hold_of journal.now key.now)) }
 {
-    if callers.contains_key(pair) {
+    if callers.contains_key(key) {
         return Ok(Opening::Busy);
     }
-    match reply_in(journal, replies, pair) {
+    match reply_in(journal, replies, key) {
         Some(reply) => Ok(Opening::Kept(reply.clone()?)),
         None => Ok(Opening::Fresh),
     }
@@ -37,19 +37,19 @@ pub(crate) fn opening_in(
 
 fn reply_in<'a>(
     journal: &'a [BookEntry],
-    replies: &BTreeMap<Pair, usize>,
-    pair: &Pair,
+    replies: &BTreeMap<TransactionKey, usize>,
+    key: &TransactionKey,
 ) -> Option<&'a Reply>
-    ensures { option_copied result ≡ reply_of (state_at journal.now (get pair_cmp replies.now pair.now)) }
+    ensures { option_copied result ≡ reply_of (hold_at journal.now (get transaction_cmp replies.now key.now)) }
 {
-    match replies.get(pair) {
+    match replies.get(key) {
         Some(place) => reply_at(journal, *place),
         None => None,
     }
 }
 
 fn reply_at(journal: &[BookEntry], place: usize) -> Option<&Reply>
-    ensures { option_copied result ≡ reply_of (state_after (slice_get journal.now place)) }
+    ensures { option_copied result ≡ reply_of (hold_after (slice_get journal.now place)) }
 {
     match journal.get(place) {
         Some(entry) => entry.reply(),
@@ -58,10 +58,14 @@ fn reply_at(journal: &[BookEntry], place: usize) -> Option<&Reply>
 }
 
 /// Whether this caller began the transaction, and it is not ended.
-pub(crate) fn is_begun_in(callers: &BTreeMap<Pair, u64>, caller: u64, pair: &Pair) -> bool
-    ensures { IsTrue result ↔ (get pair_cmp callers.now pair.now ≡ Some caller) }
+pub(crate) fn is_begun_in(
+    callers: &BTreeMap<TransactionKey, u64>,
+    caller: u64,
+    key: &TransactionKey,
+) -> bool
+    ensures { IsTrue result ↔ (get transaction_cmp callers.now key.now ≡ Some caller) }
 {
-    match callers.get(pair) {
+    match callers.get(key) {
         Some(other) => *other == caller,
         None => false,
     }
@@ -70,13 +74,13 @@ pub(crate) fn is_begun_in(callers: &BTreeMap<Pair, u64>, caller: u64, pair: &Pai
 // ---- the maps
 
 /// Takes a transaction out of those that are not ended.
-fn take_caller(callers: &mut BTreeMap<Pair, u64>, pair: &Pair) -> Pair
-    requires { IsSome (get pair_cmp callers.old pair.now) }
-    ensures pair { result ≡ pair.now }
-    ensures moved { IsMoved callers.old callers.new pair.now None }
+fn take_caller(callers: &mut BTreeMap<TransactionKey, u64>, key: &TransactionKey) -> TransactionKey
+    requires { IsSome (get transaction_cmp callers.old key.now) }
+    ensures key { result ≡ key.now }
+    ensures moved { IsMoved callers.old callers.new key.now None }
     ensures len { btree_map_len callers.new + 1 ≡ btree_map_len callers.old }
 {
-    match callers.remove_entry(pair) {
+    match callers.remove_entry(key) {
         Some((own, _)) => own,
         None => unreachable!(),
     }
@@ -84,23 +88,23 @@ fn take_caller(callers: &mut BTreeMap<Pair, u64>, pair: &Pair) -> Pair
 
 /// Adds the place of a reply.
 pub(crate) fn add_reply(
-    replies: &mut BTreeMap<Pair, usize>,
-    pair: &Pair,
+    replies: &mut BTreeMap<TransactionKey, usize>,
+    key: &TransactionKey,
     place: usize,
 ) -> Result<(), AllocError>
-    ensures ok { OnOk result (IsMoved replies.old replies.new pair.now (Some place)) }
+    ensures ok { OnOk result (IsMoved replies.old replies.new key.now (Some place)) }
     ensures err { OnErr result (IsSameMap replies.old replies.new) }
 {
-    let key = pair.clone()?;
-    replies.insert(key, place)?;
+    let owned = key.clone()?;
+    replies.insert(owned, place)?;
     Ok(())
 }
 
 /// Takes the place of a reply away again.
-pub(crate) fn remove_reply(replies: &mut BTreeMap<Pair, usize>, pair: &Pair)
-    ensures { IsMoved replies.old replies.new pair.now None }
+pub(crate) fn remove_reply(replies: &mut BTreeMap<TransactionKey, usize>, key: &TransactionKey)
+    ensures { IsMoved replies.old replies.new key.now None }
 {
-    replies.remove(pair);
+    replies.remove(key);
 }
 
 // ---- the entries
@@ -108,25 +112,25 @@ pub(crate) fn remove_reply(replies: &mut BTreeMap<Pair, usize>, pair: &Pair)
 /// Begins a transaction that is free. What can fail comes first; there is room afterwards for the entry that ends it.
 pub(crate) fn begin_in(
     journal: &mut Vec<BookEntry>,
-    callers: &mut BTreeMap<Pair, u64>,
-    replies: &BTreeMap<Pair, usize>,
+    callers: &mut BTreeMap<TransactionKey, u64>,
+    replies: &BTreeMap<TransactionKey, usize>,
     place: &Place,
     caller: u64,
-    pair: &Pair,
+    key: &TransactionKey,
 ) -> Result<(), AllocError>
     requires indexed { IsIndexed journal.old.items callers.old replies.now }
     requires sound { IsSound journal.old.items place.now (btree_map_len callers.old) (vec_capacity journal.old) }
-    requires here { IsTrue (is_at place.now pair.now.origin) }
-    requires free { state_of journal.old.items pair.now ≡ free }
-    ensures journal { OnOk result (journal.new.items ≡ journal.old.items ++ BookEntry.Begun pair.now caller ∷ []) }
+    requires here { IsTrue (is_at place.now key.now.origin) }
+    requires free { hold_of journal.old.items key.now ≡ free }
+    ensures journal { OnOk result (journal.new.items ≡ journal.old.items ++ BookEntry.Begun key.now caller ∷ []) }
     ensures err { OnErr result (journal.new.items ≡ journal.old.items) }
     ensures indexed { IsIndexed journal.new.items callers.new replies.now }
     ensures sound { IsSound journal.new.items place.now (btree_map_len callers.new) (vec_capacity journal.new) }
 {
-    let own = pair.clone()?;
-    let key = pair.clone()?;
+    let own = key.clone()?;
+    let owned = key.clone()?;
     journal.reserve(callers.len() + 2)?;
-    callers.insert(key, caller)?;
+    callers.insert(owned, caller)?;
     journal.push_reserved(BookEntry::Begun(own, caller));
     Ok(())
 }
@@ -134,48 +138,48 @@ pub(crate) fn begin_in(
 /// Ends a transaction that this caller began, with no reply.
 pub(crate) fn give_up_in(
     journal: &mut Vec<BookEntry>,
-    callers: &mut BTreeMap<Pair, u64>,
-    replies: &BTreeMap<Pair, usize>,
+    callers: &mut BTreeMap<TransactionKey, u64>,
+    replies: &BTreeMap<TransactionKey, usize>,
     place: &Place,
     caller: u64,
-    pair: &Pair,
+    key: &TransactionKey,
 )
     requires indexed { IsIndexed journal.old.items callers.old replies.now }
     requires sound { IsSound journal.old.items place.now (btree_map_len callers.old) (vec_capacity journal.old) }
-    requires begun { state_of journal.old.items pair.now ≡ begun caller }
-    ensures journal { journal.new.items ≡ journal.old.items ++ BookEntry.GivenUp pair.now caller ∷ [] }
+    requires begun { hold_of journal.old.items key.now ≡ begun caller }
+    ensures journal { journal.new.items ≡ journal.old.items ++ BookEntry.GivenUp key.now caller ∷ [] }
     ensures indexed { IsIndexed journal.new.items callers.new replies.now }
     ensures sound { IsSound journal.new.items place.now (btree_map_len callers.new) (vec_capacity journal.new) }
 {
-    let own = take_caller(callers, pair);
+    let own = take_caller(callers, key);
     journal.push_reserved(BookEntry::GivenUp(own, caller));
 }
 
 /// Ends a transaction that this caller began, with the reply whose place the map has already.
 pub(crate) fn keep_in(
     journal: &mut Vec<BookEntry>,
-    callers: &mut BTreeMap<Pair, u64>,
+    callers: &mut BTreeMap<TransactionKey, u64>,
     place: &Place,
     caller: u64,
-    pair: &Pair,
+    key: &TransactionKey,
     reply: Reply,
 )
-    requires some { IsSome (get pair_cmp callers.old pair.now) }
+    requires some { IsSome (get transaction_cmp callers.old key.now) }
     requires sound { IsSound journal.old.items place.now (btree_map_len callers.old) (vec_capacity journal.old) }
-    requires begun { state_of journal.old.items pair.now ≡ begun caller }
-    ensures journal { journal.new.items ≡ journal.old.items ++ BookEntry.Kept pair.now caller reply ∷ [] }
-    ensures callers { IsMoved callers.old callers.new pair.now None }
+    requires begun { hold_of journal.old.items key.now ≡ begun caller }
+    ensures journal { journal.new.items ≡ journal.old.items ++ BookEntry.Kept key.now caller reply ∷ [] }
+    ensures callers { IsMoved callers.old callers.new key.now None }
     ensures sound { IsSound journal.new.items place.now (btree_map_len callers.new) (vec_capacity journal.new) }
 {
-    let own = take_caller(callers, pair);
+    let own = take_caller(callers, key);
     journal.push_reserved(BookEntry::Kept(own, caller, reply));
 }
 
 /// The row that is stored of a reply.
-pub(crate) fn row_for(pair: &Pair, reply: Reply) -> Result<BookRow, AllocError>
-    ensures { IfOk result (λ row. row ≡ record { origin = pair.now.origin; txn = pair.now.txn; reply = reply }) }
+pub(crate) fn row_for(key: &TransactionKey, reply: Reply) -> Result<BookRow, AllocError>
+    ensures { IfOk result (λ row. row ≡ record { origin = key.now.origin; txn = key.now.txn; reply = reply }) }
 {
-    let origin = pair.origin.clone()?;
-    let txn = pair.txn.clone()?;
+    let origin = key.origin.clone()?;
+    let txn = key.txn.clone()?;
     Ok(BookRow { origin, txn, reply })
 }

@@ -1,4 +1,4 @@
-use crate::{Book, BookError, Opening, Pair};
+use crate::{Book, CallError, Opening, TransactionKey};
 use mx_ident::ServerName;
 use mx_keeper::{BookRow, Keeper, MemoryKeeper, Place, Reply, TransactionId};
 use std::alloc::{AllocError, Global};
@@ -9,10 +9,10 @@ fn refused<E: Drop>(_error: E) -> AllocError {
     AllocError
 }
 
-fn pair(alloc: Global, origin: &str, txn: &str) -> Result<Pair, AllocError> {
+fn key(alloc: Global, origin: &str, txn: &str) -> Result<TransactionKey, AllocError> {
     let origin = ServerName::parse(alloc, origin).map_err(refused)?;
     let txn = TransactionId::new(String::from_str(alloc, txn)?);
-    Ok(Pair { origin, txn })
+    Ok(TransactionKey { origin, txn })
 }
 
 fn reply(alloc: Global, text: &str) -> Result<Reply, AllocError> {
@@ -21,17 +21,17 @@ fn reply(alloc: Global, text: &str) -> Result<Reply, AllocError> {
 }
 
 // The one book of a server, with no transaction.
-fn only_book(alloc: Global) -> Result<Book<MemoryKeeper<BookRow>>, BookError> {
+fn only_book(alloc: Global) -> Result<Book<MemoryKeeper<BookRow>>, CallError> {
     Book::reopen(alloc, MemoryKeeper::new(alloc), Place::new(0, 1))
 }
 
 // Runs a list of calls, and gives a line for each. A call that the book does not allow is told as such.
-fn told_by(alloc: Global, calls: &[(&str, u64, &str, &str, &str)]) -> Result<String, BookError> {
+fn told_by(alloc: Global, calls: &[(&str, u64, &str, &str, &str)]) -> Result<String, CallError> {
     let mut book = only_book(alloc)?;
     let mut lines = String::new(alloc);
     for (call, caller, origin, txn, text) in calls {
-        let pair = pair(alloc, origin, txn)?;
-        let line = tell(alloc, &mut book, call, *caller, &pair, text)?;
+        let key = key(alloc, origin, txn)?;
+        let line = tell(alloc, &mut book, call, *caller, &key, text)?;
         lines.push_str(line.as_str())?;
         lines.push_str("\n")?;
     }
@@ -43,26 +43,26 @@ fn tell(
     book: &mut Book<MemoryKeeper<BookRow>>,
     call: &str,
     caller: u64,
-    pair: &Pair,
+    key: &TransactionKey,
     text: &str,
-) -> Result<String, BookError> {
+) -> Result<String, CallError> {
     if call == "open" {
-        if !book.place().has(pair.origin.as_str()) {
+        if !book.place().has(key.origin.as_str()) {
             return Ok(String::from_str(alloc, "another place")?);
         }
-        return Ok(match book.open(caller, pair)? {
+        return Ok(match book.open(caller, key)? {
             Opening::Fresh => String::from_str(alloc, "fresh")?,
             Opening::Busy => String::from_str(alloc, "busy")?,
             Opening::Kept(reply) => reply.into_string(),
         });
     }
-    if !book.is_begun(caller, pair) {
+    if !book.is_begun(caller, key) {
         return Ok(String::from_str(alloc, "not begun")?);
     }
     if call == "keep" {
-        book.keep(caller, pair, reply(alloc, text)?)?;
+        book.keep(caller, key, reply(alloc, text)?)?;
     } else {
-        book.give_up(caller, pair);
+        book.give_up(caller, key);
     }
     Ok(String::from_str(alloc, "ended")?)
 }
@@ -97,7 +97,7 @@ fn a_kept_reply_is_the_answer_for_good(rt: HostRuntime) -> Result<(), Fail> {
 fn replies_or_no_memory(rt: HostRuntime) {
     match told_by(rt.alloc(), &CALLS) {
         Ok(lines) => assert_eq!(rt; lines.as_str(), TOLD),
-        Err(error) => assert_eq!(rt; error, BookError::Memory),
+        Err(error) => assert_eq!(rt; error, CallError::Memory),
     }
 }
 
@@ -107,11 +107,11 @@ fn rows_of_what_is_kept(rt: HostRuntime) -> Result<(), Fail> {
     let alloc = rt.alloc();
     let mut book = only_book(alloc)?;
     assert!(rt; book.none_open());
-    let first = pair(alloc, "a.example", "t1")?;
-    let second = pair(alloc, "a.example", "t2")?;
-    for pair in [&first, &second] {
-        if book.place().has(pair.origin.as_str()) {
-            let _opening = book.open(0, pair)?;
+    let first = key(alloc, "a.example", "t1")?;
+    let second = key(alloc, "a.example", "t2")?;
+    for key in [&first, &second] {
+        if book.place().has(key.origin.as_str()) {
+            let _opening = book.open(0, key)?;
         }
     }
     assert!(rt; !book.none_open());
@@ -129,6 +129,6 @@ fn rows_of_what_is_kept(rt: HostRuntime) -> Result<(), Fail> {
         assert_eq!(rt; row.reply.as_str(), "{}");
     }
     let again = Book::reopen(alloc, keeper, Place::new(0, 1));
-    assert_eq!(rt; again.err(), Some(BookError::Storage));
+    assert_eq!(rt; again.err(), Some(CallError::Storage));
     Ok(())
 }

@@ -8,7 +8,7 @@ use Rattle.std.specs.List.{AllByRecursion}
 use Rattle.std.specs.List.Sorted.{IsStrictlySortedBy}
 use Rattle.std.specs.BTreeMap.{insert_entry}
 use Rattle.std.proofs.Common.{map, Less}
-use Rattle.mx_canon.specs.Keys.{text_cmp, keys, KeysRise, KeysRiseInItems, KeysRiseInMembers}
+use Rattle.mx_canon.specs.KeyOrder.{text_cmp, keys, KeysRise, KeysRiseInItems, KeysRiseInMembers}
 use Rattle.mx_canon.specs.Canonical.{escaped, string_text, integer_text, value_text, item_texts, member_text, sorted_members}
 
 escaped_same : (b : ℕ) → escaped b ≡ escape_byte b

@@ -6,7 +6,7 @@ use Rattle.std.specs.List.{list_all, list_any, join_with_byte}
 use Rattle.std.specs.BTreeMap.{insert_entry}
 use Rattle.serde_json.specs.Data.{Num, unsigned, negative, float, Data, null, boolean, number, string, array, object, Items, no_items, item, Members, no_members, member}
 use Rattle.serde_json.specs.Find.{is_float}
-use Rattle.mx_canon.specs.Keys.{text_cmp}
+use Rattle.mx_canon.specs.KeyOrder.{text_cmp}
 use Rattle.mx_canon.specs.declared.checking.NotCanonical.{NotCanonical}
 use Rattle.mx_canon.specs.declared.checking.NotCanonical.TheVariants.{Float, Range}
 

@@ -1,5 +1,5 @@
 pub mod Canonical
-pub mod Keys
+pub mod KeyOrder
 pub mod Faults
 pub mod Reading
 pub mod Sinks

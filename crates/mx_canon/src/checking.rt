@@ -3,7 +3,7 @@ ghost use Rattle.std.specs.Prelude.{◌≡◌, MatchResult, None, Some};
 ghost use Rattle.serde_json.specs.View.{view, number_view, items_view, members_view};
 ghost use Rattle.serde_json.specs.Data.{object};
 ghost use Rattle.mx_canon.specs.Canonical.{numbers, item_numbers, member_numbers, canonical_error};
-ghost use Rattle.mx_canon.specs.Keys.{KeysRise, KeysRiseInItems, KeysRiseInMembers};
+ghost use Rattle.mx_canon.specs.KeyOrder.{KeysRise, KeysRiseInItems, KeysRiseInMembers};
 ghost use Rattle.mx_canon.specs.Faults.{fault_of, number_fault, graver};
 
 use serde_json::{Map, Number, Value};

@@ -4,7 +4,7 @@ ghost use Rattle.serde_json.specs.View.{view};
 ghost use Rattle.serde_json.specs.Data.{depth};
 ghost use Rattle.serde_json.specs.Read.{max_depth};
 ghost use Rattle.mx_canon.specs.Canonical.{canonical_error, canonical_text};
-ghost use Rattle.mx_canon.specs.Keys.{KeysRise};
+ghost use Rattle.mx_canon.specs.KeyOrder.{KeysRise};
 ghost use Rattle.mx_canon.specs.Reading.{IsJsonFor};
 ghost use Rattle.mx_canon.specs.declared.checking.NotCanonical.{NotCanonical as Cause};
 

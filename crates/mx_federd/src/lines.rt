@@ -2,8 +2,8 @@
 use mx_ident::{IdError, ServerName};
 use mx_keeper::TransactionId;
 use mx_pdu::{Offered, Pdu, PduError, PresenceVerifier};
-use mx_redact::text_at;
-use mx_world::{Pair, Step, StepError};
+use mx_redact::text_field;
+use mx_world::{CallError, Step, TransactionKey};
 use serde_json::{Map, Value};
 use std::alloc::{AllocError, Global};
 
@@ -51,10 +51,10 @@ enum LineKind {
 }
 
 /// Why a step has no reply.
-pub(crate) fn of_step(error: StepError) -> LineError {
+pub(crate) fn of_step(error: CallError) -> LineError {
     match error {
-        StepError::Memory => LineError::Memory,
-        StepError::Storage => LineError::Storage,
+        CallError::Memory => LineError::Memory,
+        CallError::Storage => LineError::Storage,
     }
 }
 
@@ -79,12 +79,12 @@ fn read_members(alloc: Global, mut members: Map<String, Value>) -> Result<Line, 
         Some(LineKind::Host) => read_host(alloc, &mut members),
         Some(LineKind::Open) => read_open(alloc, &mut members),
         Some(LineKind::Next) => {
-            let pair = pair_of(alloc, &members)?;
-            Ok(Line::Step(Step::Next(pair)))
+            let key = transaction_of(alloc, &members)?;
+            Ok(Line::Step(Step::Next(key)))
         }
         Some(LineKind::Close) => {
-            let pair = pair_of(alloc, &members)?;
-            Ok(Line::Step(Step::Close(pair)))
+            let key = transaction_of(alloc, &members)?;
+            Ok(Line::Step(Step::Close(key)))
         }
         None => Err(LineError::Bad),
     }
@@ -92,7 +92,7 @@ fn read_members(alloc: Global, mut members: Map<String, Value>) -> Result<Line, 
 
 // By its `step`, and how many keys such a line has.
 fn kind_of(members: &Map<String, Value>) -> Option<LineKind> {
-    match (text_at(members, "step")?, members.len()) {
+    match (text_field(members, "step")?, members.len()) {
         ("host", 2) => Some(LineKind::Host),
         ("open", 4) => Some(LineKind::Open),
         ("next", 3) => Some(LineKind::Next),
@@ -118,23 +118,26 @@ fn read_open(alloc: Global, members: &mut Map<String, Value>) -> Result<Line, Li
     if events.len() > MOST_EVENTS {
         return Err(LineError::Bad);
     }
-    let pair = pair_of(alloc, members)?;
+    let key = transaction_of(alloc, members)?;
     let events = offered_among(alloc, events)?;
-    Ok(Line::Step(Step::Open(pair, events)))
+    Ok(Line::Step(Step::Open(key, events)))
 }
 
 // The origin, which is a server name, and the number of a transaction, which is any text.
-fn pair_of(alloc: Global, members: &Map<String, Value>) -> Result<Pair, LineError> {
-    let Some(origin) = text_at(members, "origin") else {
+fn transaction_of(
+    alloc: Global,
+    members: &Map<String, Value>,
+) -> Result<TransactionKey, LineError> {
+    let Some(origin) = text_field(members, "origin") else {
         return Err(LineError::Bad);
     };
-    let Some(txn) = text_at(members, "txn") else {
+    let Some(txn) = text_field(members, "txn") else {
         return Err(LineError::Bad);
     };
     match ServerName::parse(alloc, origin) {
         Ok(origin) => {
             let txn = TransactionId::new(String::from_str(alloc, txn)?);
-            Ok(Pair { origin, txn })
+            Ok(TransactionKey { origin, txn })
         }
         Err(IdError::Memory) => Err(LineError::Memory),
         Err(IdError::NotAnId(_)) => Err(LineError::Bad),

@@ -6,7 +6,7 @@ use crate::output::{Failure, flushed};
 use crate::reply_lines::{BAD_LINE, MALFORMED, NO_MEMORY, STORAGE, reply_line};
 use crate::shard_counts::ShardCount;
 use mx_keeper::{BookRow, MemoryKeeper, ShardRow, Storable};
-use mx_world::{StepError, World};
+use mx_world::{CallError, World};
 use std::alloc::{AllocError, Global};
 use std::io::{BufWriter, Write};
 
@@ -37,8 +37,8 @@ fn server(alloc: Global, shards: ShardCount) -> Result<Server, Failure> {
     let book_keepers = keepers(alloc, shards)?;
     match World::new(alloc, shard_keepers, book_keepers) {
         Ok(world) => Ok(world),
-        Err(StepError::Memory) => Err(Failure::Memory),
-        Err(StepError::Storage) => Err(Failure::Storage),
+        Err(CallError::Memory) => Err(Failure::Memory),
+        Err(CallError::Storage) => Err(Failure::Storage),
     }
 }
 

@@ -1,5 +1,5 @@
 // The lines that answer the lines of a log.
-use mx_world::{Answer, HostError, Reply, StepReply, Told, processing_result};
+use mx_world::{Answer, NotARoom, Reply, StepReply, Told, processing_result};
 use serde_json::json;
 use std::alloc::{AllocError, Global};
 
@@ -42,13 +42,10 @@ fn room_line(alloc: Global, answer: &Answer) -> Result<Vec<u8>, AllocError> {
 }
 
 // A create event that cites auth events counts as malformed.
-fn refusal(alloc: Global, error: HostError) -> Result<String, AllocError> {
+fn refusal(alloc: Global, error: NotARoom) -> Result<String, AllocError> {
     match error {
-        HostError::NotACreateEvent => String::from_str(alloc, "not a create event"),
-        HostError::CitesAuthEvents => String::from_str(alloc, "malformed"),
-        HostError::Unsigned => String::from_str(alloc, "signature"),
-        HostError::BadContentHash => String::from_str(alloc, "content hash"),
-        HostError::BreaksRule(rule) => format!(in alloc; "rule {rule}"),
+        NotARoom::CitesAuthEvents => String::from_str(alloc, "malformed"),
+        _ => format!(in alloc; "{error}"),
     }
 }
 

@@ -240,6 +240,13 @@ impl Graph {
     }
 }
 
+/// A law: in a graph each id is there once, and each event that an event cites came before it.
+pub fn graph_is_sound(graph: &Graph)
+    ensures { closure.IsSound graph.now }
+{
+    let _ = graph.len();
+}
+
 /// A law: the ancestors and the auth chain of events are the least sets that have what these events cite and what
 /// their own members cite.
 pub fn closures_are_least()

@@ -8,7 +8,7 @@ mod numbers;
 mod refusals;
 mod rows;
 
-pub use graphs::{Graph, MOST_ROWS, closures_are_least};
+pub use graphs::{Graph, MOST_ROWS, closures_are_least, graph_is_sound};
 pub use numbers::EventNo;
 pub use refusals::{GraphError, NotAdded};
 pub use rows::GraphRow;

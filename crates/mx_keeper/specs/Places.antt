@@ -7,8 +7,8 @@ pub record PlaceView : Type 0 where
   pub count : ℕ
 
 -- the number of the place of what has this name, among so many: the sum of the name's bytes
-abbrev pub place_of : ℕ → List ℕ → ℕ
-place_of count name = sum name % count
+abbrev pub place_number : ℕ → List ℕ → ℕ
+place_number count name = sum name % count
 
 abbrev pub is_at : PlaceView → List ℕ → Bool
-is_at place name = place_of place.count name == place.number
+is_at place name = place_number place.count name == place.number

@@ -1,6 +1,6 @@
 // Which of several keepers has which rows.
 ghost use Rattle.std.specs.Prelude.{◌≡◌, ◌<◌, ◌≤◌};
-ghost use Rattle.mx_keeper.specs.Places.{place_of, is_at};
+ghost use Rattle.mx_keeper.specs.Places.{place_number, is_at};
 
 use std::marker::Model;
 
@@ -45,7 +45,7 @@ impl Place {
     pub fn of(name: &str, count: usize) -> Place
         requires some { 0 < count }
         requires few { count ≤ MOST_PLACES }
-        ensures number { result.number ≡ place_of count name.now }
+        ensures number { result.number ≡ place_number count name.now }
         ensures count { result.count ≡ count }
     {
         let bytes = name.as_bytes();
@@ -84,7 +84,7 @@ impl Place {
 fn number_for(name: &[u8], count: usize) -> usize
     requires some { 0 < count }
     requires few { count ≤ MOST_PLACES }
-    ensures { result ≡ place_of count name.now }
+    ensures { result ≡ place_number count name.now }
 {
     let mut number = 0;
     for byte in name {

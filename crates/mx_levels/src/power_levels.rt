@@ -4,7 +4,7 @@ ghost use Rattle.mx_levels.specs.Level as definition;
 
 use crate::reading::{entry_at, level_at};
 use mx_pdu::Pdu;
-use mx_redact::text_at;
+use mx_redact::text_field;
 use std::marker::Model;
 
 /// The power levels under a create event and a power levels event, either of which may be absent.
@@ -128,7 +128,8 @@ fn is_creator(create: Option<&Pdu>, user: &str) -> bool
     ensures { result ≡ definition.is_creator (option_map (λ e. e.now) create.entry) user.now }
 {
     match create {
-        Some(create) => text_at(create.content(), "creator").is_some_and(|creator| creator == user),
+        Some(create) => text_field(create.content(), "creator").is_some_and(|creator| creator
+            == user),
         None => false,
     }
 }

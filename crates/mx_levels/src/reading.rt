@@ -6,7 +6,7 @@ ghost use Rattle.mx_levels.specs.Level as definition;
 
 use crate::numerals::level_in_text;
 use mx_canon::LARGEST;
-use mx_redact::value_at;
+use mx_redact::field;
 use serde_json::{Map, Value};
 
 /// The level that a value holds: an integer from -(2^53 - 1) to 2^53 - 1, or a string of ASCII white space, at most one
@@ -40,7 +40,7 @@ fn in_range(level: i64) -> Option<i64>
 pub fn level_at(members: &Map<String, Value>, key: &str) -> Option<i64>
     ensures { result ≡ definition.level_at key.now (object (members_view members.now.entries)) }
 {
-    value_at(members, key).and_then(read_level)
+    field(members, key).and_then(read_level)
 }
 
 /// The level at a key of an object in the content of a power levels event, as at a user id in `users` or at an event
@@ -50,7 +50,7 @@ pub fn level_at(members: &Map<String, Value>, key: &str) -> Option<i64>
 pub fn entry_at(content: &Map<String, Value>, map: &str, key: &str) -> Option<i64>
     ensures { result ≡ definition.entry_at map.now key.now (object (members_view content.now.entries)) }
 {
-    match value_at(content, map) {
+    match field(content, map) {
         Some(Value::Object(levels)) => level_at(levels, key),
         _ => None,
     }

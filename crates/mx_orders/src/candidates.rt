@@ -5,8 +5,7 @@ ghost use Rattle.mx_orders.specs.Mainline.{sorted};
 ghost use Rattle.mx_orders.specs.PowerOrder.{power_cmp};
 
 use crate::levels::sender_level;
-use crate::soundness::graph_is_sound;
-use mx_graph::{EventNo, Graph};
+use mx_graph::{EventNo, Graph, graph_is_sound};
 use mx_ident::EventId;
 use std::alloc::{AllocError, Global};
 use std::cmp::Ordering;

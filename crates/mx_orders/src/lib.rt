@@ -12,7 +12,6 @@ mod plain_ordering;
 mod power_ordering;
 mod ranking;
 mod readiness;
-mod soundness;
 
 pub use mainline_ordering::mainline_order;
 pub use mainlines::Mainline;

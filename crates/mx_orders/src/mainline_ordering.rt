@@ -4,8 +4,7 @@ ghost use Rattle.mx_orders.specs.Mainline as definition;
 ghost use Rattle.mx_orders.specs.Places.{IsPlace, place_cmp};
 
 use crate::mainlines::Mainline;
-use crate::soundness::graph_is_sound;
-use mx_graph::{EventNo, Graph};
+use mx_graph::{EventNo, Graph, graph_is_sound};
 use mx_ident::EventId;
 use std::alloc::{AllocError, Global};
 use std::cmp::Ordering;
@@ -53,11 +52,11 @@ fn places_of<'g>(
 {
     events
         .iter()
-        .map(|event| place_of(graph, mainline, *event))
+        .map(|event| order_place(graph, mainline, *event))
         .collect(alloc)
 }
 
-fn place_of<'g>(graph: &'g Graph, mainline: &Mainline, number: EventNo) -> Place<'g>
+fn order_place<'g>(graph: &'g Graph, mainline: &Mainline, number: EventNo) -> Place<'g>
     requires { number < length graph.now }
     ensures number { result.number ≡ number }
     ensures place { IsPlace graph.now mainline.now result }

@@ -54,7 +54,7 @@ impl Mainline {
     {
         let mut above = event;
         while let Some(power) = power_levels_event(graph, above) {
-            if let Some(place) = self.place_of(power) {
+            if let Some(place) = self.place_in_line(power) {
                 return Some(place);
             }
             above = power;
@@ -63,7 +63,7 @@ impl Mainline {
     }
 
     // The place of an event in the mainline.
-    fn place_of(&self, event: EventNo) -> Option<u32>
+    fn place_in_line(&self, event: EventNo) -> Option<u32>
         ensures { result ≡ position (λ other. other == event) self.now }
     {
         let place = place_in(&self.line, event)?;

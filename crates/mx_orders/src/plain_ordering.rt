@@ -6,8 +6,7 @@ ghost use Rattle.mx_orders.specs.PowerOrder as definition;
 ghost use Rattle.mx_orders.specs.Waiting.{IsWaiting, is_free as is_free_of};
 
 use crate::candidates::by_power;
-use crate::soundness::graph_is_sound;
-use mx_graph::{EventNo, Graph};
+use mx_graph::{EventNo, Graph, graph_is_sound};
 use std::alloc::{AllocError, Global};
 
 // An event that is left, with its auth chain.

@@ -6,8 +6,7 @@ ghost use Rattle.mx_orders.specs.PowerOrder as definition;
 use crate::candidates::by_power;
 use crate::following::{Following, following_of};
 use crate::readiness::{ready_at_first, release};
-use crate::soundness::graph_is_sound;
-use mx_graph::{EventNo, Graph};
+use mx_graph::{EventNo, Graph, graph_is_sound};
 use std::alloc::{AllocError, Global};
 
 /// The least list of events in which each comes after those that stand in its auth chain. Lesser is the event with the

@@ -5,7 +5,7 @@ use Rattle.std.specs.List.{join_with_byte}
 use Rattle.std.specs.List.Sorted.{IsStrictlySortedBy}
 use Rattle.serde_json.specs.Data.{Data, null, boolean, number, string, array, object, Members, no_members, member}
 use Rattle.mx_canon.specs.Canonical.{value_text, string_text, member_text, sorted_members}
-use Rattle.mx_canon.specs.Keys.{text_cmp, keys, KeysRise, KeysRiseInMembers}
+use Rattle.mx_canon.specs.KeyOrder.{text_cmp, keys, KeysRise, KeysRiseInMembers}
 use Rattle.mx_canon.proofs.TextLemmas.{entries-first}
 use Rattle.mx_redact.specs.Redaction.{members_where, is_kept_in, redacted_content, with_redacted_content}
 use Rattle.mx_pdu.proofs.RiseLemmas.{sorted-where}

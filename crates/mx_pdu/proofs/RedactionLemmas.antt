@@ -5,7 +5,7 @@ use Rattle.std.proofs.lemmas.Bool.Decides.{nat_tests}
 use Rattle.serde_json.specs.Data.{Data, null, boolean, number, string, array, object, Members, no_items}
 use Rattle.serde_json.specs.Find.{get_member, as_str, as_array}
 use Rattle.mx_canon.specs.Canonical.{canonical_text, is_canonical, value_text}
-use Rattle.mx_canon.specs.Keys.{KeysRise}
+use Rattle.mx_canon.specs.KeyOrder.{KeysRise}
 use Rattle.mx_ident.specs.Identifier.{refuse_if, user_id_error, room_id_error}
 use Rattle.mx_redact.specs.Fields.{Event, field, kind, is_object, item_list, is_some_and, is_none_or}
 use Rattle.mx_redact.specs.Redaction.{is_among, kept_keys, members_where, redacted_content, with_redacted_content, redact}

@@ -6,7 +6,7 @@ use Rattle.std.specs.List.Sorted.{IsStrictlySortedBy}
 use Rattle.std.proofs.lemmas.List.Folds.{list_all-append}
 use Rattle.serde_json.specs.Data.{Data, null, boolean, number, string, array, object, Members, no_members, member}
 use Rattle.mx_canon.specs.Canonical.{is_canonical, is_exact, numbers, member_numbers}
-use Rattle.mx_canon.specs.Keys.{text_cmp, keys, KeysRise, KeysRiseInMembers}
+use Rattle.mx_canon.specs.KeyOrder.{text_cmp, keys, KeysRise, KeysRiseInMembers}
 use Rattle.mx_redact.specs.Redaction.{members_where, is_kept_in, redacted_content, with_redacted_content}
 use Rattle.mx_pdu.proofs.FormatLemmas.{and-left, and-right, and-both}
 

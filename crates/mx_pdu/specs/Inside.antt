@@ -2,7 +2,7 @@
 use Rattle.std.specs.Prelude.{◌≡◌, IsTrue}
 use Rattle.serde_json.specs.Data.{Data, object}
 use Rattle.serde_json.specs.View.{members_view}
-use Rattle.mx_canon.specs.Keys.{KeysRise}
+use Rattle.mx_canon.specs.KeyOrder.{KeysRise}
 use Rattle.mx_pdu.specs.Event.{room_of, sender_of, prev_ids, auth_ids}
 use Rattle.mx_pdu.specs.Format.{is_well_formed}
 use Rattle.mx_pdu.specs.declared.pdus.Pdu.TheInside.{Inside}

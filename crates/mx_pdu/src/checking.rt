@@ -4,7 +4,7 @@ ghost use Rattle.std.specs.Result.{result_err};
 ghost use Rattle.serde_json.specs.Data.{object};
 ghost use Rattle.serde_json.specs.View.{view, members_view};
 ghost use Rattle.mx_canon.specs.Canonical.{is_canonical, canonical_text};
-ghost use Rattle.mx_canon.specs.Keys.{KeysRise};
+ghost use Rattle.mx_canon.specs.KeyOrder.{KeysRise};
 ghost use Rattle.mx_pdu.specs.Format.{format_error};
 ghost use Rattle.mx_pdu.specs.Refusals.{object_error};
 

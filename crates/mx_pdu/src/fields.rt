@@ -10,7 +10,7 @@ ghost use Rattle.mx_pdu.specs.Format.{has_fields, is_id, is_id_or_long, is_event
 
 use crate::lookups::array_at;
 use mx_ident::{EventId, NotAnId, RoomId, UserId};
-use mx_redact::{text_at, value_at};
+use mx_redact::{field, text_field};
 use serde_json::{Map, Value};
 
 pub fn has_every_field(event: &Map<String, Value>) -> bool
@@ -32,7 +32,7 @@ pub fn has_every_field(event: &Map<String, Value>) -> bool
 fn has_object(event: &Map<String, Value>, key: &str) -> bool
     ensures { result ≡ is_some_and is_object (field key.now (object (members_view event.now.entries))) }
 {
-    match value_at(event, key) {
+    match field(event, key) {
         Some(value) => value.is_object(),
         None => false,
     }
@@ -41,7 +41,7 @@ fn has_object(event: &Map<String, Value>, key: &str) -> bool
 fn has_integer(event: &Map<String, Value>, key: &str) -> bool
     ensures { result ≡ is_some_and is_integer (field key.now (object (members_view event.now.entries))) }
 {
-    match value_at(event, key) {
+    match field(event, key) {
         Some(value) => holds_integer(value),
         None => false,
     }
@@ -59,7 +59,7 @@ fn holds_integer(value: &Value) -> bool
 fn has_text(event: &Map<String, Value>, key: &str) -> bool
     ensures { result ≡ is_some_and is_string (field key.now (object (members_view event.now.entries))) }
 {
-    match value_at(event, key) {
+    match field(event, key) {
         Some(value) => value.is_string(),
         None => false,
     }
@@ -68,7 +68,7 @@ fn has_text(event: &Map<String, Value>, key: &str) -> bool
 fn has_text_or_nothing(event: &Map<String, Value>, key: &str) -> bool
     ensures { result ≡ is_none_or is_string (field key.now (object (members_view event.now.entries))) }
 {
-    match value_at(event, key) {
+    match field(event, key) {
         Some(value) => value.is_string(),
         None => true,
     }
@@ -77,7 +77,7 @@ fn has_text_or_nothing(event: &Map<String, Value>, key: &str) -> bool
 fn has_room_id(event: &Map<String, Value>, key: &str) -> bool
     ensures { result ≡ is_some_and (is_id room_id_error) (field key.now (object (members_view event.now.entries))) }
 {
-    match text_at(event, key) {
+    match text_field(event, key) {
         Some(text) => is_id_but_for_length(RoomId::check(text)),
         None => false,
     }
@@ -86,7 +86,7 @@ fn has_room_id(event: &Map<String, Value>, key: &str) -> bool
 fn has_user_id(event: &Map<String, Value>, key: &str) -> bool
     ensures { result ≡ is_some_and (is_id user_id_error) (field key.now (object (members_view event.now.entries))) }
 {
-    match text_at(event, key) {
+    match text_field(event, key) {
         Some(text) => is_id_but_for_length(UserId::check(text)),
         None => false,
     }

@@ -8,7 +8,7 @@ ghost use Rattle.mx_redact.specs.Fields.{text_field, value_at};
 
 use crate::lookups::object_at;
 use base64::engine::general_purpose::STANDARD_NO_PAD;
-use mx_redact::text_at;
+use mx_redact::text_field;
 use serde_json::{Map, Value};
 
 // The text at `sha256` in `hashes`.
@@ -17,7 +17,7 @@ pub fn named_hash(event: &Map<String, Value>) -> Option<&str>
         ≡ text_field (codes "sha256") (value_at (codes "hashes") (object (members_view event.now.entries))) }
 {
     match object_at(event, "hashes") {
-        Some(hashes) => text_at(hashes, "sha256"),
+        Some(hashes) => text_field(hashes, "sha256"),
         None => None,
     }
 }

@@ -1,7 +1,7 @@
 // What holds of every event.
 ghost use Rattle.std.specs.Prelude.{IsTrue};
 ghost use Rattle.serde_json.specs.Data.{Data};
-ghost use Rattle.mx_canon.specs.Keys.{KeysRise};
+ghost use Rattle.mx_canon.specs.KeyOrder.{KeysRise};
 ghost use Rattle.mx_redact.specs.Redaction.{redact};
 ghost use Rattle.mx_pdu.specs.Format.{is_well_formed};
 

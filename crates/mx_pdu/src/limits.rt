@@ -8,7 +8,7 @@ ghost use Rattle.mx_pdu.specs.Format.{is_within_limits, is_short, is_short_list,
 
 use crate::lookups::array_at;
 use mx_canon::LARGEST;
-use mx_redact::value_at;
+use mx_redact::field;
 use serde_json::{Map, Value};
 
 // The most bytes of a text.
@@ -35,7 +35,7 @@ pub fn keeps_limits(event: &Map<String, Value>) -> bool
 fn keeps_text_limit(event: &Map<String, Value>, key: &str) -> bool
     ensures { result ≡ is_none_or is_short (field key.now (object (members_view event.now.entries))) }
 {
-    match value_at(event, key) {
+    match field(event, key) {
         Some(value) => has_short_text(value),
         None => true,
     }
@@ -53,7 +53,7 @@ fn has_short_text(value: &Value) -> bool
 fn keeps_depth_limit(event: &Map<String, Value>, key: &str) -> bool
     ensures { result ≡ is_none_or is_depth (field key.now (object (members_view event.now.entries))) }
 {
-    match value_at(event, key) {
+    match field(event, key) {
         Some(value) => has_depth(value),
         None => true,
     }

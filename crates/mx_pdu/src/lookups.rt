@@ -5,14 +5,14 @@ ghost use Rattle.serde_json.specs.Find.{as_array, as_i64, as_number, as_object};
 ghost use Rattle.serde_json.specs.View.{view, items_view, members_view};
 ghost use Rattle.mx_redact.specs.Fields.{field, text_at as text_or_empty};
 
-use mx_redact::{text_at, value_at};
+use mx_redact::{field, text_field};
 use serde_json::{Map, Value};
 
 // The text at a key, else the empty text.
 pub fn text_or_empty_at<'a>(event: &'a Map<String, Value>, key: &str) -> &'a str
     ensures { result.now ≡ text_or_empty key.now (object (members_view event.now.entries)) }
 {
-    text_at(event, key).unwrap_or("")
+    text_field(event, key).unwrap_or("")
 }
 
 // The 64-bit integer at a key.
@@ -20,7 +20,7 @@ pub fn integer_at(event: &Map<String, Value>, key: &str) -> Option<i64>
     ensures { result
         ≡ option_and_then as_i64 (option_and_then as_number (field key.now (object (members_view event.now.entries)))) }
 {
-    value_at(event, key).and_then(Value::as_i64)
+    field(event, key).and_then(Value::as_i64)
 }
 
 // The object at a key.
@@ -28,7 +28,7 @@ pub fn object_at<'a>(event: &'a Map<String, Value>, key: &str) -> Option<&'a Map
     ensures { option_map (λ object. members_view object.now.entries) result
         ≡ option_and_then as_object (field key.now (object (members_view event.now.entries))) }
 {
-    value_at(event, key).and_then(Value::as_object)
+    field(event, key).and_then(Value::as_object)
 }
 
 // The array at a key.
@@ -36,7 +36,7 @@ pub fn array_at<'a>(event: &'a Map<String, Value>, key: &str) -> Option<&'a Vec<
     ensures { option_map (λ items. items_view items.now.items) result
         ≡ option_and_then as_array (field key.now (object (members_view event.now.entries))) }
 {
-    value_at(event, key).and_then(Value::as_array)
+    field(event, key).and_then(Value::as_array)
 }
 
 // The members of an object.

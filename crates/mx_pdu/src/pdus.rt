@@ -4,7 +4,7 @@ ghost use Rattle.std.specs.Result.{result_err};
 ghost use Rattle.serde_json.specs.Data.{object};
 ghost use Rattle.serde_json.specs.View.{view, members_view};
 ghost use Rattle.mx_canon.specs.Canonical.{canonical_error, canonical_text};
-ghost use Rattle.mx_canon.specs.Keys.{KeysRise};
+ghost use Rattle.mx_canon.specs.KeyOrder.{KeysRise};
 ghost use Rattle.mx_redact.specs.Fields.{kind};
 ghost use Rattle.mx_redact.specs.Hashes.{hash_holds};
 ghost use Rattle.mx_redact.specs.Redaction.{redact as redacted_form};
@@ -18,7 +18,7 @@ use crate::ids::{event_ids_at, room_id_of, user_id_of};
 use crate::lookups::{integer_at, into_object, object_at, text_or_empty_at};
 use crate::refusals::{NotAnEvent, PduError};
 use mx_ident::{EventId, RoomId, UserId};
-use mx_redact::{content_digest, redact, text_at, value_at};
+use mx_redact::{content_digest, field, redact, text_field};
 use serde_json::{Map, Value};
 use std::alloc::{AllocError, Global};
 use std::marker::Model;
@@ -147,7 +147,7 @@ impl Pdu {
     pub fn state_key(&self) -> Option<&str>
         ensures { option_map (λ key. key.now) result ≡ state_key_of self.now }
     {
-        text_at(&self.event, "state_key")
+        text_field(&self.event, "state_key")
     }
 
     /// Its content.
@@ -178,7 +178,7 @@ impl Pdu {
     pub fn depth(&self) -> u64
         ensures { result ≡ depth_of self.now }
     {
-        value_at(&self.event, "depth")
+        field(&self.event, "depth")
             .and_then(Value::as_u64)
             .unwrap_or(0)
     }
@@ -194,7 +194,7 @@ impl Pdu {
     pub fn redacts(&self) -> Option<&str>
         ensures { option_map (λ id. id.now) result ≡ redacts_of self.now }
     {
-        match text_at(&self.event, "redacts") {
+        match text_field(&self.event, "redacts") {
             Some(id) if EventId::is(id) => Some(id),
             _ => None,
         }

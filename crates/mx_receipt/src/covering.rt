@@ -6,8 +6,7 @@ ghost use Rattle.mx_graph.specs.Record.{is_in};
 ghost use Rattle.mx_receipt.specs.Judgements.{AreNext, IsCovered, leads_on, verdicts_of};
 
 use crate::snapshots::Judgement;
-use crate::soundness::graph_is_sound;
-use mx_graph::{EventNo, Graph};
+use mx_graph::{EventNo, Graph, graph_is_sound};
 use std::alloc::{AllocError, Global};
 use std::collections::BTreeSet;
 

@@ -9,7 +9,6 @@ mod receiving;
 mod refusals;
 mod room_states;
 mod snapshots;
-mod soundness;
 mod timelines;
 mod verdicts;
 

@@ -6,7 +6,7 @@ use Rattle.serde_json.proofs.Views.{view-Object}
 use Rattle.std.specs.Prelude.{codes, bytes_eq, if◌then◌else◌, Option, Some, None}
 use Rattle.serde_json.specs.Data.{Data, null, boolean, number, string, array, object, Members, no_members, member}
 use Rattle.mx_redact.specs.Redaction.{members_where, is_among, kept_keys, with_redacted_content, redacted_content, is_kept_in, redact}
-use Rattle.mx_redact.specs.Selected.{is_selected, selected, selected_value, inner_of, part_by, kept_part, is_kept_content, kept_content_of}
+use Rattle.mx_redact.specs.Selected.{is_in_part, selected, selected_value, inner_of, part_by, kept_part, is_kept_content, kept_content_of}
 use Rattle.std.proofs.Common.{Less, ◌||◌, subst}
 use Rattle.std.proofs.lemmas.Slice.Eq.{bytes_eq-Decides}
 use Rattle.mx_redact.specs.Fields.{words, kind}
@@ -14,7 +14,7 @@ use Rattle.mx_redact.specs.Hashes.{hashed_part, signed_part}
 use Rattle.std.specs.List.{AllByRecursion}
 use Rattle.std.specs.List.Sorted.{IsStrictlySortedBy}
 use Rattle.mx_canon.specs.Canonical.{numbers, member_numbers, sorted_members, value_text, canonical_error}
-use Rattle.mx_canon.specs.Keys.{text_cmp, keys}
+use Rattle.mx_canon.specs.KeyOrder.{text_cmp, keys}
 use Rattle.mx_canon.proofs.TextLemmas.{entries-first}
 use Rattle.mx_canon.specs.Faults.{fault_of, graver}
 use Rattle.mx_canon.specs.declared.checking.NotCanonical.{NotCanonical}
@@ -37,20 +37,20 @@ module _ (s : Selection) (k : List ℕ) (d : Data) (ms : Members) where
   at : Bool → Members
   at b = if b then member k (selected_value s k d) (selected s ms) else selected s ms
 
-  pub selected-in : is_selected s k ≡ true → selected s (member k d ms) ≡ member k (selected_value s k d) (selected s ms)
+  pub selected-in : is_in_part s k ≡ true → selected s (member k d ms) ≡ member k (selected_value s k d) (selected s ms)
   unfolding at
   selected-in e = ap at e
 
-  pub selected-out : is_selected s k ≡ false → selected s (member k d ms) ≡ selected s ms
+  pub selected-out : is_in_part s k ≡ false → selected s (member k d ms) ≡ selected s ms
   unfolding at
   selected-out e = ap at e
 
 -- one member more, in a part or not, beside the fault that was found
 module _ (s : Selection) (k : List ℕ) (d : Data) (ms : Members) (found whole : Option NotCanonical) where
-  pub fault-out : is_selected s k ≡ false → graver found (fault_of (member_numbers (selected s (member k d ms)))) ≡ whole → graver found (fault_of (member_numbers (selected s ms))) ≡ whole
+  pub fault-out : is_in_part s k ≡ false → graver found (fault_of (member_numbers (selected s (member k d ms)))) ≡ whole → graver found (fault_of (member_numbers (selected s ms))) ≡ whole
   fault-out out e = ap (λ ns. graver found (fault_of (member_numbers ns))) (sym (selected-out s k d ms out)) ∙ e
 
-  pub fault-in : (o : Option NotCanonical) → is_selected s k ≡ true → o ≡ fault_of (numbers (selected_value s k d))
+  pub fault-in : (o : Option NotCanonical) → is_in_part s k ≡ true → o ≡ fault_of (numbers (selected_value s k d))
       → graver found (fault_of (member_numbers (selected s (member k d ms)))) ≡ whole
       → graver (graver found o) (fault_of (member_numbers (selected s ms))) ≡ whole
   fault-in o inside is e =
@@ -67,7 +67,7 @@ below_at P false k d ms here later = later
 
 pub below_selected : (P : List ℕ → Type 0) (s : Selection) (ms : Members) → AllByRecursion P (keys ms) → AllByRecursion P (keys (selected s ms))
 below_selected P s no_members all = tt
-below_selected P s (member k d ms) all = below_at P (is_selected s k) k (selected_value s k d) (selected s ms) all.0 (below_selected P s ms all.1)
+below_selected P s (member k d ms) all = below_at P (is_in_part s k) k (selected_value s k d) (selected s ms) all.0 (below_selected P s ms all.1)
 
 rise_at : (b : Bool) (k : List ℕ) (d : Data) (ms : Members) → AllByRecursion (λ l. text_cmp k l ≡ Less) (keys ms) → IsStrictlySortedBy text_cmp (keys ms)
     → IsStrictlySortedBy text_cmp (keys (if b then member k d ms else ms))
@@ -79,10 +79,10 @@ pub rise_selected : (s : Selection) (ms : Members) → IsStrictlySortedBy text_c
 unfolding IsStrictlySortedBy
 rise_selected s no_members rise = tt
 rise_selected s (member k d ms) rise =
-    rise_at (is_selected s k) k (selected_value s k d) (selected s ms) (below_selected (λ l. text_cmp k l ≡ Less) s ms rise.0) (rise_selected s ms rise.1)
+    rise_at (is_in_part s k) k (selected_value s k d) (selected s ms) (below_selected (λ l. text_cmp k l ≡ Less) s ms rise.0) (rise_selected s ms rise.1)
 
 -- the first member of a part is written first
-pub sorted_members-selected : (s : Selection) (k : List ℕ) (d : Data) (ms : Members) → AllByRecursion (λ l. text_cmp k l ≡ Less) (keys ms) → IsStrictlySortedBy text_cmp (keys ms) → is_selected s k ≡ true
+pub sorted_members-selected : (s : Selection) (k : List ℕ) (d : Data) (ms : Members) → AllByRecursion (λ l. text_cmp k l ≡ Less) (keys ms) → IsStrictlySortedBy text_cmp (keys ms) → is_in_part s k ≡ true
     → sorted_members (selected s (member k d ms)) ≡ (k, value_text (selected_value s k d)) ∷ sorted_members (selected s ms)
 sorted_members-selected s k d ms below rise inside =
     ap sorted_members (selected-in s k d ms inside)

@@ -25,11 +25,11 @@ is_kept_content HistoryVisibility k = is_among (words "history_visibility") k
 is_kept_content Nothing k = false
 
 -- a key of an event, or of its content, is in a part
-abbrev pub is_selected : Selection → List ℕ → Bool
-is_selected Hashed k = not (is_among (words "unsigned signatures hashes") k)
-is_selected (Redacted kept) k = is_among kept_keys k
-is_selected (Signed kept) k = is_among kept_keys k && not (is_among (words "signatures unsigned") k)
-is_selected (Content kept) k = is_kept_content kept k
+abbrev pub is_in_part : Selection → List ℕ → Bool
+is_in_part Hashed k = not (is_among (words "unsigned signatures hashes") k)
+is_in_part (Redacted kept) k = is_among kept_keys k
+is_in_part (Signed kept) k = is_among kept_keys k && not (is_among (words "signatures unsigned") k)
+is_in_part (Content kept) k = is_kept_content kept k
 
 -- what redaction keeps of a content; one that is no object stays as it is
 abbrev pub kept_part : KeptContent → Data → Data
@@ -57,4 +57,4 @@ selected_value s k d = part_by (inner_of s k) d
 
 abbrev pub selected : Selection → Members → Members
 selected s no_members = no_members
-selected s (member k d ms) = if is_selected s k then member k (selected_value s k d) (selected s ms) else selected s ms
+selected s (member k d ms) = if is_in_part s k then member k (selected_value s k d) (selected s ms) else selected s ms

@@ -7,7 +7,7 @@ ghost use Rattle.mx_redact.specs.Fields.{field, text_field};
 use serde_json::{Map, Value};
 
 /// The value at a key of an object. It takes no memory.
-pub fn value_at<'a>(members: &'a Map<String, Value>, key: &str) -> Option<&'a Value>
+pub fn field<'a>(members: &'a Map<String, Value>, key: &str) -> Option<&'a Value>
     ensures { option_map (λ value. view value.now) result
         ≡ field key.now (object (members_view members.now.entries)) }
 {
@@ -15,9 +15,9 @@ pub fn value_at<'a>(members: &'a Map<String, Value>, key: &str) -> Option<&'a Va
 }
 
 /// The text at a key of an object. It takes no memory.
-pub fn text_at<'a>(members: &'a Map<String, Value>, key: &str) -> Option<&'a str>
+pub fn text_field<'a>(members: &'a Map<String, Value>, key: &str) -> Option<&'a str>
     ensures { option_map (λ text. text.now) result
         ≡ text_field key.now (object (members_view members.now.entries)) }
 {
-    value_at(members, key).and_then(Value::as_str)
+    field(members, key).and_then(Value::as_str)
 }

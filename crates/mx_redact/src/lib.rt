@@ -15,7 +15,7 @@ mod signing;
 #[cfg(test)]
 mod tests;
 
-pub use fields::{text_at, value_at};
+pub use fields::{field, text_field};
 pub use hashing::{content_digest, content_hash, reference_digest, reference_hash};
 pub use redacting::redact;
 pub use signing::{event_id, id_with_hash, signing_bytes};

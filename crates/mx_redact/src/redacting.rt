@@ -6,7 +6,7 @@ ghost use Rattle.mx_redact.specs.Fields.{kind};
 ghost use Rattle.mx_redact.specs.Redaction.{redact as redacted_form};
 ghost use Rattle.mx_redact.specs.Selected.{kept_content_of};
 
-use crate::fields::text_at;
+use crate::fields::text_field;
 use crate::kinds::{KeptContent, kept_content};
 use crate::selections::{Selection, copy_of};
 use serde_json::{Map, Value};
@@ -27,5 +27,5 @@ pub fn redact(alloc: Global, event: &Map<String, Value>) -> Result<Map<String, V
 pub(crate) fn kept_content_in(event: &Map<String, Value>) -> KeptContent
     ensures { result ≡ kept_content_of (kind (object (members_view event.now.entries))) }
 {
-    kept_content(text_at(event, "type").unwrap_or(""))
+    kept_content(text_field(event, "type").unwrap_or(""))
 }

@@ -6,7 +6,7 @@ ghost use Rattle.mx_canon.specs.Canonical.{canonical_text, member_text, member_n
 ghost use Rattle.mx_canon.specs.Pieces.{comma_if};
 ghost use Rattle.mx_canon.specs.Faults.{fault_of};
 ghost use Rattle.mx_redact.specs.Redaction.{is_among, kept_keys};
-ghost use Rattle.mx_redact.specs.Selected.{is_selected, selected_value, selected, inner_of};
+ghost use Rattle.mx_redact.specs.Selected.{is_in_part, selected_value, selected, inner_of};
 
 use crate::kinds::KeptContent;
 use mx_canon::{NotCanonical, TextSink, check, write_key, write_text};
@@ -29,7 +29,7 @@ pub(crate) enum Selection {
 impl Selection {
     // Whether a key of the event, or of its content, is in the part.
     fn has(self, key: &str) -> bool
-        ensures { result ≡ is_selected self key.now }
+        ensures { result ≡ is_in_part self key.now }
     {
         match self {
             Selection::Hashed => !matches!(key, "unsigned" | "signatures" | "hashes"),

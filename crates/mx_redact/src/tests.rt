@@ -1,6 +1,6 @@
 use crate::{
-    content_digest, content_hash, event_id, plain, redact, reference_digest, reference_hash,
-    signing_bytes, text_at, value_at,
+    content_digest, content_hash, event_id, field, plain, redact, reference_digest, reference_hash,
+    signing_bytes, text_field,
 };
 use mx_canon::{CanonError, NotCanonical, text};
 use serde_json::{Map, Value};
@@ -84,8 +84,8 @@ fn keeps_what_each_type_keeps(rt: HostRuntime) -> Result<(), Fail> {
         event.insert(name, value).map_err(AllocError::from)?;
         let redacted = redact(alloc, &event)?;
         assert_eq!(rt; redacted.len(), 2, "at {kind}");
-        assert_eq!(rt; text_at(&redacted, "type"), Some(kind), "at {kind}");
-        let Some(content) = value_at(&redacted, "content") else {
+        assert_eq!(rt; text_field(&redacted, "type"), Some(kind), "at {kind}");
+        let Some(content) = field(&redacted, "content") else {
             continue;
         };
         assert_eq!(rt;

@@ -19,7 +19,7 @@ use Rattle.mx_receipt.specs.declared.verdicts.Verdict.{Verdict}
 use Rattle.mx_receipt.proofs.GrowthLemmas.{lt-from}
 use Rattle.mx_room.specs.Hosting.{host_error}
 use Rattle.mx_room.specs.Offer.{Offered, as_kept, new_outcome, offer_outcome, refusal_by}
-use Rattle.mx_room.specs.declared.hosting.HostError.TheVariants.{BreaksRule}
+use Rattle.mx_room.specs.declared.hosting.NotARoom.TheVariants.{BreaksRule}
 use Rattle.mx_room.specs.declared.outcomes.Outcome.{Outcome}
 use Rattle.mx_room.specs.declared.outcomes.Outcome.TheVariants as outcome
 use Rattle.mx_room.specs.declared.outcomes.Refusal.TheVariants.{SecondCreate, Signature, MissingEvents, RoomFull}

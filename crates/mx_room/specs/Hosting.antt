@@ -7,11 +7,11 @@ use Rattle.mx_pdu.specs.Event.{has_kind, state_key_of, auth_ids}
 use Rattle.mx_auth.specs.Rules.{rules}
 use Rattle.mx_orders.specs.StateMap.{view}
 use Rattle.mx_room.specs.Offer.{Offered}
-use Rattle.mx_room.specs.declared.hosting.HostError.{HostError}
-use Rattle.mx_room.specs.declared.hosting.HostError.TheVariants.{NotACreateEvent, CitesAuthEvents, Unsigned, BadContentHash, BreaksRule}
+use Rattle.mx_room.specs.declared.hosting.NotARoom.{NotARoom}
+use Rattle.mx_room.specs.declared.hosting.NotARoom.TheVariants.{NotACreateEvent, CitesAuthEvents, Unsigned, BadContentHash, BreaksRule}
 
 -- why a create event makes no room, in the order of the checks
-unfoldable pub host_error : Offered → Option HostError
+unfoldable pub host_error : Offered → Option NotARoom
 host_error o =
     refuse_if (not (has_kind (codes "m.room.create") o.pdu && is_text [] (state_key_of o.pdu))) NotACreateEvent
     (refuse_if (nat_lt 0 (length (auth_ids o.pdu))) CitesAuthEvents

@@ -10,6 +10,7 @@ use mx_auth::{RoomState, Rule, judge};
 use mx_ident::EventId;
 use mx_pdu::{Offered, Pdu};
 use std::alloc::{AllocError, AllocFailed};
+use thiserror::Error;
 
 /// Why an event makes no room, in the order in which it is asked.
 ///
@@ -18,30 +19,37 @@ use std::alloc::{AllocError, AllocFailed};
 /// authorization rule refuses it.
 ///
 /// Source: the Matrix specification, Room Version 6, "Authorization rules", rule 1; the order is ours.
-#[derive(Clone, Copy, Debug, PartialEq, Eq)]
-pub enum HostError {
+#[derive(Clone, Copy, Debug, PartialEq, Eq, Drop, Error)]
+pub enum NotARoom {
+    #[error("not a create event")]
     NotACreateEvent,
+    #[error("cites auth events")]
     CitesAuthEvents,
+    #[error("signature")]
     Unsigned,
+    #[error("content hash")]
     BadContentHash,
+    #[error("rule {0}")]
     BreaksRule(Rule),
 }
 
 /// Why a room is not hosted: no memory was left, or the event makes none.
-#[derive(Clone, Copy, Debug, PartialEq, Eq)]
-pub enum HostFault {
+#[derive(Clone, Copy, Debug, PartialEq, Eq, Drop, Error)]
+pub enum HostError {
+    #[error("out of memory")]
     Memory,
-    NotARoom(HostError),
+    #[error(transparent)]
+    NotARoom(NotARoom),
 }
 
-impl From<AllocError> for HostFault {
+impl From<AllocError> for HostError {
     ghost use Rattle.std.specs.Prelude.{◌≡◌};
-    ghost use Rattle.mx_room.specs.declared.hosting.HostFault.TheVariants.{Memory};
+    ghost use Rattle.mx_room.specs.declared.hosting.HostError.TheVariants.{Memory};
 
     ghost from_gives = { λ _ f. f ≡ Memory };
 
-    fn from(_refused: AllocError) -> HostFault {
-        HostFault::Memory
+    fn from(_refused: AllocError) -> HostError {
+        HostError::Memory
     }
 }
 
@@ -66,20 +74,20 @@ impl RoomState for NoState {
 
 /// Why the event makes no room, where it makes none. It takes no memory.
 #[tactic(auto, unfolding(crate::specs::Hosting::host_error))]
-pub fn hosting_fault(offered: &Offered) -> Option<HostError>
+pub fn hosting_fault(offered: &Offered) -> Option<NotARoom>
     ensures { result ≡ host_error offered.now }
 {
     let event = &offered.pdu;
     if !is_create(event) {
-        Some(HostError::NotACreateEvent)
+        Some(NotARoom::NotACreateEvent)
     } else if cites_auth_events(event) {
-        Some(HostError::CitesAuthEvents)
+        Some(NotARoom::CitesAuthEvents)
     } else if !offered.signed {
-        Some(HostError::Unsigned)
+        Some(NotARoom::Unsigned)
     } else if !event.hash_holds() {
-        Some(HostError::BadContentHash)
+        Some(NotARoom::BadContentHash)
     } else {
-        broken_rule(event).map(HostError::BreaksRule)
+        broken_rule(event).map(NotARoom::BreaksRule)
     }
 }
 

@@ -9,7 +9,7 @@ mod queries;
 mod rooms;
 
 pub use forms::kept_form;
-pub use hosting::{HostError, HostFault, hosting_fault};
+pub use hosting::{HostError, NotARoom, hosting_fault};
 pub use outcomes::{Outcome, Refusal};
 pub use queries::{Denied, Query, QueryReply};
 pub use rooms::Room;

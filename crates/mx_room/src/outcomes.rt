@@ -1,4 +1,6 @@
 // What becomes of an offered event.
+ghost use Rattle.std.specs.Prelude.{◌≡◌};
+
 use mx_receipt::Verdict;
 
 /// Why a room does not keep an offered event, in the order in which it is asked.
@@ -13,6 +15,22 @@ pub enum Refusal {
     Signature,
     MissingEvents,
     RoomFull,
+}
+
+impl Refusal {
+    ghost use Rattle.mx_room.specs.Refusals.{refusal_text};
+
+    /// What a transaction's reply says of an event that is refused so.
+    pub fn text(self) -> &'static str
+        ensures { result.now ≡ refusal_text self }
+    {
+        match self {
+            Refusal::SecondCreate => "second create",
+            Refusal::Signature => "signature",
+            Refusal::MissingEvents => "missing events",
+            Refusal::RoomFull => "room full",
+        }
+    }
 }
 
 /// What becomes of an offered event: it is kept under a verdict, or known already under one, or refused.

@@ -6,10 +6,10 @@ ghost use Rattle.mx_room.specs.Asking.{event_shown, query_answer};
 ghost use Rattle.mx_room.specs.Hosting.{host_error};
 ghost use Rattle.mx_room.specs.Offer.{as_kept, offer_outcome, refusal_by, row_by};
 ghost use Rattle.mx_room.specs.RoomView.{IsHosted, create_id};
-ghost use Rattle.mx_room.specs.declared.hosting.HostError.{HostError as Cause};
+ghost use Rattle.mx_room.specs.declared.hosting.NotARoom.{NotARoom as Cause};
 
 use crate::forms::kept_form;
-use crate::hosting::{HostFault, hosting_fault};
+use crate::hosting::{HostError, hosting_fault};
 use crate::outcomes::{Outcome, Refusal};
 use crate::queries::{Denied, Query, QueryReply};
 use mx_graph::EventNo;
@@ -45,17 +45,17 @@ impl Room {
     /// The room that a create event makes.
     ///
     /// `NotARoom` with the first cause that holds, and `Memory`.
-    pub fn host(alloc: Global, offered: &Offered) -> Result<Room, HostFault>
+    pub fn host(alloc: Global, offered: &Offered) -> Result<Room, HostError>
         ensures hosted { IfOk result (λ room. room ≡ record {
           id = room_of offered.now.pdu;
           kept = receipt.begun offered.now.id offered.now.pdu;
           prepared = None;
         }) }
         ensures free { OnOk result (host_error offered.now ≡ None) }
-        ensures refused { (cause : Cause) → (IsErrOf result (HostFault.NotARoom cause) ↔ (host_error offered.now ≡ Some cause)) }
+        ensures refused { (cause : Cause) → (IsErrOf result (HostError.NotARoom cause) ↔ (host_error offered.now ≡ Some cause)) }
     {
         if let Some(error) = hosting_fault(offered) {
-            return Err(HostFault::NotARoom(error));
+            return Err(HostError::NotARoom(error));
         }
         let room = begun(alloc, offered)?;
         Ok(room)

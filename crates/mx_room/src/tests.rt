@@ -1,5 +1,5 @@
 use crate::{
-    Denied, HostError, HostFault, Outcome, Query, QueryReply, Refusal, Room, hosting_fault,
+    Denied, HostError, NotARoom, Outcome, Query, QueryReply, Refusal, Room, hosting_fault,
 };
 use mx_ident::EventId;
 use mx_pdu::{Offered, Pdu};
@@ -191,7 +191,7 @@ fn offered_word(alloc: Global, word: &str) -> Result<Offered, AllocError> {
 }
 
 // The room that `create` makes, or why there is none.
-fn hosted(alloc: Global) -> Result<Room, HostFault> {
+fn hosted(alloc: Global) -> Result<Room, HostError> {
     let create = offered(alloc, "$1", "create", true)?;
     Room::host(alloc, &create)
 }
@@ -217,13 +217,13 @@ fn is_create(event: Option<&Pdu>) -> bool {
     }
 }
 
-fn cause_word(error: HostError) -> &'static str {
+fn cause_word(error: NotARoom) -> &'static str {
     match error {
-        HostError::NotACreateEvent => "not a create event",
-        HostError::CitesAuthEvents => "cites auth events",
-        HostError::Unsigned => "signature",
-        HostError::BadContentHash => "content hash",
-        HostError::BreaksRule(rule) => rule.label(),
+        NotARoom::NotACreateEvent => "not a create event",
+        NotARoom::CitesAuthEvents => "cites auth events",
+        NotARoom::Unsigned => "signature",
+        NotARoom::BadContentHash => "content hash",
+        NotARoom::BreaksRule(rule) => rule.label(),
     }
 }
 
@@ -231,12 +231,12 @@ fn cause_word(error: HostError) -> &'static str {
 fn host_word(alloc: Global, offered: &Offered) -> &'static str {
     match Room::host(alloc, offered) {
         Ok(_) => "hosted",
-        Err(HostFault::Memory) => "memory",
-        Err(HostFault::NotARoom(error)) => cause_word(error),
+        Err(HostError::Memory) => "memory",
+        Err(HostError::NotARoom(error)) => cause_word(error),
     }
 }
 
-fn fault_word(fault: Option<HostError>) -> &'static str {
+fn fault_word(fault: Option<NotARoom>) -> &'static str {
     match fault {
         None => "hosted",
         Some(error) => cause_word(error),
@@ -443,6 +443,6 @@ fn room_or_no_memory(rt: HostRuntime) {
                 assert_eq!(rt; found.as_str(), "kept accepted {\"membership\":\"join\"}");
             }
         }
-        Err(fault) => assert!(rt; fault == HostFault::Memory),
+        Err(fault) => assert!(rt; fault == HostError::Memory),
     }
 }

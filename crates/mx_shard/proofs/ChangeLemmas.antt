@@ -9,7 +9,7 @@ use Rattle.mx_receipt.specs.Receipt.{Kept}
 use Rattle.mx_room.specs.Hosting.{host_error}
 use Rattle.mx_room.specs.Offer.{Offered, offer_outcome, row_by}
 use Rattle.mx_room.specs.RoomView.{RoomView, IsHosted}
-use Rattle.mx_room.specs.declared.hosting.HostError.{HostError}
+use Rattle.mx_room.specs.declared.hosting.NotARoom.{NotARoom}
 use Rattle.mx_room.specs.declared.outcomes.Outcome.{Outcome}
 use Rattle.mx_shard.specs.LoneRoom.{to_host, to_offer, answer, added, hosting, first_rows}
 use Rattle.mx_shard.specs.Inside.{no_room, room_at, rows_in, IsReady, IsNumbered, number_of, with_prepared}
@@ -50,7 +50,7 @@ written_back len items given whole same =
 
 -- ---- a room that is not hosted
 
-pub not_host : (kept : List Kept) (o : Offered) (error : HostError) → kept ≡ [] → host_error o ≡ Some error → IsAnswered kept (to_host o) (NotHost error)
+pub not_host : (kept : List Kept) (o : Offered) (error : NotARoom) → kept ≡ [] → host_error o ≡ Some error → IsAnswered kept (to_host o) (NotHost error)
 not_host kept o error none is = record {
   answer = ap (hosting o) (sym is) ∙ ap (λ rows. answer rows (to_host o)) (sym none);
   nothing = ap (λ rows. added rows (to_host o)) none ∙ ap (first_rows o) is;

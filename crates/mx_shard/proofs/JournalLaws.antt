@@ -14,7 +14,7 @@ use Rattle.mx_keeper.specs.Places.{PlaceView, is_at}
 use Rattle.mx_receipt.specs.Receipt.{Kept, begun, received, rows_of, kept_at, lacks_cited, verdict}
 use Rattle.mx_room.specs.Hosting.{host_error}
 use Rattle.mx_room.specs.Offer.{Offered, as_kept, new_outcome, offer_outcome, row_by}
-use Rattle.mx_room.specs.declared.hosting.HostError.{HostError}
+use Rattle.mx_room.specs.declared.hosting.NotARoom.{NotARoom}
 use Rattle.mx_room.specs.declared.outcomes.Outcome.{Outcome}
 use Rattle.mx_room.specs.declared.outcomes.Outcome.TheVariants as outcome
 use Rattle.mx_room.specs.declared.outcomes.Refusal.{Refusal}
@@ -87,7 +87,7 @@ on_filled : (kept : List Kept) (call : Call) → IsFilled kept → fold received
 on_filled (k ∷ ks) call h = received-call k ks call
 on_filled [] call h = elim h [ ]
 
-record-first : (room : List ℕ) (caller : ℕ) (o : Offered) (error : Option HostError) → record_by (map (entry_of room caller) (first_rows o error)) ≡ first_rows o error
+record-first : (room : List ℕ) (caller : ℕ) (o : Offered) (error : Option NotARoom) → record_by (map (entry_of room caller) (first_rows o error)) ≡ first_rows o error
 record-first room caller o None = refl
 record-first room caller o (Some error) = refl
 

@@ -18,8 +18,8 @@ use Rattle.mx_receipt.specs.Receipt.{Kept, begun, received, judged, rows_of, kep
 use Rattle.mx_receipt.specs.declared.verdicts.Verdict.{Verdict}
 use Rattle.mx_room.specs.Hosting.{host_error}
 use Rattle.mx_room.specs.Offer.{Offered, as_kept, new_outcome, offer_outcome, row_by}
-use Rattle.mx_room.specs.declared.hosting.HostError.{HostError}
-use Rattle.mx_room.specs.declared.hosting.HostError.TheVariants.{NotACreateEvent, CitesAuthEvents, Unsigned}
+use Rattle.mx_room.specs.declared.hosting.NotARoom.{NotARoom}
+use Rattle.mx_room.specs.declared.hosting.NotARoom.TheVariants.{NotACreateEvent, CitesAuthEvents, Unsigned}
 use Rattle.mx_room.specs.declared.outcomes.Outcome.{Outcome}
 use Rattle.mx_room.specs.declared.outcomes.Outcome.TheVariants as outcome
 use Rattle.mx_room.specs.declared.outcomes.Refusal.TheVariants.{SecondCreate, Signature, MissingEvents, RoomFull}
@@ -200,7 +200,7 @@ first-signed o e =
     let third = not_refused (not o.signed) Unsigned _ second.1 in
     ap (λ (signed : Bool). host_error (record { pdu = o.pdu; id = o.id; signed = signed })) (sym (not-false o.signed third.0)) ∙ e
 
-legal-first : (room : List ℕ) (caller : ℕ) (o : Offered) (error : Option HostError) → host_error o ≡ error → room_of o.pdu ≡ room → are_legal (map (entry_of room caller) (first_rows o error)) ≡ true
+legal-first : (room : List ℕ) (caller : ℕ) (o : Offered) (error : Option NotARoom) → host_error o ≡ error → room_of o.pdu ≡ room → are_legal (map (entry_of room caller) (first_rows o error)) ≡ true
 legal-first room caller o (Some error) is at = refl
 legal-first room caller o None is at =
     let first = ap is_none (first-signed o is) in

@@ -180,9 +180,9 @@ placed_same cmp m n keys placed same = record { each = λ q. same q ∙ placed.e
 record Decided {K : Type 0} (cmp : K → K → Ordering) (test : K → K → Bool) : Type 0 where
   each : (key other : K) → is_eq (cmp key other) ≡ test other key
 
-place_of : {A K : Type 0} (cmp : K → K → Ordering) (test : K → K → Bool) (f : A → K) (xs : List A) (m : BTreeMap K ℕ) (key : K) → Decided cmp test → IsPlaced cmp m (map f xs) →
+placed_at : {A K : Type 0} (cmp : K → K → Ordering) (test : K → K → Bool) (f : A → K) (xs : List A) (m : BTreeMap K ℕ) (key : K) → Decided cmp test → IsPlaced cmp m (map f xs) →
     get cmp m key ≡ position_from (λ x. test (f x) key) 0 xs
-place_of cmp test f xs m key decided placed =
+placed_at cmp test f xs m key decided placed =
     placed.each key ∙ position-map (λ other. is_eq (cmp key other)) f 0 xs
     ∙ ap (λ t. position_from t 0 xs) (fun_ext (λ x. decided.each key (f x)))
 
@@ -191,10 +191,10 @@ text_decided = record { each = λ key other. turned (slice_cmp nat_cmp) nat_list
 
 module _ {A : Type 0} (f : A → List ℕ) (xs : List A) (m : BTreeMap (List ℕ) ℕ) (placed : IsPlaced (slice_cmp nat_cmp) m (map f xs)) where
   pub text_found : (key : List ℕ) (n : ℕ) → get (slice_cmp nat_cmp) m key ≡ Some n → IsFound (λ x. bytes_eq (f x) key) xs n
-  text_found key n h = found_first (λ x. bytes_eq (f x) key) n xs (sym (place_of (slice_cmp nat_cmp) (λ a b. bytes_eq a b) f xs m key text_decided placed) ∙ h)
+  text_found key n h = found_first (λ x. bytes_eq (f x) key) n xs (sym (placed_at (slice_cmp nat_cmp) (λ a b. bytes_eq a b) f xs m key text_decided placed) ∙ h)
 
   pub text_missing : (key : List ℕ) → get (slice_cmp nat_cmp) m key ≡ None → find (λ x. bytes_eq (f x) key) xs ≡ None
-  text_missing key h = missing_from (λ x. bytes_eq (f x) key) 0 xs (sym (place_of (slice_cmp nat_cmp) (λ a b. bytes_eq a b) f xs m key text_decided placed) ∙ h)
+  text_missing key h = missing_from (λ x. bytes_eq (f x) key) 0 xs (sym (placed_at (slice_cmp nat_cmp) (λ a b. bytes_eq a b) f xs m key text_decided placed) ∙ h)
 
   -- each is the first with its key
   pub text_once : (n : ℕ) (d : A) → n < length xs → find (λ x. bytes_eq (f x) (f (get_or xs n d))) xs ≡ Some (get_or xs n d)

@@ -6,7 +6,7 @@ use Rattle.mx_receipt.specs.Receipt.{Kept, begun}
 use Rattle.mx_room.specs.Offer.{Offered, offer_outcome, row_by}
 use Rattle.mx_room.specs.Hosting.{host_error}
 use Rattle.mx_room.specs.Asking.{room_named, query_answer}
-use Rattle.mx_room.specs.declared.hosting.HostError.{HostError}
+use Rattle.mx_room.specs.declared.hosting.NotARoom.{NotARoom}
 use Rattle.mx_room.specs.declared.queries.Query.{Query}
 use Rattle.mx_room.specs.declared.queries.Query.TheVariants.{Event as ask_event}
 use Rattle.mx_room.specs.declared.queries.Denied.TheVariants.{NotFound}
@@ -27,11 +27,11 @@ call_room (to_host o) = Some (room_of o.pdu)
 call_room (to_offer origin o) = Some (room_of o.pdu)
 call_room (to_ask origin now q) = room_named q
 
-abbrev pub hosting : Offered → Option HostError → Answer
+abbrev pub hosting : Offered → Option NotARoom → Answer
 hosting o None = Hosted o.id
 hosting o (Some error) = NotHost error
 
-abbrev pub first_rows : Offered → Option HostError → List Kept
+abbrev pub first_rows : Offered → Option NotARoom → List Kept
 first_rows o None = begun o.id o.pdu
 first_rows o (Some error) = []
 

@@ -1,6 +1,6 @@
 // A room's answers.
 use mx_ident::EventId;
-use mx_room::{Denied, HostError, Outcome, QueryReply};
+use mx_room::{Denied, NotARoom, Outcome, QueryReply};
 
 /// What a room answers to a call.
 ///
@@ -12,7 +12,7 @@ pub enum Answer {
     NotHosted,
     Hosted(EventId),
     AlreadyHosted(EventId),
-    NotHost(HostError),
+    NotHost(NotARoom),
     ToOffered(Outcome),
     ToAsked(Result<QueryReply, Denied>),
 }

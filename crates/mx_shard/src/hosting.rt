@@ -9,7 +9,7 @@ use crate::storing::row_for;
 use mx_ident::{EventId, RoomId};
 use mx_keeper::ShardRow;
 use mx_pdu::Offered;
-use mx_room::{HostFault, Room};
+use mx_room::{HostError, Room};
 use std::alloc::{AllocError, Global};
 use std::collections::BTreeMap;
 
@@ -49,8 +49,8 @@ pub(crate) fn hosting_in(
             let row = row_for(offered, event, caller)?;
             Ok(Hosting::Made(NewRoom { room, id, row }))
         }
-        Err(HostFault::NotARoom(error)) => Ok(Hosting::Answered(Answer::NotHost(error))),
-        Err(HostFault::Memory) => Err(AllocError),
+        Err(HostError::NotARoom(error)) => Ok(Hosting::Answered(Answer::NotHost(error))),
+        Err(HostError::Memory) => Err(AllocError),
     }
 }
 

@@ -6,12 +6,11 @@ mod asking;
 mod hosting;
 mod journal_places;
 mod offering;
-mod refusals;
 mod shards;
 mod storing;
 
 pub use answers::Answer;
-pub use refusals::ShardError;
+pub use mx_keeper::CallError;
 pub use shards::Shard;
 
 #[cfg(test)]

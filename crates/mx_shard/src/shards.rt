@@ -13,10 +13,9 @@ use crate::asking::answer_in;
 use crate::hosting::{Hosting, add_room, hosting_in, remove_room, reserve_room};
 use crate::journal_places::JournalPlace;
 use crate::offering::{Offering, discard_in, install_in, offering_in};
-use crate::refusals::ShardError;
 use crate::storing::store;
 use mx_ident::RoomId;
-use mx_keeper::{Keeper, KeeperFault, Place, ShardRow};
+use mx_keeper::{CallError, Keeper, KeeperFault, Place, ShardRow};
 use mx_pdu::Offered;
 use mx_room::{Query, Room};
 use std::alloc::Global;
@@ -62,7 +61,7 @@ impl<K: Keeper<Row = ShardRow>> Shard<K> {
     ///
     /// `Memory` where no memory is left. `Storage` where the keeper failed, or has rows or what does not read as rows.
     /// A refused call drops the keeper.
-    pub fn reopen(alloc: Global, keeper: K, place: Place) -> Result<Shard<K>, ShardError>
+    pub fn reopen(alloc: Global, keeper: K, place: Place) -> Result<Shard<K>, CallError>
         ensures journal { IfOk result (λ shard. shard.journal ≡ []) }
         ensures place { IfOk result (λ shard. shard.place ≡ place) }
         ensures taken { IfOk result (λ shard. shard.is_refused ≡ false) }
@@ -70,14 +69,14 @@ impl<K: Keeper<Row = ShardRow>> Shard<K> {
         ensures crash { IfOk result (λ shard. K.is_honest shard.keeper → (left : Option (List ShardRow)) → K.may_leave shard.keeper left → K.may_leave keeper left) }
 
         // What became of the keeper tells why.
-        ensures storage { result ≡ Err ShardError.Storage → (after : K) × (K.is_honest after → K.is_honest keeper)
+        ensures storage { result ≡ Err CallError.Storage → (after : K) × (K.is_honest after → K.is_honest keeper)
             × (Rose (K.failed keeper) (K.failed after) ⊎ (K.is_honest after → K.is_open keeper → K.rows keeper ≢ Some [])) }
     {
         let mut keeper = keeper;
         match keeper.rows() {
             Ok(rows) => {
                 if !rows.is_empty() {
-                    return Err(ShardError::Storage);
+                    return Err(CallError::Storage);
                 }
                 Ok(Shard {
                     alloc,
@@ -89,9 +88,9 @@ impl<K: Keeper<Row = ShardRow>> Shard<K> {
                     journal: Vec::new(alloc),
                 })
             }
-            Err(KeeperFault::Memory) => Err(ShardError::Memory),
-            Err(KeeperFault::Store) => Err(ShardError::Storage),
-            Err(KeeperFault::Table) => Err(ShardError::Storage),
+            Err(KeeperFault::Memory) => Err(CallError::Memory),
+            Err(KeeperFault::Store) => Err(CallError::Storage),
+            Err(KeeperFault::Table) => Err(CallError::Storage),
         }
     }
 
@@ -113,16 +112,16 @@ impl<K: Keeper<Row = ShardRow>> Shard<K> {
     ///
     /// `Memory` where no memory is left. `Storage` where the keeper's count of failures rose in this call, or an earlier
     /// call was refused so; from then on the shard answers `Storage`. At an error the journal stays.
-    pub fn host(&mut self, caller: u64, offered: &Offered) -> Result<Answer, ShardError>
+    pub fn host(&mut self, caller: u64, offered: &Offered) -> Result<Answer, CallError>
         requires { IsTrue (is_at self.old.place (room_of offered.now.pdu)) }
         ensures reply { IfOk result (λ reply. reply ≡ answer (record_of self.old.journal (room_of offered.now.pdu)) (to_host offered.now)) }
         ensures journal { OnOk result (self.new.journal ≡ journal_after self.old.journal caller (room_of offered.now.pdu) (to_host offered.now)) }
         ensures err { OnErr result (self.new.journal ≡ self.old.journal) }
         ensures place { self.new.place ≡ self.old.place }
 
-        ensures storage { result ≡ Err ShardError.Storage → (self.old.is_refused ≡ true) ⊎ Rose (K.failed self.old.keeper) (K.failed self.new.keeper) }
-        ensures refused { IsErrOf result ShardError.Storage ↔ (self.new.is_refused ≡ true) }
-        ensures stays_refused { self.old.is_refused ≡ true → result ≡ Err ShardError.Storage }
+        ensures storage { result ≡ Err CallError.Storage → (self.old.is_refused ≡ true) ⊎ Rose (K.failed self.old.keeper) (K.failed self.new.keeper) }
+        ensures refused { IsErrOf result CallError.Storage ↔ (self.new.is_refused ≡ true) }
+        ensures stays_refused { self.old.is_refused ≡ true → result ≡ Err CallError.Storage }
         ensures counted { K.failed self.old.keeper ≤ K.failed self.new.keeper }
 
         // After `Ok` a crash leaves the rows of the journal. At each exit it leaves what it might have left before the
@@ -133,7 +132,7 @@ impl<K: Keeper<Row = ShardRow>> Shard<K> {
             → K.may_leave self.old.keeper left ⊎ (left ≡ Some (stored (journal_after self.old.journal caller (room_of offered.now.pdu) (to_host offered.now)))) }
     {
         if self.is_refused {
-            return Err(ShardError::Storage);
+            return Err(CallError::Storage);
         }
         match hosting_in(self.alloc, &self.rooms, &self.numbers, caller, offered)? {
             Hosting::Answered(answer) => Ok(answer),
@@ -155,16 +154,16 @@ impl<K: Keeper<Row = ShardRow>> Shard<K> {
     /// The errors are those of [`host`](Shard::host).
     ///
     /// Source: the Matrix specification, Server-Server API, "Checks performed on receipt of a PDU".
-    pub fn offer(&mut self, caller: u64, offered: &Offered) -> Result<Answer, ShardError>
+    pub fn offer(&mut self, caller: u64, offered: &Offered) -> Result<Answer, CallError>
         requires { IsTrue (is_at self.old.place (room_of offered.now.pdu)) }
         ensures reply { IfOk result (λ reply. (origin : List ℕ) → reply ≡ answer (record_of self.old.journal (room_of offered.now.pdu)) (to_offer origin offered.now)) }
         ensures journal { OnOk result ((origin : List ℕ) → self.new.journal ≡ journal_after self.old.journal caller (room_of offered.now.pdu) (to_offer origin offered.now)) }
         ensures err { OnErr result (self.new.journal ≡ self.old.journal) }
         ensures place { self.new.place ≡ self.old.place }
 
-        ensures storage { result ≡ Err ShardError.Storage → (self.old.is_refused ≡ true) ⊎ Rose (K.failed self.old.keeper) (K.failed self.new.keeper) }
-        ensures refused { IsErrOf result ShardError.Storage ↔ (self.new.is_refused ≡ true) }
-        ensures stays_refused { self.old.is_refused ≡ true → result ≡ Err ShardError.Storage }
+        ensures storage { result ≡ Err CallError.Storage → (self.old.is_refused ≡ true) ⊎ Rose (K.failed self.old.keeper) (K.failed self.new.keeper) }
+        ensures refused { IsErrOf result CallError.Storage ↔ (self.new.is_refused ≡ true) }
+        ensures stays_refused { self.old.is_refused ≡ true → result ≡ Err CallError.Storage }
         ensures counted { K.failed self.old.keeper ≤ K.failed self.new.keeper }
 
         // As of `host`.
@@ -174,7 +173,7 @@ impl<K: Keeper<Row = ShardRow>> Shard<K> {
             → K.may_leave self.old.keeper left ⊎ ((origin : List ℕ) → left ≡ Some (stored (journal_after self.old.journal caller (room_of offered.now.pdu) (to_offer origin offered.now)))) }
     {
         if self.is_refused {
-            return Err(ShardError::Storage);
+            return Err(CallError::Storage);
         }
         self.journal.reserve(1)?;
         match offering_in(self.alloc, &mut self.rooms, &self.numbers, caller, offered)? {
@@ -195,15 +194,15 @@ impl<K: Keeper<Row = ShardRow>> Shard<K> {
     ///
     /// `Memory` where no memory is left. `Storage` exactly where an earlier call was refused so. The time of a query by
     /// an event's id alone is that of a look-up in each room.
-    pub fn ask(&self, query: &Query) -> Result<Answer, ShardError>
+    pub fn ask(&self, query: &Query) -> Result<Answer, CallError>
         ensures reply { IfOk result (λ reply. (origin : List ℕ) (now : ℕ)
             → IsAnswer (record_of self.now.journal) (to_ask origin now query.now) (call_room (to_ask origin now query.now)) reply) }
         // Each room is of this place.
         ensures here { All (λ entry. IsTrue (is_at self.now.place entry.room)) self.now.journal }
-        ensures storage { IsErrOf result ShardError.Storage ↔ (self.now.is_refused ≡ true) }
+        ensures storage { IsErrOf result CallError.Storage ↔ (self.now.is_refused ≡ true) }
     {
         if self.is_refused {
-            return Err(ShardError::Storage);
+            return Err(CallError::Storage);
         }
         let answer = answer_in(&self.rooms, query)?;
         Ok(answer)

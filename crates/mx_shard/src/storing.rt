@@ -4,8 +4,7 @@ ghost use Rattle.mx_keeper.specs.Keeping.{with_row, Rose};
 ghost use Rattle.mx_keeper.specs.declared.rows.ShardRow.{ShardRow};
 ghost use Rattle.mx_pdu.specs.Event.{room_of};
 
-use crate::refusals::ShardError;
-use mx_keeper::{Keeper, KeeperFault, ShardRow};
+use mx_keeper::{CallError, Keeper, KeeperFault, ShardRow};
 use mx_pdu::{Offered, Pdu};
 use std::alloc::AllocError;
 
@@ -28,10 +27,10 @@ pub(crate) fn store<K: Keeper<Row = ShardRow>>(
     keeper: &mut K,
     is_refused: &mut bool,
     row: &ShardRow,
-) -> Result<(), ShardError>
+) -> Result<(), CallError>
     requires { is_refused.old ≡ false }
-    ensures refused { IsErrOf result ShardError.Storage ↔ (is_refused.new ≡ true) }
-    ensures storage { result ≡ Err ShardError.Storage → Rose (K.failed keeper.old) (K.failed keeper.new) }
+    ensures refused { IsErrOf result CallError.Storage ↔ (is_refused.new ≡ true) }
+    ensures storage { result ≡ Err CallError.Storage → Rose (K.failed keeper.old) (K.failed keeper.new) }
     ensures counted { K.failed keeper.old ≤ K.failed keeper.new }
     ensures honest { K.is_honest keeper.new → K.is_honest keeper.old }
     ensures ok { K.is_honest keeper.new → OnOk result (K.is_open keeper.new × (K.rows keeper.new ≡ with_row (K.rows keeper.old) row.now)) }
@@ -44,10 +43,10 @@ pub(crate) fn store<K: Keeper<Row = ShardRow>>(
 {
     match keeper.append(row) {
         Ok(()) => Ok(()),
-        Err(KeeperFault::Memory) => Err(ShardError::Memory),
+        Err(KeeperFault::Memory) => Err(CallError::Memory),
         Err(KeeperFault::Store) => {
             *is_refused = true;
-            Err(ShardError::Storage)
+            Err(CallError::Storage)
         }
         Err(KeeperFault::Table) => unreachable!(),
     }

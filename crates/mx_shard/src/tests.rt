@@ -1,4 +1,4 @@
-use crate::{Answer, Shard, ShardError};
+use crate::{Answer, CallError, Shard};
 use mx_ident::EventId;
 use mx_keeper::{Keeper, KeeperFault, MemoryKeeper, Place, ShardRow};
 use mx_pdu::{Offered, Pdu};
@@ -68,7 +68,7 @@ fn tell<K: Keeper<Row = ShardRow>>(
     shard: &mut Shard<K>,
     caller: u64,
     call: &str,
-) -> Result<&'static str, ShardError> {
+) -> Result<&'static str, CallError> {
     let mut words = call.split(' ');
     let kind = words.next().unwrap_or("");
     let id = words.next().unwrap_or("");
@@ -117,7 +117,7 @@ fn outcome_word(outcome: Outcome) -> &'static str {
     }
 }
 
-fn shard_at(alloc: Global, place: Place) -> Result<Shard<MemoryKeeper<ShardRow>>, ShardError> {
+fn shard_at(alloc: Global, place: Place) -> Result<Shard<MemoryKeeper<ShardRow>>, CallError> {
     Shard::reopen(alloc, MemoryKeeper::new(alloc), place)
 }
 
@@ -126,7 +126,7 @@ fn told_by<K: Keeper<Row = ShardRow>>(
     alloc: Global,
     shard: &mut Shard<K>,
     calls: &[&str],
-) -> Result<String, ShardError> {
+) -> Result<String, CallError> {
     let mut lines = String::new(alloc);
     let mut caller: u64 = 0;
     for call in calls {
@@ -198,7 +198,7 @@ fn answers_or_no_memory(rt: HostRuntime) {
     ));
     match told {
         Ok(lines) => assert_eq!(rt; lines.as_str(), TOLD),
-        Err(error) => assert_eq!(rt; error, ShardError::Memory),
+        Err(error) => assert_eq!(rt; error, CallError::Memory),
     }
 }
 
@@ -219,7 +219,7 @@ fn rows_of_what_is_kept(rt: HostRuntime) -> Result<(), Fail> {
     }
     assert_eq!(rt; lines.as_str(), ROWS);
     let again = Shard::reopen(alloc, keeper, Place::new(0, 1));
-    assert_eq!(rt; again.err(), Some(ShardError::Storage));
+    assert_eq!(rt; again.err(), Some(CallError::Storage));
     Ok(())
 }
 
@@ -304,9 +304,9 @@ fn refused_from_the_first_failure(rt: HostRuntime) -> Result<(), Fail> {
     for (call, refusal) in [
         ("host $c create", None),
         ("ask $c", None),
-        ("offer $jr join_r", Some(ShardError::Storage)),
-        ("host $d create_s", Some(ShardError::Storage)),
-        ("ask $c", Some(ShardError::Storage)),
+        ("offer $jr join_r", Some(CallError::Storage)),
+        ("host $d create_s", Some(CallError::Storage)),
+        ("ask $c", Some(CallError::Storage)),
     ] {
         assert_eq!(rt; tell(alloc, &mut shard, 0, call).err(), refusal);
     }

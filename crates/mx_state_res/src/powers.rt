@@ -9,7 +9,7 @@ ghost use Rattle.mx_state_res.specs.Resolution as definition;
 use crate::event_sets::within;
 use mx_graph::{EventNo, Graph};
 use mx_pdu::Pdu;
-use mx_redact::text_at;
+use mx_redact::text_field;
 use std::alloc::{AllocError, Global};
 
 /// The power events of these events, and those of them that are in the auth chains of the power events, rising.
@@ -64,7 +64,7 @@ fn is_power_event(event: &Pdu) -> bool
 fn is_removal(event: &Pdu) -> bool
     ensures { result ≡ definition.is_removal event.now }
 {
-    let membership = text_at(event.content(), "membership");
+    let membership = text_field(event.content(), "membership");
     event.kind() == "m.room.member"
         && (is_that_text(membership, "leave") || is_that_text(membership, "ban"))
         && !is_that_text(event.state_key(), event.sender().as_str())

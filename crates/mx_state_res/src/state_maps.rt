@@ -46,7 +46,7 @@ impl StateMap {
     pub fn get(&self, kind: &str, state_key: &str) -> Option<EventNo>
         ensures { result ≡ entry self.now (kind.now, state_key.now) }
     {
-        match place_of(&self.entries, kind, state_key) {
+        match entry_place(&self.entries, kind, state_key) {
             Ok(place) => Some(self.entries[place].event()),
             Err(_) => None,
         }
@@ -59,7 +59,7 @@ impl StateMap {
         ensures ok { OnOk result (self.new ≡ put key_cmp (kind.now, state_key.now) event self.old) }
         ensures err { OnErr result (self.new ≡ self.old) }
     {
-        match place_of(&self.entries, kind, state_key) {
+        match entry_place(&self.entries, kind, state_key) {
             Ok(place) => self.entries[place].set_event(event),
             Err(place) => {
                 let entry = StateEntry::new(self.alloc, kind, state_key, event)?;
@@ -80,7 +80,7 @@ impl StateMap {
 }
 
 // The place of the entry at a key, or the one where it would stand.
-fn place_of(entries: &[StateEntry], kind: &str, state_key: &str) -> Result<usize, usize>
+fn entry_place(entries: &[StateEntry], kind: &str, state_key: &str) -> Result<usize, usize>
     requires { T (is_sorted key_cmp entries.now) }
     ensures found { IfOk result (IsAt (kind.now, state_key.now) entries.now) }
     ensures absent { IfErr result (IsGapFor (kind.now, state_key.now) entries.now) }

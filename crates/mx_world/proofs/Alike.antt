@@ -20,7 +20,7 @@ use Rattle.mx_room.specs.declared.queries.Query.{Query}
 use Rattle.mx_room.specs.declared.queries.Query.TheVariants.{Event as ask_event}
 use Rattle.mx_shard.specs.declared.answers.Answer.{Answer}
 use Rattle.mx_shard.specs.declared.answers.Answer.TheVariants.{NotHosted, Hosted, AlreadyHosted, NotHost, ToOffered, ToAsked}
-use Rattle.mx_book.specs.declared.pairs.Pair.{Pair}
+use Rattle.mx_book.specs.declared.transaction_keys.TransactionKey.{TransactionKey}
 use Rattle.mx_world.specs.declared.steps.Step.{Step}
 use Rattle.mx_world.specs.declared.steps.Step.TheVariants.{Host, Open, Next, Close, Ask}
 use Rattle.mx_world.specs.declared.steps.StepReply.{StepReply}
@@ -149,8 +149,8 @@ ask_told : (rows : List ℕ → List Kept) (room origin : List ℕ) (now : ℕ) 
 ask_told rows room origin now (ask_event id) (OfRoom a) h apart = shown_told rows room origin now id a h apart
 ask_told rows room origin now (ask_event id) reply h apart = absurd h
 
-step_told : (rows : List ℕ → List Kept) (st : Pair → Status) (room : List ℕ) (left : Pair → List Offered) (step : Step) (reply : StepReply) →
-    IsReply rows st step reply → IdsApart rows → ((p : Pair) → rest_of (st p) ≡ left p) →
+step_told : (rows : List ℕ → List Kept) (st : TransactionKey → Status) (room : List ℕ) (left : TransactionKey → List Offered) (step : Step) (reply : StepReply) →
+    IsReply rows st step reply → IdsApart rows → ((p : TransactionKey) → rest_of (st p) ≡ left p) →
     heard_answer (rows room) (call_of room left step) (answers_in reply) ≡ answers_alone (rows room) (heard (rows room) (call_of room left step))
 step_told rows st room left (Host o) reply h apart same_rest =
     room_told rows room (room_of o.pdu) (to_host o) reply refl h

@@ -2,7 +2,7 @@
 use Rattle.std.proofs.Common.{◌≡◌, ℕ, zero, suc, ◌+◌, ◌<◌, ◌≤◌, List, [], ◌∷◌, ◌++◌, length, get_or, map, replicate, refl, sym, ◌∙◌, ap, arith, inl, inr}
 use Rattle.std.proofs.lemmas.List.{length-map, length-replicate, map_push, length_push, get_or_push, get_or_append_left, replicate_more}
 use Rattle.std.proofs.Math.Nat.{eq-or-lt_of_le}
-use Rattle.mx_keeper.specs.Places.{PlaceView, place_of}
+use Rattle.mx_keeper.specs.Places.{PlaceView, place_number}
 use Rattle.mx_shard.specs.Journal.{Entry, record_of}
 use Rattle.mx_world.specs.Worlds.{records_of}
 use Rattle.mx_world.specs.Inside.{ArePlaced}
@@ -52,4 +52,4 @@ nothing_of room = refl
 
 pub no-records : (journals : List (List Entry)) (n : ℕ) → journals ≡ replicate n [] → (room : List ℕ) → records_of journals room ≡ []
 no-records journals n none room =
-    ap (λ js. record_of (get_or js (place_of (length journals) room) []) room) none ∙ ap (λ j. record_of j room) (nothing_at n (place_of (length journals) room)) ∙ nothing_of room
+    ap (λ js. record_of (get_or js (place_number (length journals) room) []) room) none ∙ ap (λ j. record_of j room) (nothing_at n (place_number (length journals) room)) ∙ nothing_of room

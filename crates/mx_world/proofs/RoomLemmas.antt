@@ -4,7 +4,7 @@ use Rattle.std.specs.Prelude.{All, Ok, Err, if◌then◌else◌}
 use Rattle.std.proofs.lemmas.Bool.{false≢true, eqb-true}
 use Rattle.std.proofs.lemmas.List.{get_or_default}
 use Rattle.std.proofs.Math.Nat.{eq-or-lt_of_le}
-use Rattle.mx_keeper.specs.Places.{place_of, is_at}
+use Rattle.mx_keeper.specs.Places.{place_number, is_at}
 use Rattle.mx_receipt.specs.Receipt.{Kept}
 use Rattle.mx_room.specs.Offer.{Offered, offer_outcome}
 use Rattle.mx_room.specs.declared.outcomes.Outcome.{Outcome}
@@ -66,7 +66,7 @@ none-shown {K = K} shards n (ask_event id) placed all none origin now = (refl, �
     in_some : (ss : List (ShardView K)) → ArePlaced (shard_places ss) → length ss ≤ n → NoneShown ss n (ask_event id) → (room : List ℕ) → answer (records_of (shard_journals ss) room) (to_ask origin now (ask_event id)) ≡ ToAsked (Err NotFound)
     in_some [] placed all none room = absurd (let some : 0 < 0 = placed.some in omega arith)
     in_some (s ∷ ss) placed all none room =
-        let k : ℕ = place_of (length (s ∷ ss)) room in
+        let k : ℕ = place_number (length (s ∷ ss)) room in
         let within : k < length (s ∷ ss) = omega arith in
         ap (λ j. answer (record_of j room) (to_ask origin now (ask_event id))) (journal_at-get (s ∷ ss) (λ (v : ShardView K). v.journal) k s room refl within)
         ∙ none k s (let l : k < n = omega arith in l) origin now room
@@ -79,7 +79,7 @@ shown-in {K = K} shards n shard query a placed l is here h origin now told = by_
     own : (room : List ℕ) → IsTrue (is_at shard.place room) → record_of shard.journal room ≡ records_of (shard_journals shards) room
     own room at =
         let where_it_is : shard.place ≡ record { number = n; count = length shards } = ap (λ (s : ShardView K). s.place) is ∙ placed-get shards (λ s. s.place) n shard placed l in
-        let number : place_of (length shards) room ≡ n = eqb-true (place_of (length shards) room) n (ap (λ p. is_at p room) (sym where_it_is) ∙ at) in
+        let number : place_number (length shards) room ≡ n = eqb-true (place_number (length shards) room) n (ap (λ p. is_at p room) (sym where_it_is) ∙ at) in
         ap (λ (s : ShardView K). record_of s.journal room) is ∙ ap (λ j. record_of j room) (sym (journal_at-get shards (λ (s : ShardView K). s.journal) n shard room (sym number) l))
 
     in_room : (id room : List ℕ) (reply : QueryReply) → answer (record_of shard.journal room) (to_ask origin now (ask_event id)) ≡ ToAsked (Ok reply) → answer (records_of (shard_journals shards) room) (to_ask origin now (ask_event id)) ≡ ToAsked (Ok reply)

@@ -6,24 +6,24 @@ use Rattle.std.proofs.lemmas.List.{nil_from_length}
 use mathlib.Core.Path.{fun_ext}
 use Rattle.mx_receipt.specs.Receipt.{Kept}
 use Rattle.mx_shard.specs.LoneRoom.{record_alone}
-use Rattle.mx_book.specs.Journal.{State, free, begun, kept}
-use Rattle.mx_book.specs.declared.pairs.Pair.{Pair}
+use Rattle.mx_book.specs.Journal.{Hold, free, begun, kept}
+use Rattle.mx_book.specs.declared.transaction_keys.TransactionKey.{TransactionKey}
 use Rattle.mx_world.specs.Calls.{Start, record_after, call_of}
 use Rattle.mx_world.specs.Replies.{Status, status_after, status_by, IsReply, AreReplies}
 use Rattle.mx_world.specs.Moves.{rest_of, moved, RecordsMove, StatusesMove}
 use Rattle.mx_world.specs.View.{Progress, WorldView}
-use Rattle.mx_world.specs.Worlds.{book_journals, states_of, found, status_found, records_in, status_in, kept_body, start, none_open, Stays, Moves, IsAfter}
+use Rattle.mx_world.specs.Worlds.{book_journals, holds_of, found, status_found, records_in, status_in, kept_body, start, none_open, Stays, Moves, IsAfter}
 use Rattle.mx_world.specs.declared.steps.Step.{Step}
 use Rattle.mx_world.specs.declared.steps.StepReply.{StepReply}
 use Rattle.mx_world.proofs.NextStep.{next_record, next_status, rest_of-status}
 
 -- where nothing is open, each status is that before the first step
-settled : (state : State) (p : Pair) → status_found None state ≡ status_by p (kept_body (status_found None state)) (if is_some (kept_body (status_found None state)) then None else None) []
+settled : (state : Hold) (p : TransactionKey) → status_found None state ≡ status_by p (kept_body (status_found None state)) (if is_some (kept_body (status_found None state)) then None else None) []
 settled free p = refl
 settled (begun caller) p = refl
 settled (kept reply) p = refl
 
-none_going : (going : List (Pair × Progress)) → IsTrue (length going == 0) → (p : Pair) → found going p ≡ None
+none_going : (going : List (TransactionKey × Progress)) → IsTrue (length going == 0) → (p : TransactionKey) → found going p ≡ None
 none_going going none p = ap (λ es. found es p) (nil_from_length going (eqb-true (length going) 0 none))
 
 pub after_none : {K L : Type 0} (w : WorldView K L) → IsTrue (none_open w) → IsAfter (start w) [] w
@@ -31,7 +31,7 @@ after_none w none = record {
   records = λ room. refl;
   statuses = λ p.
       let P : Status → Type 0 = λ st. st ≡ status_by p (kept_body st) (if is_some (kept_body st) then None else None) [] in
-      subst P (ap (λ f. status_found f (states_of (book_journals w.books) p)) (sym (none_going w.going none p))) (settled (states_of (book_journals w.books) p) p);
+      subst P (ap (λ f. status_found f (holds_of (book_journals w.books) p)) (sym (none_going w.going none p))) (settled (holds_of (book_journals w.books) p) p);
 }
 
 pub after_more : {K L : Type 0} (s : Start) (earlier : List Step) (w w' : WorldView K L) (x : Step) → IsAfter s earlier w → Moves w w' x → IsAfter s (earlier ++ x ∷ []) w'
@@ -51,7 +51,7 @@ after_more s earlier w w' x now moves = record {
 pub reply_after : {K L : Type 0} (s : Start) (earlier : List Step) (w : WorldView K L) (x : Step) (reply : StepReply) → IsAfter s earlier w → IsReply (records_in w) (status_in w) x reply → IsReply (record_after s earlier) (status_after s earlier) x reply
 reply_after s earlier w x reply now h =
     let P : (List ℕ → List Kept) → Type 0 = λ rows. IsReply rows (status_in w) x reply in
-    let Q : (Pair → Status) → Type 0 = λ st. IsReply (record_after s earlier) st x reply in
+    let Q : (TransactionKey → Status) → Type 0 = λ st. IsReply (record_after s earlier) st x reply in
     subst Q (fun_ext now.statuses) (subst P (fun_ext now.records) h)
 
 pub replies_more : (s : Start) (earlier later : List Step) (replies : List StepReply) (x : Step) (reply : StepReply) → AreReplies s earlier later replies → IsReply (record_after s (earlier ++ later)) (status_after s (earlier ++ later)) x reply → AreReplies s earlier (later ++ x ∷ []) (replies ++ reply ∷ [])
@@ -78,11 +78,11 @@ both_move (Err e) u u' x h k = tt
 pub moves_of : {K L A E : Type 0} (r : Result A E) (w w' u u' : WorldView K L) (x : Step) → u ≡ w → u' ≡ w' → OnOk r (RecordsMove (records_in u) (records_in u') (status_in u) x) → OnOk r (StatusesMove (records_in u) (status_in u) (status_in u') x) → OnOk r (Moves w w' x)
 moves_of r w w' u u' x is is' h k = subst (λ v. OnOk r (Moves v w' x)) is (subst (λ v. OnOk r (Moves u v x)) is' (both_move r u u' x h k))
 
-both_stay : {K L A E : Type 0} (r : Result A E) (u u' : WorldView K L) → OnErr r ((room : List ℕ) → records_in u' room ≡ records_in u room) → OnErr r ((p : Pair) → status_in u' p ≡ status_in u p) → OnErr r (Stays u u')
+both_stay : {K L A E : Type 0} (r : Result A E) (u u' : WorldView K L) → OnErr r ((room : List ℕ) → records_in u' room ≡ records_in u room) → OnErr r ((p : TransactionKey) → status_in u' p ≡ status_in u p) → OnErr r (Stays u u')
 both_stay (Ok a) u u' h k = tt
 both_stay (Err e) u u' h k = record { records = h; statuses = k }
 
-pub stays_of : {K L A E : Type 0} (r : Result A E) (w w' u u' : WorldView K L) → u ≡ w → u' ≡ w' → OnErr r ((room : List ℕ) → records_in u' room ≡ records_in u room) → OnErr r ((p : Pair) → status_in u' p ≡ status_in u p) → OnErr r (Stays w w')
+pub stays_of : {K L A E : Type 0} (r : Result A E) (w w' u u' : WorldView K L) → u ≡ w → u' ≡ w' → OnErr r ((room : List ℕ) → records_in u' room ≡ records_in u room) → OnErr r ((p : TransactionKey) → status_in u' p ≡ status_in u p) → OnErr r (Stays w w')
 stays_of r w w' u u' is is' h k = subst (λ v. OnErr r (Stays v w')) is (subst (λ v. OnErr r (Stays u v)) is' (both_stay r u u' h k))
 
 -- what stays is as after the same steps

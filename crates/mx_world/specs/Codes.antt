@@ -10,7 +10,7 @@ use Rattle.mx_receipt.specs.declared.verdicts.Verdict.TheVariants.{Accepted, Sof
 use Rattle.mx_room.specs.Offer.{Offered}
 use Rattle.mx_room.specs.declared.outcomes.Outcome.TheVariants.{Kept, Known, Refused}
 use Rattle.mx_room.specs.declared.outcomes.Refusal.TheVariants.{SecondCreate, Signature, MissingEvents, RoomFull}
-use Rattle.mx_room.specs.declared.hosting.HostError.TheVariants.{NotACreateEvent, CitesAuthEvents, Unsigned, BadContentHash, BreaksRule}
+use Rattle.mx_room.specs.declared.hosting.NotARoom.TheVariants.{NotACreateEvent, CitesAuthEvents, Unsigned, BadContentHash, BreaksRule}
 use Rattle.mx_room.specs.declared.queries.QueryReply.TheVariants.{Event}
 use Rattle.mx_room.specs.declared.queries.Denied.TheVariants.{NotFound}
 use Rattle.mx_keeper.specs.Places.{PlaceView}
@@ -18,7 +18,7 @@ use Rattle.mx_shard.specs.View.{ShardView, place_code, shard_code}
 use Rattle.mx_shard.specs.declared.answers.Answer.{Answer}
 use Rattle.mx_shard.specs.declared.answers.Answer.TheVariants.{NotHosted, Hosted, AlreadyHosted, NotHost, ToOffered, ToAsked}
 use Rattle.mx_book.specs.View.{BookView}
-use Rattle.mx_book.specs.declared.pairs.Pair.{Pair}
+use Rattle.mx_book.specs.declared.transaction_keys.TransactionKey.{TransactionKey}
 use Rattle.mx_book.specs.declared.entries.BookEntry.{BookEntry}
 use Rattle.mx_book.specs.declared.entries.BookEntry.TheVariants as entry
 use Rattle.mx_world.specs.View.{Progress, WorldView}
@@ -112,29 +112,29 @@ progress_code =
     code_by (List Offered × List Told) (coded× (coded_list offered_code) (coded_list told_code)) (λ g. (g.rest, g.told))
     (λ p. record { rest = p.0; told = p.1 }) (λ _. refl)
 
-abbrev pub pair_code : Coded Pair
-pair_code = code_by (List ℕ × List ℕ) (coded× text_code text_code) (λ p. (p.origin, p.txn)) (λ p. record { origin = p.0; txn = p.1 }) (λ _. refl)
+abbrev pub transaction_code : Coded TransactionKey
+transaction_code = code_by (List ℕ × List ℕ) (coded× text_code text_code) (λ p. (p.origin, p.txn)) (λ p. record { origin = p.0; txn = p.1 }) (λ _. refl)
 
 -- ---- books
 
 abbrev pub EntryParts : Type 0
-EntryParts = ℕ × (Pair × (ℕ × List ℕ))
+EntryParts = ℕ × (TransactionKey × (ℕ × List ℕ))
 
 abbrev pub entry_parts : BookEntry → EntryParts
-entry_parts (entry.Begun pair caller) = (0, (pair, (caller, [])))
-entry_parts (entry.Kept pair caller reply) = (1, (pair, (caller, reply)))
-entry_parts (entry.GivenUp pair caller) = (2, (pair, (caller, [])))
+entry_parts (entry.Begun key caller) = (0, (key, (caller, [])))
+entry_parts (entry.Kept key caller reply) = (1, (key, (caller, reply)))
+entry_parts (entry.GivenUp key caller) = (2, (key, (caller, [])))
 
 abbrev pub entry_of : EntryParts → BookEntry
 entry_of p = cond (p.0 == 0) (entry.Begun p.1.0 p.1.1.0) (cond (p.0 == 1) (entry.Kept p.1.0 p.1.1.0 p.1.1.1) (entry.GivenUp p.1.0 p.1.1.0))
 
 pub entry_of-parts : (e : BookEntry) → entry_of (entry_parts e) ≡ e
-entry_of-parts (entry.Begun pair caller) = refl
-entry_of-parts (entry.Kept pair caller reply) = refl
-entry_of-parts (entry.GivenUp pair caller) = refl
+entry_of-parts (entry.Begun key caller) = refl
+entry_of-parts (entry.Kept key caller reply) = refl
+entry_of-parts (entry.GivenUp key caller) = refl
 
 abbrev pub entry_code : Coded BookEntry
-entry_code = code_by EntryParts (coded× coded_ℕ (coded× pair_code (coded× coded_ℕ text_code))) entry_parts entry_of entry_of-parts
+entry_code = code_by EntryParts (coded× coded_ℕ (coded× transaction_code (coded× coded_ℕ text_code))) entry_parts entry_of entry_of-parts
 
 abbrev pub book_code : {L : Type 0} → Coded L → Coded (BookView L)
 book_code {L = L} code =
@@ -145,6 +145,6 @@ book_code {L = L} code =
 
 abbrev pub world_code : {K L : Type 0} → Coded K → Coded L → Coded (WorldView K L)
 world_code {K = K} {L = L} shard_keeper book_keeper =
-    code_by (List (ShardView K) × (List (BookView L) × List (Pair × Progress)))
-    (coded× (coded_list (shard_code shard_keeper)) (coded× (coded_list (book_code book_keeper)) (coded_list (coded× pair_code progress_code))))
+    code_by (List (ShardView K) × (List (BookView L) × List (TransactionKey × Progress)))
+    (coded× (coded_list (shard_code shard_keeper)) (coded× (coded_list (book_code book_keeper)) (coded_list (coded× transaction_code progress_code))))
     (λ w. (w.shards, (w.books, w.going))) (λ p. record { shards = p.0; books = p.1.0; going = p.1.1 }) (λ _. refl)

@@ -7,13 +7,13 @@ use Rattle.mx_room.specs.declared.outcomes.Outcome.{Outcome}
 use Rattle.mx_shard.specs.View.{ShardView}
 use Rattle.mx_shard.specs.declared.answers.Answer.{Answer}
 use Rattle.mx_shard.specs.declared.answers.Answer.TheVariants.{NotHosted, ToOffered, ToAsked}
-use Rattle.mx_book.specs.Journal.{State, free, begun, kept}
+use Rattle.mx_book.specs.Journal.{Hold, free, begun, kept}
 use Rattle.mx_book.specs.View.{BookView}
-use Rattle.mx_book.specs.declared.pairs.Pair.{Pair}
+use Rattle.mx_book.specs.declared.transaction_keys.TransactionKey.{TransactionKey}
 use Rattle.mx_book.specs.declared.entries.BookEntry.{BookEntry}
 use Rattle.mx_world.specs.Replies.{told_of}
 use Rattle.mx_world.specs.View.{Progress}
-use Rattle.mx_world.specs.Worlds.{states_of, book_journals, found}
+use Rattle.mx_world.specs.Worlds.{holds_of, book_journals, found}
 use Rattle.mx_world.specs.declared.answers.Told.{Told}
 
 abbrev pub shard_places : {K : Type 0} → List (ShardView K) → List PlaceView
@@ -29,7 +29,7 @@ pub record ArePlaced (places : List PlaceView) : Type 0 where
   pub each : (n : ℕ) (d : PlaceView) → n < length places → get_or places n d ≡ record { number = n; count = length places }
 
 -- what is open was begun by the caller 0, and nothing else is begun and not ended
-abbrev pub Agrees : Option Progress → State → Type 0
+abbrev pub Agrees : Option Progress → Hold → Type 0
 Agrees (Some progress) free = ⊥
 Agrees (Some progress) (begun caller) = caller ≡ 0
 Agrees (Some progress) (kept reply) = ⊥
@@ -37,17 +37,17 @@ Agrees None free = Unit {0}
 Agrees None (begun caller) = ⊥
 Agrees None (kept reply) = Unit {0}
 
-abbrev pub AllAgree : List (Pair × Progress) → List (List BookEntry) → Type 0
-AllAgree going journals = (p : Pair) → Agrees (found going p) (states_of journals p)
+abbrev pub AllAgree : List (TransactionKey × Progress) → List (List BookEntry) → Type 0
+AllAgree going journals = (p : TransactionKey) → Agrees (found going p) (holds_of journals p)
 
 -- shards and books stand at their places, and the books agree with what is open
-pub record IsSound {K L : Type 0} (shards : List (ShardView K)) (books : List (BookView L)) (going : List (Pair × Progress)) : Type 0 where
+pub record IsSound {K L : Type 0} (shards : List (ShardView K)) (books : List (BookView L)) (going : List (TransactionKey × Progress)) : Type 0 where
   pub shards_placed : ArePlaced (shard_places shards)
   pub books_placed : ArePlaced (book_places books)
   pub agree : AllAgree going (book_journals books)
 
 -- the state that opening a transaction leaves
-abbrev pub opened : State → State
+abbrev pub opened : Hold → Hold
 opened free = begun 0
 opened (begun caller) = begun caller
 opened (kept reply) = kept reply

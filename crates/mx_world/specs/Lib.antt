@@ -6,4 +6,3 @@ pub mod View
 pub mod Codes
 pub mod Worlds
 pub mod Inside
-pub mod Refusals

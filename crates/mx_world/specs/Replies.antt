@@ -10,16 +10,15 @@ use Rattle.mx_receipt.specs.declared.verdicts.Verdict.{Verdict}
 use Rattle.mx_receipt.specs.declared.verdicts.Verdict.TheVariants.{Accepted, SoftFailed, Rejected}
 use Rattle.mx_shard.specs.LoneRoom.{Call, to_host, to_offer, to_ask, call_room, answer}
 use Rattle.mx_shard.specs.Shown.{IsAnswer}
-use Rattle.mx_book.specs.Pairs.{same}
+use Rattle.mx_book.specs.Transactions.{same}
 use Rattle.mx_world.specs.Calls.{Start, Opening, opening, left, left_of, is_closed, record_after}
 use Rattle.mx_room.specs.declared.outcomes.Outcome.{Outcome}
 use Rattle.mx_room.specs.declared.outcomes.Outcome.TheVariants as outcome
-use Rattle.mx_room.specs.declared.outcomes.Refusal.{Refusal}
-use Rattle.mx_room.specs.declared.outcomes.Refusal.TheVariants.{SecondCreate, Signature, MissingEvents, RoomFull}
+use Rattle.mx_room.specs.Refusals.{refusal_text}
 use Rattle.mx_shard.specs.declared.answers.Answer.{Answer}
 use Rattle.mx_shard.specs.declared.answers.Answer.TheVariants.{ToOffered}
 use Rattle.mx_world.specs.declared.answers.Told.{Told}
-use Rattle.mx_book.specs.declared.pairs.Pair.{Pair}
+use Rattle.mx_book.specs.declared.transaction_keys.TransactionKey.{TransactionKey}
 use Rattle.mx_world.specs.declared.steps.Step.{Step}
 use Rattle.mx_world.specs.declared.steps.Step.TheVariants.{Host, Open, Next, Close, Ask}
 use Rattle.mx_world.specs.declared.steps.StepReply.{StepReply}
@@ -38,12 +37,6 @@ abbrev pub verdict_text : Verdict → Data
 verdict_text Accepted = no_error
 verdict_text (SoftFailed rule) = no_error
 verdict_text (Rejected rule) = error_text (codes "rejected: " ++ label_text rule)
-
-abbrev pub refusal_text : Refusal → List ℕ
-refusal_text SecondCreate = codes "second create"
-refusal_text Signature = codes "signature"
-refusal_text MissingEvents = codes "missing events"
-refusal_text RoomFull = codes "room full"
 
 abbrev pub outcome_text : Outcome → Data
 outcome_text (outcome.Kept v) = verdict_text v
@@ -73,16 +66,16 @@ abbrev pub first_told : (List ℕ → List Kept) → List ℕ → List Offered �
 first_told rows origin [] = []
 first_told rows origin (o ∷ rest) = told_of rows origin o ∷ []
 
-abbrev pub told_by : Pair → (List ℕ → List Kept) → List Offered → Step → List Told
+abbrev pub told_by : TransactionKey → (List ℕ → List Kept) → List Offered → Step → List Told
 told_by p rows rest (Next q) = if same p q then first_told rows p.origin rest else []
 told_by p rows rest step = []
 
-abbrev pub told_from : Start → Pair → List Step → List Step → List Told
+abbrev pub told_from : Start → TransactionKey → List Step → List Step → List Told
 told_from s p earlier [] = []
 told_from s p earlier (step ∷ later) =
     told_by p (record_after s earlier) (left s earlier p) step ++ told_from s p (earlier ++ step ∷ []) later
 
-abbrev pub told_after : Start → List Step → Pair → List Told
+abbrev pub told_after : Start → List Step → TransactionKey → List Told
 told_after s steps p = told_from s p [] steps
 
 -- a transaction has events left and answers so far, or its reply is kept for good
@@ -91,13 +84,13 @@ pub data Status : Type 0 where
   waiting : (rest : List Offered) (told : List Told) → Status
   ended : (body : List ℕ) → Status
 
-abbrev pub status_by : Pair → Option (List ℕ) → Option Opening → List Told → Status
+abbrev pub status_by : TransactionKey → Option (List ℕ) → Option Opening → List Told → Status
 status_by p (Some body) o told = ended body
 status_by p None None told = unopened
 status_by p None (Some o) told =
     if is_closed p (length o.events) o.since then ended (body_of told) else waiting (left_of p (Some o)) told
 
-abbrev pub status_after : Start → List Step → Pair → Status
+abbrev pub status_after : Start → List Step → TransactionKey → Status
 status_after s steps p = status_by p (s.kept_at p) (opening s p steps) (told_after s steps p)
 
 -- ---- replies
@@ -124,7 +117,7 @@ IsAnswered rows call (OfRoom a) = IsAnswer rows call (call_room call) a
 IsAnswered rows call other = ⊥
 
 -- the reply to a step, where the rooms have these records and the pairs this status
-abbrev pub IsReply : (List ℕ → List Kept) → (Pair → Status) → Step → StepReply → Type 0
+abbrev pub IsReply : (List ℕ → List Kept) → (TransactionKey → Status) → Step → StepReply → Type 0
 IsReply rows status (Host o) reply = IsAnswered rows (to_host o) reply
 IsReply rows status (Open p events) reply = reply ≡ open_reply events.items (status p)
 IsReply rows status (Next p) reply = reply ≡ next_reply rows p.origin (status p)

@@ -3,7 +3,7 @@ use Rattle.std.specs.Prelude.{List}
 use Rattle.mx_room.specs.Offer.{Offered}
 use Rattle.mx_shard.specs.View.{ShardView}
 use Rattle.mx_book.specs.View.{BookView}
-use Rattle.mx_book.specs.declared.pairs.Pair.{Pair}
+use Rattle.mx_book.specs.declared.transaction_keys.TransactionKey.{TransactionKey}
 use Rattle.mx_world.specs.declared.answers.Told.{Told}
 
 -- a transaction that is open: the events that it has left, and the answers so far
@@ -15,4 +15,4 @@ pub record Progress : Type 0 where
 pub record WorldView (K L : Type 0) : Type 0 where
   pub shards : List (ShardView K)
   pub books : List (BookView L)
-  pub going : List (Pair × Progress)
+  pub going : List (TransactionKey × Progress)

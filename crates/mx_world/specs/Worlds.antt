@@ -3,14 +3,14 @@ use Rattle.std.specs.Prelude.{ℕ, ◌≡◌, ◌==◌, Bool, ◌||◌, if◌the
 use Rattle.std.specs.List.{list_any}
 use Rattle.std.specs.Map.{lookup}
 use Rattle.std.specs.Ordering.{is_eq}
-use Rattle.mx_keeper.specs.Places.{place_of}
+use Rattle.mx_keeper.specs.Places.{place_number}
 use Rattle.mx_receipt.specs.Receipt.{Kept}
 use Rattle.mx_shard.specs.Journal.{Entry, record_of}
 use Rattle.mx_shard.specs.View.{ShardView}
-use Rattle.mx_book.specs.Pairs.{same, pair_cmp}
-use Rattle.mx_book.specs.Journal.{State, free, begun, kept, state_of}
+use Rattle.mx_book.specs.Transactions.{same, transaction_cmp}
+use Rattle.mx_book.specs.Journal.{Hold, free, begun, kept, hold_of}
 use Rattle.mx_book.specs.View.{BookView}
-use Rattle.mx_book.specs.declared.pairs.Pair.{Pair}
+use Rattle.mx_book.specs.declared.transaction_keys.TransactionKey.{TransactionKey}
 use Rattle.mx_book.specs.declared.entries.BookEntry.{BookEntry}
 use Rattle.mx_world.specs.Calls.{Start, record_after}
 use Rattle.mx_world.specs.Replies.{Status, unopened, waiting, ended, status_after}
@@ -20,7 +20,7 @@ use Rattle.mx_world.specs.declared.steps.Step.{Step}
 
 -- of the journals of all places, the one at the place of a name
 abbrev pub journal_at : {A : Type 0} → List (List A) → List ℕ → List A
-journal_at journals name = get_or journals (place_of (length journals) name) []
+journal_at journals name = get_or journals (place_number (length journals) name) []
 
 -- ---- records
 
@@ -40,24 +40,24 @@ abbrev pub book_journals : {L : Type 0} → List (BookView L) → List (List Boo
 book_journals books = map (λ book. book.journal) books
 
 -- what the journal of its server's book says of a transaction
-abbrev pub states_of : List (List BookEntry) → Pair → State
-states_of journals p = state_of (journal_at journals p.origin) p
+abbrev pub holds_of : List (List BookEntry) → TransactionKey → Hold
+holds_of journals p = hold_of (journal_at journals p.origin) p
 
 -- the progress of a transaction that is open
-abbrev pub found : List (Pair × Progress) → Pair → Option Progress
-found going p = lookup (λ q. is_eq (pair_cmp p q)) going
+abbrev pub found : List (TransactionKey × Progress) → TransactionKey → Option Progress
+found going p = lookup (λ q. is_eq (transaction_cmp p q)) going
 
 -- what is open waits, and a reply that is kept has ended its transaction
-abbrev pub status_found : Option Progress → State → Status
+abbrev pub status_found : Option Progress → Hold → Status
 status_found (Some progress) state = waiting progress.rest progress.told
 status_found None free = unopened
 status_found None (begun caller) = unopened
 status_found None (kept reply) = ended reply
 
-abbrev pub statuses_of : List (Pair × Progress) → List (List BookEntry) → Pair → Status
-statuses_of going journals p = status_found (found going p) (states_of journals p)
+abbrev pub statuses_of : List (TransactionKey × Progress) → List (List BookEntry) → TransactionKey → Status
+statuses_of going journals p = status_found (found going p) (holds_of journals p)
 
-abbrev pub status_in : {K L : Type 0} → WorldView K L → Pair → Status
+abbrev pub status_in : {K L : Type 0} → WorldView K L → TransactionKey → Status
 status_in w = statuses_of w.going (book_journals w.books)
 
 -- ---- a server
@@ -79,14 +79,14 @@ none_open w = length w.going == 0
 abbrev pub is_refused : {K L : Type 0} → WorldView K L → Bool
 is_refused w = list_any (λ shard. shard.is_refused) w.shards || list_any (λ book. book.is_refused) w.books
 
--- at one pair it changes so, and at no other
-abbrev pub AtPair : {A : Type 0} → (Pair → A) → (Pair → A) → Pair → (A → A) → Type 0
-AtPair old new q change = (p : Pair) → new p ≡ (if same p q then change (old p) else old p)
+-- at one key it changes so, and at no other
+abbrev pub AtTransaction : {A : Type 0} → (TransactionKey → A) → (TransactionKey → A) → TransactionKey → (A → A) → Type 0
+AtTransaction old new q change = (p : TransactionKey) → new p ≡ (if same p q then change (old p) else old p)
 
 -- each room's record and each transaction's status stay
 pub record Stays {K L : Type 0} (old new : WorldView K L) : Type 0 where
   pub records : (room : List ℕ) → records_in new room ≡ records_in old room
-  pub statuses : (p : Pair) → status_in new p ≡ status_in old p
+  pub statuses : (p : TransactionKey) → status_in new p ≡ status_in old p
 
 -- from old to new what is kept changes by the step
 pub record Moves {K L : Type 0} (old new : WorldView K L) (step : Step) : Type 0 where
@@ -96,4 +96,4 @@ pub record Moves {K L : Type 0} (old new : WorldView K L) (step : Step) : Type 0
 -- what is kept after these steps from a start
 pub record IsAfter {K L : Type 0} (s : Start) (steps : List Step) (w : WorldView K L) : Type 0 where
   pub records : (room : List ℕ) → records_in w room ≡ record_after s steps room
-  pub statuses : (p : Pair) → status_in w p ≡ status_after s steps p
+  pub statuses : (p : TransactionKey) → status_in w p ≡ status_after s steps p

@@ -2,13 +2,13 @@
 ghost use Rattle.std.specs.Prelude.{◌≡◌, IfOk};
 ghost use Rattle.serde_json.specs.Data.{object};
 ghost use Rattle.serde_json.specs.View.{view, members_view};
-ghost use Rattle.mx_world.specs.Replies.{error_text, verdict_text, refusal_text, text_of, texts_of, body_of};
+ghost use Rattle.mx_world.specs.Replies.{error_text, verdict_text, text_of, texts_of, body_of};
 
 use crate::answers::Told;
 use mx_canon::CanonError;
 use mx_keeper::Reply;
 use mx_receipt::Verdict;
-use mx_room::{Outcome, Refusal};
+use mx_room::Outcome;
 use mx_shard::Answer;
 use serde_json::{Map, Value};
 use std::alloc::{AllocError, Global};
@@ -51,7 +51,7 @@ pub fn processing_result(alloc: Global, answer: &Answer) -> Result<Value, AllocE
     match answer {
         Answer::ToOffered(Outcome::Kept(verdict)) => verdict_result(alloc, *verdict),
         Answer::ToOffered(Outcome::Known(verdict)) => verdict_result(alloc, *verdict),
-        Answer::ToOffered(Outcome::Refused(refusal)) => error_result(alloc, text_for(*refusal)),
+        Answer::ToOffered(Outcome::Refused(refusal)) => error_result(alloc, refusal.text()),
         _ => error_result(alloc, "unknown room"),
     }
 }
@@ -66,17 +66,6 @@ fn verdict_result(alloc: Global, verdict: Verdict) -> Result<Value, AllocError>
             error.push_str(rule.label())?;
             error_result(alloc, &error)
         }
-    }
-}
-
-fn text_for(refusal: Refusal) -> &'static str
-    ensures { result.now ≡ refusal_text refusal }
-{
-    match refusal {
-        Refusal::SecondCreate => "second create",
-        Refusal::Signature => "signature",
-        Refusal::MissingEvents => "missing events",
-        Refusal::RoomFull => "room full",
     }
 }
 

@@ -3,9 +3,8 @@ ghost use Rattle.std.specs.Prelude.{◌≡◌, ◌≤◌, length, replicate, [],
 ghost use Rattle.mx_world.specs.Worlds.{shard_journals, book_journals};
 ghost use Rattle.mx_world.specs.Inside.{shard_places, book_places, ArePlaced};
 
-use crate::refusals::StepError;
 use mx_book::Book;
-use mx_keeper::{BookRow, Keeper, MOST_PLACES, Place, ShardRow};
+use mx_keeper::{BookRow, CallError, Keeper, MOST_PLACES, Place, ShardRow};
 use mx_shard::Shard;
 use std::alloc::Global;
 
@@ -13,7 +12,7 @@ use std::alloc::Global;
 pub(crate) fn shards_over<K: Keeper<Row = ShardRow>>(
     alloc: Global,
     keepers: Vec<K>,
-) -> Result<Vec<Shard<K>>, StepError>
+) -> Result<Vec<Shard<K>>, CallError>
     requires some { 1 ≤ length keepers.items }
     requires few { length keepers.items ≤ MOST_PLACES }
     ensures placed { IfOk result (λ shards. ArePlaced (shard_places shards.items)) }
@@ -33,7 +32,7 @@ pub(crate) fn shards_over<K: Keeper<Row = ShardRow>>(
 pub(crate) fn books_over<L: Keeper<Row = BookRow>>(
     alloc: Global,
     keepers: Vec<L>,
-) -> Result<Vec<Book<L>>, StepError>
+) -> Result<Vec<Book<L>>, CallError>
     requires some { 1 ≤ length keepers.items }
     requires few { length keepers.items ≤ MOST_PLACES }
     ensures placed { IfOk result (λ books. ArePlaced (book_places books.items)) }

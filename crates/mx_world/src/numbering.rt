@@ -1,6 +1,6 @@
 // Which shard has a room, and which book has the transactions of a server.
 ghost use Rattle.std.specs.Prelude.{◌≡◌, ◌<◌, ◌≤◌};
-ghost use Rattle.mx_keeper.specs.Places.{place_of};
+ghost use Rattle.mx_keeper.specs.Places.{place_number};
 
 use mx_keeper::Place;
 
@@ -8,7 +8,7 @@ use mx_keeper::Place;
 pub(crate) fn number_for(name: &str, count: usize) -> usize
     requires some { 0 < count }
     requires few { count ≤ 64 }
-    ensures number { result ≡ place_of count name.now }
+    ensures number { result ≡ place_number count name.now }
     ensures within { result < count }
 {
     Place::of(name, count).number()

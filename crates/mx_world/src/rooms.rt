@@ -9,8 +9,7 @@ ghost use Rattle.mx_world.specs.Worlds.{shard_journals, records_of};
 ghost use Rattle.mx_world.specs.Inside.{shard_places, offered_answer, shows, ArePlaced};
 
 use crate::numbering::number_for;
-use crate::refusals::StepError;
-use mx_keeper::{Keeper, ShardRow};
+use mx_keeper::{CallError, Keeper, ShardRow};
 use mx_pdu::Offered;
 use mx_room::{Denied, Outcome, Query};
 use mx_shard::{Answer, Shard};
@@ -19,14 +18,14 @@ use mx_shard::{Answer, Shard};
 pub(crate) fn host_in<K: Keeper<Row = ShardRow>>(
     shards: &mut [Shard<K>],
     offered: &Offered,
-) -> Result<Answer, StepError>
+) -> Result<Answer, CallError>
     requires { ArePlaced (shard_places shards.old) }
     ensures reply { IfOk result (λ a. a ≡ answer (records_of (shard_journals shards.old) (room_of offered.now.pdu)) (to_host offered.now)) }
     ensures records { OnOk result ((room : List ℕ) → records_of (shard_journals shards.new) room
         ≡ record_alone (records_of (shard_journals shards.old) room) (if_put_to room (to_host offered.now))) }
     ensures err { OnErr result (shard_journals shards.new ≡ shard_journals shards.old) }
     ensures places { shard_places shards.new ≡ shard_places shards.old }
-    ensures storage { result ≡ Err StepError.Storage → IsTrue (list_any (λ shard. shard.is_refused) shards.new) }
+    ensures storage { result ≡ Err CallError.Storage → IsTrue (list_any (λ shard. shard.is_refused) shards.new) }
 {
     let number = number_for(offered.pdu.room_id().as_str(), shards.len());
     let shard = &mut shards[number];
@@ -38,14 +37,14 @@ pub(crate) fn host_in<K: Keeper<Row = ShardRow>>(
 pub(crate) fn offer_in<K: Keeper<Row = ShardRow>>(
     shards: &mut [Shard<K>],
     offered: &Offered,
-) -> Result<Option<Outcome>, StepError>
+) -> Result<Option<Outcome>, CallError>
     requires { ArePlaced (shard_places shards.old) }
     ensures reply { IfOk result (λ o. (origin : List ℕ) → offered_answer o ≡ answer (records_of (shard_journals shards.old) (room_of offered.now.pdu)) (to_offer origin offered.now)) }
     ensures records { OnOk result ((origin room : List ℕ) → records_of (shard_journals shards.new) room
         ≡ record_alone (records_of (shard_journals shards.old) room) (if_put_to room (to_offer origin offered.now))) }
     ensures err { OnErr result (shard_journals shards.new ≡ shard_journals shards.old) }
     ensures places { shard_places shards.new ≡ shard_places shards.old }
-    ensures storage { result ≡ Err StepError.Storage → IsTrue (list_any (λ shard. shard.is_refused) shards.new) }
+    ensures storage { result ≡ Err CallError.Storage → IsTrue (list_any (λ shard. shard.is_refused) shards.new) }
 {
     let number = number_for(offered.pdu.room_id().as_str(), shards.len());
     let shard = &mut shards[number];
@@ -61,11 +60,11 @@ pub(crate) fn offer_in<K: Keeper<Row = ShardRow>>(
 pub(crate) fn ask_in<K: Keeper<Row = ShardRow>>(
     shards: &[Shard<K>],
     query: &Query,
-) -> Result<Answer, StepError>
+) -> Result<Answer, CallError>
     requires { ArePlaced (shard_places shards.now) }
     ensures reply { IfOk result (λ a. (origin : List ℕ) (now : ℕ)
         → IsAnswer (records_of (shard_journals shards.now)) (to_ask origin now query.now) (call_room (to_ask origin now query.now)) a) }
-    ensures storage { result ≡ Err StepError.Storage → IsTrue (list_any (λ shard. shard.is_refused) shards.now) }
+    ensures storage { result ≡ Err CallError.Storage → IsTrue (list_any (λ shard. shard.is_refused) shards.now) }
 {
     for shard in shards {
         let answer = shard.ask(query)?;

@@ -6,10 +6,9 @@ ghost use Rattle.mx_world.specs.Replies.{AreReplies};
 ghost use Rattle.mx_world.specs.Agree.{heard, told_about, StayApart, IsRun, Agree, AlikeAbout};
 ghost use Rattle.mx_world.specs.Worlds.{none_open, is_refused, records_in, start, IsAfter};
 
-use crate::refusals::StepError;
 use crate::steps::{Step, StepReply};
 use crate::worlds::World;
-use mx_keeper::{BookRow, Keeper, ShardRow};
+use mx_keeper::{BookRow, CallError, Keeper, ShardRow};
 use std::alloc::Global;
 use thiserror::Error;
 
@@ -18,7 +17,7 @@ use thiserror::Error;
 #[error("{cause} after {done} steps")]
 pub struct RunError {
     pub done: usize,
-    pub cause: StepError,
+    pub cause: CallError,
 }
 
 /// Runs steps in order, and gives the reply to each.
@@ -43,7 +42,7 @@ pub fn run<K: Keeper<Row = ShardRow>, L: Keeper<Row = BookRow>>(
     // A run that stops has done the steps before the one that was refused, and says how many.
     ensures err { IfErr result (λ error. IsAfter (start world.old) (take error.done steps.now) world.new) }
     ensures stopped { IfErr result (λ error. error.done < length steps.now) }
-    ensures storage { IfErr result (λ error. error.cause ≡ StepError.Storage → IsTrue (is_refused world.new)) }
+    ensures storage { IfErr result (λ error. error.cause ≡ CallError.Storage → IsTrue (is_refused world.new)) }
 {
     if steps.is_empty() {
         return Ok(Vec::new(alloc));
@@ -52,7 +51,7 @@ pub fn run<K: Keeper<Row = ShardRow>, L: Keeper<Row = BookRow>>(
     let Ok(()) = replies.reserve(steps.len()) else {
         return Err(RunError {
             done: 0,
-            cause: StepError::Memory,
+            cause: CallError::Memory,
         });
     };
     for step in steps {

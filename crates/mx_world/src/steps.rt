@@ -1,6 +1,6 @@
 // Steps and the replies to them.
 use crate::answers::Told;
-use mx_book::Pair;
+use mx_book::TransactionKey;
 use mx_ident::ServerName;
 use mx_keeper::Reply;
 use mx_pdu::Offered;
@@ -17,9 +17,9 @@ use mx_shard::Answer;
 #[derive(Debug, Drop)]
 pub enum Step {
     Host(Offered),
-    Open(Pair, Vec<Offered>),
-    Next(Pair),
-    Close(Pair),
+    Open(TransactionKey, Vec<Offered>),
+    Next(TransactionKey),
+    Close(TransactionKey),
     Ask {
         origin: ServerName,
         now: u64,

@@ -2,8 +2,8 @@ ghost use Rattle.std.specs.Prelude.{◌≡◌, ◌≤◌, length, IfOk, IsTrue};
 ghost use Rattle.mx_world.specs.Worlds.{none_open};
 
 use crate::{
-    Answer, BookRow, Denied, HostError, Outcome, Pair, Query, QueryReply, Refusal, ShardRow, Step,
-    StepError, StepReply, World, processing_result, run,
+    Answer, BookRow, CallError, Denied, NotARoom, Outcome, Query, QueryReply, Refusal, ShardRow,
+    Step, StepReply, TransactionKey, World, processing_result, run,
 };
 use mx_ident::{EventId, ServerName};
 use mx_keeper::{MemoryKeeper, Storable, TransactionId};
@@ -110,10 +110,10 @@ fn offered_word(alloc: Global, word: &str) -> Result<Offered, AllocError> {
     offered(alloc, id, event_named(name), true)
 }
 
-fn pair(alloc: Global, origin: &str, txn: &str) -> Result<Pair, AllocError> {
+fn key(alloc: Global, origin: &str, txn: &str) -> Result<TransactionKey, AllocError> {
     let origin = ServerName::parse(alloc, origin).map_err(refused)?;
     let txn = TransactionId::new(String::from_str(alloc, txn)?);
-    Ok(Pair { origin, txn })
+    Ok(TransactionKey { origin, txn })
 }
 
 fn ask(alloc: Global, id: &str) -> Result<Step, AllocError> {
@@ -137,16 +137,16 @@ fn step_of(alloc: Global, written: &str) -> Result<Step, AllocError> {
     if kind == "ask" {
         return ask(alloc, first);
     }
-    let pair = pair(alloc, first, words.next().unwrap_or(""))?;
+    let key = key(alloc, first, words.next().unwrap_or(""))?;
     match kind {
-        "next" => Ok(Step::Next(pair)),
-        "close" => Ok(Step::Close(pair)),
+        "next" => Ok(Step::Next(key)),
+        "close" => Ok(Step::Close(key)),
         _ => {
             let mut events = Vec::new(alloc);
             for word in words {
                 events.push(offered_word(alloc, word)?)?;
             }
-            Ok(Step::Open(pair, events))
+            Ok(Step::Open(key, events))
         }
     }
 }
@@ -164,7 +164,7 @@ fn keepers<R: Storable>(alloc: Global, count: usize) -> Result<Vec<MemoryKeeper<
 }
 
 // A server with so many shards and as many books.
-fn server(alloc: Global, count: usize) -> Result<Server, StepError>
+fn server(alloc: Global, count: usize) -> Result<Server, CallError>
     requires some { 1 ≤ count }
     requires few { count ≤ 64 }
     ensures { IfOk result (λ server. IsTrue (none_open server)) }
@@ -234,13 +234,13 @@ fn answer_word(answer: &Answer) -> &'static str {
     }
 }
 
-fn host_word(error: HostError) -> &'static str {
+fn host_word(error: NotARoom) -> &'static str {
     match error {
-        HostError::NotACreateEvent => "not a create event",
-        HostError::CitesAuthEvents => "cites auth events",
-        HostError::Unsigned => "signature",
-        HostError::BadContentHash => "content hash",
-        HostError::BreaksRule(rule) => rule.label(),
+        NotARoom::NotACreateEvent => "not a create event",
+        NotARoom::CitesAuthEvents => "cites auth events",
+        NotARoom::Unsigned => "signature",
+        NotARoom::BadContentHash => "content hash",
+        NotARoom::BreaksRule(rule) => rule.label(),
     }
 }
 
@@ -545,6 +545,6 @@ fn run_or_no_memory(rt: HostRuntime) {
     };
     match run(&mut server, alloc, &steps) {
         Ok(replies) => assert_eq!(rt; replies.len(), steps.len()),
-        Err(error) => assert_eq!(rt; error.cause, StepError::Memory),
+        Err(error) => assert_eq!(rt; error.cause, CallError::Memory),
     }
 }

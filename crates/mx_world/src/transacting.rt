@@ -3,20 +3,19 @@ ghost use Rattle.std.specs.Prelude.{◌≡◌, ◌≢◌, ℕ, List, [], None, S
 ghost use Rattle.std.specs.List.{list_any};
 ghost use Rattle.mx_shard.specs.LoneRoom.{record_alone};
 ghost use Rattle.mx_book.specs.Journal.{free, begun};
-ghost use Rattle.mx_book.specs.declared.pairs.Pair.{Pair};
+ghost use Rattle.mx_book.specs.declared.transaction_keys.TransactionKey.{TransactionKey};
 ghost use Rattle.mx_world.specs.Calls.{offers};
 ghost use Rattle.mx_world.specs.Replies.{unopened, open_reply, next_reply, close_reply};
 ghost use Rattle.mx_world.specs.Moves.{rest_of, after_open, after_close};
-ghost use Rattle.mx_world.specs.Worlds.{shard_journals, records_of, book_journals, states_of, found, status_found, statuses_of, AtPair};
+ghost use Rattle.mx_world.specs.Worlds.{shard_journals, records_of, book_journals, holds_of, found, status_found, statuses_of, AtTransaction};
 ghost use Rattle.mx_world.specs.Inside.{shard_places, book_places, advanced, ArePlaced, AllAgree};
 
 use crate::bodies::reply_body;
 use crate::books::{begin_in, give_up_in, keep_in};
-use crate::refusals::StepError;
 use crate::steps::StepReply;
 use crate::transactions::Transaction;
-use mx_book::{Book, Opening, Pair};
-use mx_keeper::{BookRow, Keeper, ShardRow};
+use mx_book::{Book, Opening, TransactionKey};
+use mx_keeper::{BookRow, CallError, Keeper, ShardRow};
 use mx_pdu::Offered;
 use mx_shard::Shard;
 use std::alloc::{AllocError, Global};
@@ -26,25 +25,25 @@ use std::collections::BTreeMap;
 pub(crate) fn open_in<L: Keeper<Row = BookRow>>(
     alloc: Global,
     books: &mut [Book<L>],
-    going: &mut BTreeMap<Pair, Transaction>,
-    pair: &Pair,
+    going: &mut BTreeMap<TransactionKey, Transaction>,
+    key: &TransactionKey,
     events: &[Offered],
-) -> Result<StepReply, StepError>
+) -> Result<StepReply, CallError>
     requires placed { ArePlaced (book_places books.old) }
     requires agree { AllAgree going.old.entries (book_journals books.old) }
-    ensures reply { IfOk result (λ r. r ≡ open_reply events.now (statuses_of going.old.entries (book_journals books.old) pair.now)) }
-    ensures statuses { OnOk result (AtPair (statuses_of going.old.entries (book_journals books.old)) (statuses_of going.new.entries (book_journals books.new)) pair.now (after_open events.now)) }
-    ensures err { OnErr result ((p : Pair) → statuses_of going.new.entries (book_journals books.new) p ≡ statuses_of going.old.entries (book_journals books.old) p) }
+    ensures reply { IfOk result (λ r. r ≡ open_reply events.now (statuses_of going.old.entries (book_journals books.old) key.now)) }
+    ensures statuses { OnOk result (AtTransaction (statuses_of going.old.entries (book_journals books.old)) (statuses_of going.new.entries (book_journals books.new)) key.now (after_open events.now)) }
+    ensures err { OnErr result ((p : TransactionKey) → statuses_of going.new.entries (book_journals books.new) p ≡ statuses_of going.old.entries (book_journals books.old) p) }
     ensures agree { AllAgree going.new.entries (book_journals books.new) }
     ensures places { book_places books.new ≡ book_places books.old }
-    ensures storage { result ≡ Err StepError.Storage → IsTrue (list_any (λ book. book.is_refused) books.new) }
+    ensures storage { result ≡ Err CallError.Storage → IsTrue (list_any (λ book. book.is_refused) books.new) }
 {
-    if going.contains_key(pair) {
+    if going.contains_key(key) {
         return Ok(StepReply::Busy);
     }
-    let opening = begin_in(books, pair)?;
+    let opening = begin_in(books, key)?;
     match opening {
-        Opening::Fresh => start_in(alloc, books, going, pair, events),
+        Opening::Fresh => start_in(alloc, books, going, key, events),
         Opening::Kept(reply) => Ok(StepReply::Replayed(reply)),
         Opening::Busy => unreachable!(),
     }
@@ -54,26 +53,26 @@ pub(crate) fn open_in<L: Keeper<Row = BookRow>>(
 fn start_in<L: Keeper<Row = BookRow>>(
     alloc: Global,
     books: &mut [Book<L>],
-    going: &mut BTreeMap<Pair, Transaction>,
-    pair: &Pair,
+    going: &mut BTreeMap<TransactionKey, Transaction>,
+    key: &TransactionKey,
     events: &[Offered],
-) -> Result<StepReply, StepError>
+) -> Result<StepReply, CallError>
     requires placed { ArePlaced (book_places books.old) }
-    requires begun { states_of (book_journals books.old) pair.now ≡ begun 0 }
-    requires free { found going.old.entries pair.now ≡ None }
+    requires begun { holds_of (book_journals books.old) key.now ≡ begun 0 }
+    requires free { found going.old.entries key.now ≡ None }
     ensures reply { IfOk result (λ r. r ≡ open_reply events.now unopened) }
-    ensures found { OnOk result (AtPair (found going.old.entries) (found going.new.entries) pair.now (λ _. Some (record { rest = events.now; told = [] }))) }
+    ensures found { OnOk result (AtTransaction (found going.old.entries) (found going.new.entries) key.now (λ _. Some (record { rest = events.now; told = [] }))) }
     ensures states { OnOk result (book_journals books.new ≡ book_journals books.old) }
     ensures err_found { OnErr result (going.new.entries ≡ going.old.entries) }
-    ensures err_states { OnErr result (AtPair (states_of (book_journals books.old)) (states_of (book_journals books.new)) pair.now (λ _. free)) }
+    ensures err_states { OnErr result (AtTransaction (holds_of (book_journals books.old)) (holds_of (book_journals books.new)) key.now (λ _. free)) }
     ensures places { book_places books.new ≡ book_places books.old }
-    ensures storage { result ≢ Err StepError.Storage }
+    ensures storage { result ≢ Err CallError.Storage }
 {
-    match add_transaction(alloc, going, pair, events) {
+    match add_transaction(alloc, going, key, events) {
         Ok(()) => Ok(StepReply::Opened(events.len())),
         Err(_) => {
-            give_up_in(books, pair);
-            Err(StepError::Memory)
+            give_up_in(books, key);
+            Err(CallError::Memory)
         }
     }
 }
@@ -81,36 +80,36 @@ fn start_in<L: Keeper<Row = BookRow>>(
 // One transaction more.
 fn add_transaction(
     alloc: Global,
-    going: &mut BTreeMap<Pair, Transaction>,
-    pair: &Pair,
+    going: &mut BTreeMap<TransactionKey, Transaction>,
+    key: &TransactionKey,
     events: &[Offered],
 ) -> Result<(), AllocError>
-    ensures found { OnOk result (AtPair (found going.old.entries) (found going.new.entries) pair.now (λ _. Some (record { rest = events.now; told = [] }))) }
+    ensures found { OnOk result (AtTransaction (found going.old.entries) (found going.new.entries) key.now (λ _. Some (record { rest = events.now; told = [] }))) }
     ensures err { OnErr result (going.new.entries ≡ going.old.entries) }
 {
     let transaction = Transaction::begin(alloc, events)?;
-    let key = pair.clone()?;
-    going.insert(key, transaction)?;
+    let owned = key.clone()?;
+    going.insert(owned, transaction)?;
     Ok(())
 }
 
 /// Offers the transaction's next event to its room.
 pub(crate) fn next_in<K: Keeper<Row = ShardRow>>(
     shards: &mut [Shard<K>],
-    going: &mut BTreeMap<Pair, Transaction>,
-    pair: &Pair,
-) -> Result<StepReply, StepError>
+    going: &mut BTreeMap<TransactionKey, Transaction>,
+    key: &TransactionKey,
+) -> Result<StepReply, CallError>
     requires { ArePlaced (shard_places shards.old) }
-    ensures reply { IfOk result (λ r. r ≡ next_reply (records_of (shard_journals shards.old)) pair.now.origin (status_found (found going.old.entries pair.now) free)) }
-    ensures found { OnOk result (AtPair (found going.old.entries) (found going.new.entries) pair.now (advanced (records_of (shard_journals shards.old)) pair.now.origin)) }
+    ensures reply { IfOk result (λ r. r ≡ next_reply (records_of (shard_journals shards.old)) key.now.origin (status_found (found going.old.entries key.now) free)) }
+    ensures found { OnOk result (AtTransaction (found going.old.entries) (found going.new.entries) key.now (advanced (records_of (shard_journals shards.old)) key.now.origin)) }
     ensures records { OnOk result ((room : List ℕ) → records_of (shard_journals shards.new) room
-        ≡ record_alone (records_of (shard_journals shards.old) room) (offers room pair.now.origin (rest_of (status_found (found going.old.entries pair.now) free)))) }
+        ≡ record_alone (records_of (shard_journals shards.old) room) (offers room key.now.origin (rest_of (status_found (found going.old.entries key.now) free)))) }
     ensures err { OnErr result (going.new.entries ≡ going.old.entries) }
     ensures err_shards { OnErr result (shard_journals shards.new ≡ shard_journals shards.old) }
     ensures places { shard_places shards.new ≡ shard_places shards.old }
-    ensures storage { result ≡ Err StepError.Storage → IsTrue (list_any (λ shard. shard.is_refused) shards.new) }
+    ensures storage { result ≡ Err CallError.Storage → IsTrue (list_any (λ shard. shard.is_refused) shards.new) }
 {
-    match going.get_mut(pair) {
+    match going.get_mut(key) {
         Some(transaction) => transaction.advance(shards),
         None => Ok(StepReply::NotOpen),
     }
@@ -120,19 +119,19 @@ pub(crate) fn next_in<K: Keeper<Row = ShardRow>>(
 pub(crate) fn close_in<L: Keeper<Row = BookRow>>(
     alloc: Global,
     books: &mut [Book<L>],
-    going: &mut BTreeMap<Pair, Transaction>,
-    pair: &Pair,
-) -> Result<StepReply, StepError>
+    going: &mut BTreeMap<TransactionKey, Transaction>,
+    key: &TransactionKey,
+) -> Result<StepReply, CallError>
     requires placed { ArePlaced (book_places books.old) }
     requires agree { AllAgree going.old.entries (book_journals books.old) }
-    ensures reply { IfOk result (λ r. r ≡ close_reply (statuses_of going.old.entries (book_journals books.old) pair.now)) }
-    ensures statuses { OnOk result (AtPair (statuses_of going.old.entries (book_journals books.old)) (statuses_of going.new.entries (book_journals books.new)) pair.now after_close) }
-    ensures err { OnErr result ((p : Pair) → statuses_of going.new.entries (book_journals books.new) p ≡ statuses_of going.old.entries (book_journals books.old) p) }
+    ensures reply { IfOk result (λ r. r ≡ close_reply (statuses_of going.old.entries (book_journals books.old) key.now)) }
+    ensures statuses { OnOk result (AtTransaction (statuses_of going.old.entries (book_journals books.old)) (statuses_of going.new.entries (book_journals books.new)) key.now after_close) }
+    ensures err { OnErr result ((p : TransactionKey) → statuses_of going.new.entries (book_journals books.new) p ≡ statuses_of going.old.entries (book_journals books.old) p) }
     ensures agree { AllAgree going.new.entries (book_journals books.new) }
     ensures places { book_places books.new ≡ book_places books.old }
-    ensures storage { result ≡ Err StepError.Storage → IsTrue (list_any (λ book. book.is_refused) books.new) }
+    ensures storage { result ≡ Err CallError.Storage → IsTrue (list_any (λ book. book.is_refused) books.new) }
 {
-    let Some(transaction) = going.get(pair) else {
+    let Some(transaction) = going.get(key) else {
         return Ok(StepReply::NotOpen);
     };
     let left = transaction.left();
@@ -141,7 +140,7 @@ pub(crate) fn close_in<L: Keeper<Row = BookRow>>(
     }
     let reply = reply_body(alloc, transaction.told())?;
     let kept = reply.clone()?;
-    keep_in(books, pair, kept)?;
-    going.remove(pair);
+    keep_in(books, key, kept)?;
+    going.remove(key);
     Ok(StepReply::Closed(reply))
 }

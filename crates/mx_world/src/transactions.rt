@@ -8,10 +8,9 @@ ghost use Rattle.mx_world.specs.Worlds.{shard_journals, records_of};
 ghost use Rattle.mx_world.specs.Inside.{shard_places, offered_answer, progress_after, ArePlaced};
 
 use crate::answers::Told;
-use crate::refusals::StepError;
 use crate::rooms::offer_in;
 use crate::steps::StepReply;
-use mx_keeper::{Keeper, ShardRow};
+use mx_keeper::{CallError, Keeper, ShardRow};
 use mx_pdu::Offered;
 use mx_room::Outcome;
 use mx_shard::{Answer, Shard};
@@ -67,7 +66,7 @@ impl Transaction {
     pub fn advance<K: Keeper<Row = ShardRow>>(
         &mut self,
         shards: &mut [Shard<K>],
-    ) -> Result<StepReply, StepError>
+    ) -> Result<StepReply, CallError>
         requires { ArePlaced (shard_places shards.old) }
         ensures reply { IfOk result (λ r. (origin : List ℕ) → r ≡ next_reply (records_of (shard_journals shards.old)) origin (waiting self.old.rest self.old.told)) }
         ensures progress { OnOk result ((origin : List ℕ) → self.new ≡ progress_after (records_of (shard_journals shards.old)) origin self.old.rest self.old.told) }
@@ -76,7 +75,7 @@ impl Transaction {
         ensures err { OnErr result (self.new ≡ self.old) }
         ensures err_shards { OnErr result (shard_journals shards.new ≡ shard_journals shards.old) }
         ensures places { shard_places shards.new ≡ shard_places shards.old }
-        ensures storage { result ≡ Err StepError.Storage → IsTrue (list_any (λ shard. shard.is_refused) shards.new) }
+        ensures storage { result ≡ Err CallError.Storage → IsTrue (list_any (λ shard. shard.is_refused) shards.new) }
     {
         take_next(&self.events, &mut self.told, shards)
     }
@@ -112,7 +111,7 @@ fn take_next<K: Keeper<Row = ShardRow>>(
     events: &[Offered],
     told: &mut Vec<Told>,
     shards: &mut [Shard<K>],
-) -> Result<StepReply, StepError>
+) -> Result<StepReply, CallError>
     requires { ArePlaced (shard_places shards.old) }
     ensures reply { IfOk result (λ r. (origin : List ℕ) → r ≡ next_reply (records_of (shard_journals shards.old)) origin (waiting (drop (length told.old.items) events.now) told.old.items)) }
     ensures progress { OnOk result ((origin : List ℕ) → record { rest = drop (length told.new.items) events.now; told = told.new.items }
@@ -122,7 +121,7 @@ fn take_next<K: Keeper<Row = ShardRow>>(
     ensures err { OnErr result (told.new.items ≡ told.old.items) }
     ensures err_shards { OnErr result (shard_journals shards.new ≡ shard_journals shards.old) }
     ensures places { shard_places shards.new ≡ shard_places shards.old }
-    ensures storage { result ≡ Err StepError.Storage → IsTrue (list_any (λ shard. shard.is_refused) shards.new) }
+    ensures storage { result ≡ Err CallError.Storage → IsTrue (list_any (λ shard. shard.is_refused) shards.new) }
 {
     let Some(offered) = events.get(told.len()) else {
         return Ok(StepReply::NoMore);

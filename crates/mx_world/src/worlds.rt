@@ -3,7 +3,7 @@ ghost use Rattle.std.specs.Prelude.{◌≡◌, ◌++◌, ◌∷◌, ◌≤◌, �
 ghost use Rattle.std.specs.List.{list_any};
 ghost use Rattle.mx_shard.specs.LoneRoom.{to_ask, call_room};
 ghost use Rattle.mx_shard.specs.Shown.{IsAnswer};
-ghost use Rattle.mx_book.specs.declared.pairs.Pair.{Pair};
+ghost use Rattle.mx_book.specs.declared.transaction_keys.TransactionKey.{TransactionKey};
 ghost use Rattle.mx_world.specs.Calls.{Start, record_after};
 ghost use Rattle.mx_world.specs.Replies.{unopened, status_after, IsReply};
 ghost use Rattle.mx_world.specs.Moves.{RecordsMove, StatusesMove};
@@ -11,13 +11,12 @@ ghost use Rattle.mx_world.specs.Worlds.{shard_journals, book_journals, records_o
 ghost use Rattle.mx_world.specs.Inside.{IsSound};
 
 use crate::making::{books_over, shards_over};
-use crate::refusals::StepError;
 use crate::rooms::{ask_in, host_in};
 use crate::steps::{Step, StepReply};
 use crate::transacting::{close_in, next_in, open_in};
 use crate::transactions::Transaction;
-use mx_book::{Book, Pair};
-use mx_keeper::{BookRow, Keeper, MOST_PLACES, ShardRow};
+use mx_book::{Book, TransactionKey};
+use mx_keeper::{BookRow, CallError, Keeper, MOST_PLACES, ShardRow};
 use mx_shard::Shard;
 use std::alloc::Global;
 use std::collections::BTreeMap;
@@ -31,7 +30,7 @@ pub struct World<K: Keeper<Row = ShardRow>, L: Keeper<Row = BookRow>> {
     shards: Vec<Shard<K>>,
     books: Vec<Book<L>>,
     // The transactions that are open.
-    going: BTreeMap<Pair, Transaction>,
+    going: BTreeMap<TransactionKey, Transaction>,
 }
 
 impl<K: Keeper<Row = ShardRow>, L: Keeper<Row = BookRow>> Model for World<K, L> {
@@ -57,13 +56,13 @@ impl<K: Keeper<Row = ShardRow>, L: Keeper<Row = BookRow>> World<K, L> {
         alloc: Global,
         shard_keepers: Vec<K>,
         book_keepers: Vec<L>,
-    ) -> Result<World<K, L>, StepError>
+    ) -> Result<World<K, L>, CallError>
         requires some_shard { 1 ≤ length shard_keepers.items }
         requires few_shards { length shard_keepers.items ≤ MOST_PLACES }
         requires some_book { 1 ≤ length book_keepers.items }
         requires few_books { length book_keepers.items ≤ MOST_PLACES }
         ensures records { IfOk result (λ world. (room : List ℕ) → records_in world room ≡ []) }
-        ensures statuses { IfOk result (λ world. (p : Pair) → status_in world p ≡ unopened) }
+        ensures statuses { IfOk result (λ world. (p : TransactionKey) → status_in world p ≡ unopened) }
         ensures none_open { IfOk result (λ world. IsTrue (none_open world)) }
         ensures shards { IfOk result (λ world. length world.shards ≡ length shard_keepers.items) }
         ensures books { IfOk result (λ world. length world.books ≡ length book_keepers.items) }
@@ -88,21 +87,21 @@ impl<K: Keeper<Row = ShardRow>, L: Keeper<Row = BookRow>> World<K, L> {
     ///
     /// `Memory` where no memory is left. `Storage` where what keeps the rows of a shard or of a book failed, now or
     /// before. A step that is refused changes no room's record and no transaction's status.
-    pub fn step(&mut self, alloc: Global, step: &Step) -> Result<StepReply, StepError>
+    pub fn step(&mut self, alloc: Global, step: &Step) -> Result<StepReply, CallError>
         ensures next { IfOk result (λ reply. (s : Start) (earlier : List Step) → IsAfter s earlier self.old →
             IsReply (record_after s earlier) (status_after s earlier) step.now reply × IsAfter s (earlier ++ step.now ∷ []) self.new) }
         ensures err { OnErr result (Stays self.old self.new) }
-        ensures storage { result ≡ Err StepError.Storage → IsTrue (is_refused self.new) }
+        ensures storage { result ≡ Err CallError.Storage → IsTrue (is_refused self.new) }
     {
         self.advance(alloc, step)
     }
 
     // One step, told by what is kept.
-    fn advance(&mut self, alloc: Global, step: &Step) -> Result<StepReply, StepError>
+    fn advance(&mut self, alloc: Global, step: &Step) -> Result<StepReply, CallError>
         ensures reply { IfOk result (IsReply (records_in self.old) (status_in self.old) step.now) }
         ensures moves { OnOk result (Moves self.old self.new step.now) }
         ensures err { OnErr result (Stays self.old self.new) }
-        ensures storage { result ≡ Err StepError.Storage → IsTrue (is_refused self.new) }
+        ensures storage { result ≡ Err CallError.Storage → IsTrue (is_refused self.new) }
     {
         step_in(
             alloc,
@@ -118,26 +117,26 @@ fn step_in<K: Keeper<Row = ShardRow>, L: Keeper<Row = BookRow>>(
     alloc: Global,
     shards: &mut [Shard<K>],
     books: &mut [Book<L>],
-    going: &mut BTreeMap<Pair, Transaction>,
+    going: &mut BTreeMap<TransactionKey, Transaction>,
     step: &Step,
-) -> Result<StepReply, StepError>
+) -> Result<StepReply, CallError>
     requires { IsSound shards.old books.old going.old.entries }
     ensures reply { IfOk result (IsReply (records_of (shard_journals shards.old)) (statuses_of going.old.entries (book_journals books.old)) step.now) }
     ensures records { OnOk result (RecordsMove (records_of (shard_journals shards.old)) (records_of (shard_journals shards.new)) (statuses_of going.old.entries (book_journals books.old)) step.now) }
     ensures statuses { OnOk result (StatusesMove (records_of (shard_journals shards.old)) (statuses_of going.old.entries (book_journals books.old)) (statuses_of going.new.entries (book_journals books.new)) step.now) }
     ensures err_records { OnErr result ((room : List ℕ) → records_of (shard_journals shards.new) room ≡ records_of (shard_journals shards.old) room) }
-    ensures err_statuses { OnErr result ((p : Pair) → statuses_of going.new.entries (book_journals books.new) p ≡ statuses_of going.old.entries (book_journals books.old) p) }
+    ensures err_statuses { OnErr result ((p : TransactionKey) → statuses_of going.new.entries (book_journals books.new) p ≡ statuses_of going.old.entries (book_journals books.old) p) }
     ensures sound { IsSound shards.new books.new going.new.entries }
-    ensures storage { result ≡ Err StepError.Storage → IsTrue (list_any (λ shard. shard.is_refused) shards.new || list_any (λ book. book.is_refused) books.new) }
+    ensures storage { result ≡ Err CallError.Storage → IsTrue (list_any (λ shard. shard.is_refused) shards.new || list_any (λ book. book.is_refused) books.new) }
 {
     match step {
         Step::Host(offered) => {
             let answer = host_in(shards, offered)?;
             Ok(StepReply::OfRoom(answer))
         }
-        Step::Open(pair, events) => open_in(alloc, books, going, pair, events),
-        Step::Next(pair) => next_in(shards, going, pair),
-        Step::Close(pair) => close_in(alloc, books, going, pair),
+        Step::Open(key, events) => open_in(alloc, books, going, key, events),
+        Step::Next(key) => next_in(shards, going, key),
+        Step::Close(key) => close_in(alloc, books, going, key),
         Step::Ask { query, .. } => {
             let answer = ask_in(shards, query)?;
             Ok(StepReply::OfRoom(answer))

@@ -4,4 +4,4 @@ use Rattle.mx_book.proofs.recording.opening_in.Goals as goal
 
 pub returns-in-None : goal.returns-in-None
 unfolding opening_with
-returns-in-None c = sym (opening_found c.args.journal.now c.args.callers.now c.args.replies.now c.args.pair.now None c.requires (sym c.contains_key.ensures ∙ c.if-contains_key.false) c.in-None.ensures)
+returns-in-None c = sym (opening_found c.args.journal.now c.args.callers.now c.args.replies.now c.args.key.now None c.requires (sym c.contains_key.ensures ∙ c.if-contains_key.false) c.in-None.ensures)

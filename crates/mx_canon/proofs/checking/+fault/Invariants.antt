@@ -1,7 +1,7 @@
 use Rattle.std.proofs.Common.{◌≡◌, drop}
 use Rattle.serde_json.specs.View.{items_view, members_view}
 use Rattle.mx_canon.specs.Canonical.{item_numbers, member_numbers}
-use Rattle.mx_canon.specs.Keys.{KeysRiseInItems, KeysRiseInMembers}
+use Rattle.mx_canon.specs.KeyOrder.{KeysRiseInItems, KeysRiseInMembers}
 use Rattle.mx_canon.specs.Faults.{fault_of, graver}
 use Rattle.mx_canon.proofs.checking.+fault.Given as goal
 

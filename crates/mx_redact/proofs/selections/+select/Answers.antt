@@ -5,7 +5,7 @@ use Rattle.std.specs.String.{string_cmp}
 use Rattle.serde_json.specs.Data.{member, put, no_members}
 use Rattle.serde_json.specs.View.{view, members_view}
 use Rattle.serde_json.proofs.Views.{Entry, members_view-insert_entry}
-use Rattle.mx_redact.specs.Selected.{selected, selected_value, is_selected}
+use Rattle.mx_redact.specs.Selected.{selected, selected_value, is_in_part}
 use Rattle.mx_redact.proofs.SelectedLemmas.{selected-in, selected-out}
 use Rattle.mx_redact.proofs.AppendLemmas.{appended, AllAbove, put-above, appended-appended, appended-no_members, all_above_more, all_above_none}
 use Rattle.mx_redact.proofs.selections.+select.Goals as goal
@@ -37,7 +37,7 @@ copy_of-loop-key-preserved-then-not-has t c =
     let more = c.next.new.self in
     let sorted : IsStrictlySortedBy string_cmp (keys_of (e ∷ more)) = subst (λ es. IsStrictlySortedBy string_cmp (keys_of es)) c.in-Some.ensures.steps l.invariant.0 in
     let above : AllAbove (members_view l.copy.entries) (e ∷ more) = subst (AllAbove (members_view l.copy.entries)) c.in-Some.ensures.steps l.invariant.1 in
-    let outside : is_selected s k ≡ false = ap (is_selected s) (sym c.deref.ensures) ∙ sym c.has.ensures ∙ c.if-not-has.true in (
+    let outside : is_in_part s k ≡ false = ap (is_in_part s) (sym c.deref.ensures) ∙ sym c.has.ensures ∙ c.if-not-has.true in (
       sorted.1,
       above.1,
       ap (appended (members_view l.copy.entries)) (sym (selected-out s k (view e.1) (members_view more) outside))
@@ -57,7 +57,7 @@ copy_of-loop-key-preserved t c =
     let done = members_view l.copy.entries in
     let sorted : IsStrictlySortedBy string_cmp (keys_of (e ∷ more)) = subst (λ es. IsStrictlySortedBy string_cmp (keys_of es)) c.in-Some.ensures.steps l.invariant.0 in
     let above : AllAbove done (e ∷ more) = subst (AllAbove done) c.in-Some.ensures.steps l.invariant.1 in
-    let inside : is_selected s k ≡ true = ap (is_selected s) (sym c.deref.ensures) ∙ sym c.has.ensures ∙ c.if-not-has.false in
+    let inside : is_in_part s k ≡ true = ap (is_in_part s) (sym c.deref.ensures) ∙ sym c.has.ensures ∙ c.if-not-has.false in
     let now : members_view c.copy_member.new.copy.entries ≡ appended done (member k v no_members) = search (rules, put-above done k v above.0) in (
       sorted.1,
       rw now (all_above_more done e.0 v more sorted.0 above.1),

@@ -9,7 +9,7 @@ use Rattle.mx_canon.specs.Canonical.{canonical_text, member_text, sorted_members
 use Rattle.mx_canon.specs.Pieces.{comma_if}
 use Rattle.mx_canon.proofs.KeyLemmas.{keys-members_view}
 use Rattle.mx_canon.proofs.PieceLemmas.{left, left-step, ended}
-use Rattle.mx_redact.specs.Selected.{selected, selected_value, is_selected}
+use Rattle.mx_redact.specs.Selected.{selected, selected_value, is_in_part}
 use Rattle.mx_redact.proofs.SelectedLemmas.{selected_value-Object, selected-out, sorted_members-selected}
 use Rattle.mx_redact.proofs.selections.+write.Goals as goal
 
@@ -28,7 +28,7 @@ write_selected-loop-key-preserved-then-not-has g t c =
     let e : Entry = (c.in-Some.key.now, c.in-Some.value.now) in
     let more = c.next.new.self in
     let sorted : IsStrictlySortedBy string_cmp (keys_of (e ∷ more)) = subst (λ es. IsStrictlySortedBy string_cmp (keys_of es)) c.in-Some.ensures.steps l.invariant.0 in
-    let outside : is_selected s k ≡ false = ap (is_selected s) (sym c.deref.ensures) ∙ sym c.has.ensures ∙ c.if-not-has.true in (
+    let outside : is_in_part s k ≡ false = ap (is_in_part s) (sym c.deref.ensures) ∙ sym c.has.ensures ∙ c.if-not-has.true in (
       sorted.1,
       λ taken had.
           let (out, has, is) = l.invariant.1 taken had in (
@@ -51,7 +51,7 @@ write_selected-loop-key-preserved g t c =
     let v = canonical_text (selected_value s k (view e.1)) in
     let sorted : IsStrictlySortedBy string_cmp (keys_of (e ∷ more)) = subst (λ es. IsStrictlySortedBy string_cmp (keys_of es)) c.in-Some.ensures.steps l.invariant.0 in
     let rise = keys-members_view (e ∷ more) sorted in
-    let inside : is_selected s k ≡ true = ap (is_selected s) (sym c.deref.ensures) ∙ sym c.has.ensures ∙ c.if-not-has.false in
+    let inside : is_in_part s k ≡ true = ap (is_in_part s) (sym c.deref.ensures) ∙ sym c.has.ensures ∙ c.if-not-has.false in
     let first = sorted_members-selected s k (view e.1) (members_view more) rise.0 rise.1 inside in (
       sorted.1,
       λ taken had.

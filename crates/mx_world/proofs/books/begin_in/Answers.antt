@@ -1,10 +1,10 @@
 use Rattle.std.proofs.Common.{◌≡◌, ◌∙◌, sym, ap, refl, length, Err}
-use Rattle.mx_keeper.specs.Places.{place_of}
+use Rattle.mx_keeper.specs.Places.{place_number}
 use Rattle.mx_book.specs.Journal.{free, begun, kept}
 use Rattle.mx_book.specs.declared.entries.BookEntry.TheVariants.{Kept, GivenUp}
 use Rattle.mx_world.proofs.PlaceLemmas.{placed-is_at, places-set, journals-set, any-set}
 use Rattle.mx_world.proofs.StatusLemmas.{book-begun, book-entry, state-get}
-use Rattle.mx_world.proofs.RefusalLemmas.{of_book-storage, on_err}
+use Rattle.mx_world.proofs.RefusalLemmas.{is-storage, on_err}
 use Rattle.mx_world.proofs.books.begin_in.Goals as goal
 
 pub returns-in_err-opening-clause-err : goal.returns-in_err-opening-clause-err
@@ -18,17 +18,17 @@ returns-in_err-opening-clause-places g c =
 pub returns-in_err-opening-clause-storage : goal.returns-in_err-opening-clause-storage
 returns-in_err-opening-clause-storage g c = λ is.
     any-set c.args.books.now (λ book. book.is_refused) c.number_for-number.result c.open.new.self c.number_for-number.ensures.within
-    (c.open.ensures.refused ∙ c.in_err-opening.ensures.storage.0 (ap (λ e. Err e) (of_book-storage c.from_residual.result c.in_err-opening.field-0.0 c.from_residual.ensures.1 is)))
+    (c.open.ensures.refused ∙ c.in_err-opening.ensures.storage.0 (ap (λ e. Err e) (is-storage c.from_residual.result c.in_err-opening.field-0.0 c.from_residual.ensures.1 is)))
 
 pub open-requires : goal.open-requires
 open-requires g c =
-    placed-is_at c.args.books.now (λ book. book.place) c.number_for-number.result c.index-books-number.result c.args.pair.now.origin c.requires
-    (c.number_for-number.ensures.number ∙ ap (place_of (length c.args.books.now)) c.as_str.ensures.text) c.number_for-number.ensures.within
+    placed-is_at c.args.books.now (λ book. book.place) c.number_for-number.result c.index-books-number.result c.args.key.now.origin c.requires
+    (c.number_for-number.ensures.number ∙ ap (place_number (length c.args.books.now)) c.as_str.ensures.text) c.number_for-number.ensures.within
 
 pub returns-clause-states : goal.returns-clause-states
 returns-clause-states g c =
-    book-begun c.args.books.now c.number_for-number.result c.index-books-number.result c.open.new.self c.args.pair.now
-    (c.number_for-number.ensures.number ∙ ap (place_of (length c.args.books.now)) c.as_str.ensures.text) c.number_for-number.ensures.within c.in_ok-opening.ensures.journal
+    book-begun c.args.books.now c.number_for-number.result c.index-books-number.result c.open.new.self c.args.key.now
+    (c.number_for-number.ensures.number ∙ ap (place_number (length c.args.books.now)) c.as_str.ensures.text) c.number_for-number.ensures.within c.in_ok-opening.ensures.journal
 
 pub returns-clause-places : goal.returns-clause-places
 returns-clause-places g c =

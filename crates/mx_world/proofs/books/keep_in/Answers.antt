@@ -1,10 +1,10 @@
 use Rattle.std.proofs.Common.{◌≡◌, ◌∙◌, sym, ap, refl, length, Err}
-use Rattle.mx_keeper.specs.Places.{place_of}
+use Rattle.mx_keeper.specs.Places.{place_number}
 use Rattle.mx_book.specs.Journal.{free, begun, kept}
 use Rattle.mx_book.specs.declared.entries.BookEntry.TheVariants.{Kept, GivenUp}
 use Rattle.mx_world.proofs.PlaceLemmas.{placed-is_at, places-set, journals-set, any-set}
 use Rattle.mx_world.proofs.StatusLemmas.{book-begun, book-entry, state-get}
-use Rattle.mx_world.proofs.RefusalLemmas.{of_book-storage, on_err}
+use Rattle.mx_world.proofs.RefusalLemmas.{is-storage, on_err}
 use Rattle.mx_world.proofs.books.keep_in.Goals as goal
 
 pub returns-in_err-keep-clause-err : goal.returns-in_err-keep-clause-err
@@ -18,18 +18,18 @@ returns-in_err-keep-clause-places g c =
 pub returns-in_err-keep-clause-storage : goal.returns-in_err-keep-clause-storage
 returns-in_err-keep-clause-storage g c = λ is.
     any-set c.args.books.now (λ book. book.is_refused) c.number_for-number.result c.keep.new.self c.number_for-number.ensures.within
-    (c.in_err-keep.ensures.refused.0 (ap (λ e. Err e) (of_book-storage c.from_residual.result c.in_err-keep.field-0.0 c.from_residual.ensures.1 is)))
+    (c.in_err-keep.ensures.refused.0 (ap (λ e. Err e) (is-storage c.from_residual.result c.in_err-keep.field-0.0 c.from_residual.ensures.1 is)))
 
 pub keep-requires : goal.keep-requires
 keep-requires g c =
-    sym (state-get c.args.books.now c.number_for-number.result c.index-books-number.result c.args.pair.now
-    (c.number_for-number.ensures.number ∙ ap (place_of (length c.args.books.now)) c.as_str.ensures.text) c.number_for-number.ensures.within)
+    sym (state-get c.args.books.now c.number_for-number.result c.index-books-number.result c.args.key.now
+    (c.number_for-number.ensures.number ∙ ap (place_number (length c.args.books.now)) c.as_str.ensures.text) c.number_for-number.ensures.within)
     ∙ c.requires.begun
 
 pub returns-clause-states : goal.returns-clause-states
 returns-clause-states g c =
-    book-entry c.args.books.now c.number_for-number.result c.index-books-number.result c.keep.new.self c.args.pair.now (Kept c.args.pair.now 0 c.args.reply) (λ _. kept c.args.reply)
-    (c.number_for-number.ensures.number ∙ ap (place_of (length c.args.books.now)) c.as_str.ensures.text) c.number_for-number.ensures.within refl c.in_ok-keep.ensures.journal refl
+    book-entry c.args.books.now c.number_for-number.result c.index-books-number.result c.keep.new.self c.args.key.now (Kept c.args.key.now 0 c.args.reply) (λ _. kept c.args.reply)
+    (c.number_for-number.ensures.number ∙ ap (place_number (length c.args.books.now)) c.as_str.ensures.text) c.number_for-number.ensures.within refl c.in_ok-keep.ensures.journal refl
 
 pub returns-clause-places : goal.returns-clause-places
 returns-clause-places g c =

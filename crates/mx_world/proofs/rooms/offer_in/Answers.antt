@@ -1,22 +1,22 @@
 use Rattle.std.proofs.Common.{[], inl, inr, ◌≡◌, ◌∙◌, ℕ, List, Some, Err, get_or, set, sym, ap, refl, subst, length, ◌<◌}
 use Rattle.std.specs.Prelude.{OnErr}
-use Rattle.mx_keeper.specs.Places.{place_of}
+use Rattle.mx_keeper.specs.Places.{place_number}
 use Rattle.mx_pdu.specs.Event.{room_of}
 use Rattle.mx_shard.specs.LoneRoom.{to_offer, record_alone}
 use Rattle.mx_shard.specs.Journal.{record_of}
-use Rattle.mx_shard.specs.declared.refusals.ShardError.{ShardError}
+use Rattle.mx_keeper.specs.declared.refusals.CallError.{CallError}
 use Rattle.mx_world.specs.Calls.{if_put_to}
 use Rattle.mx_world.specs.Worlds.{journal_at, shard_journals, records_of}
 use Rattle.mx_world.proofs.PlaceLemmas.{placed-is_at, places-set, journals-set, any-set, room-called}
 use Rattle.mx_world.proofs.RoomLemmas.{offered_answers}
-use Rattle.mx_world.proofs.RefusalLemmas.{of_shard-storage, on_err}
+use Rattle.mx_world.proofs.RefusalLemmas.{is-storage, on_err}
 use Rattle.mx_world.proofs.rooms.offer_in.Goals as goal
 
 pub offer-requires : goal.offer-requires
 offer-requires g c =
     let room : c.as_str.result.now ≡ room_of c.args.offered.now.pdu = c.as_str.ensures.text ∙ c.room_id.ensures in
     placed-is_at c.args.shards.now (λ shard. shard.place) c.number_for-number.result c.index-shards-number.result (room_of c.args.offered.now.pdu) c.requires
-    (c.number_for-number.ensures.number ∙ ap (place_of (length c.args.shards.now)) room) c.number_for-number.ensures.within
+    (c.number_for-number.ensures.number ∙ ap (place_number (length c.args.shards.now)) room) c.number_for-number.ensures.within
 
 pub returns-in_err-answer-clause-err : goal.returns-in_err-answer-clause-err
 returns-in_err-answer-clause-err g c =
@@ -29,13 +29,13 @@ returns-in_err-answer-clause-places g c =
 pub returns-in_err-answer-clause-storage : goal.returns-in_err-answer-clause-storage
 returns-in_err-answer-clause-storage g c = λ is.
     any-set c.args.shards.now (λ shard. shard.is_refused) c.number_for-number.result c.offer.new.self c.number_for-number.ensures.within
-    (c.in_err-answer.ensures.refused.0 (ap (λ e. Err e) (of_shard-storage c.from_residual.result c.in_err-answer.field-0.0 c.from_residual.ensures.1 is)))
+    (c.in_err-answer.ensures.refused.0 (ap (λ e. Err e) (is-storage c.from_residual.result c.in_err-answer.field-0.0 c.from_residual.ensures.1 is)))
 
 pub returns-in-ToOffered-clause-records : goal.returns-in-ToOffered-clause-records
 returns-in-ToOffered-clause-records g c = λ origin room.
     let own : c.as_str.result.now ≡ room_of c.args.offered.now.pdu = c.as_str.ensures.text ∙ c.room_id.ensures in
     room-called c.args.shards.now c.number_for-number.result c.index-shards-number.result c.offer.new.self (room_of c.args.offered.now.pdu) (to_offer origin c.args.offered.now) room refl
-    (c.number_for-number.ensures.number ∙ ap (place_of (length c.args.shards.now)) own) c.number_for-number.ensures.within (c.in_ok-answer.ensures.journal origin)
+    (c.number_for-number.ensures.number ∙ ap (place_number (length c.args.shards.now)) own) c.number_for-number.ensures.within (c.in_ok-answer.ensures.journal origin)
 
 pub returns-in-ToOffered-clause-places : goal.returns-in-ToOffered-clause-places
 returns-in-ToOffered-clause-places g c =
@@ -45,7 +45,7 @@ pub returns-in-NotHosted-clause-records : goal.returns-in-NotHosted-clause-recor
 returns-in-NotHosted-clause-records g c = λ origin room.
     let own : c.as_str.result.now ≡ room_of c.args.offered.now.pdu = c.as_str.ensures.text ∙ c.room_id.ensures in
     room-called c.args.shards.now c.number_for-number.result c.index-shards-number.result c.offer.new.self (room_of c.args.offered.now.pdu) (to_offer origin c.args.offered.now) room refl
-    (c.number_for-number.ensures.number ∙ ap (place_of (length c.args.shards.now)) own) c.number_for-number.ensures.within (c.in_ok-answer.ensures.journal origin)
+    (c.number_for-number.ensures.number ∙ ap (place_number (length c.args.shards.now)) own) c.number_for-number.ensures.within (c.in_ok-answer.ensures.journal origin)
 
 pub returns-in-NotHosted-clause-places : goal.returns-in-NotHosted-clause-places
 returns-in-NotHosted-clause-places g c =

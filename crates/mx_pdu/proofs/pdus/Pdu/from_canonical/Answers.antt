@@ -1,7 +1,7 @@
 use Rattle.std.proofs.Common.{IsTrue, sym, ap, ◌∙◌, subst, is_none}
 use Rattle.serde_json.specs.Data.{Data}
 use Rattle.serde_json.specs.View.{view}
-use Rattle.mx_canon.specs.Keys.{KeysRise}
+use Rattle.mx_canon.specs.KeyOrder.{KeysRise}
 use Rattle.mx_pdu.specs.Format.{is_well_formed}
 use Rattle.mx_pdu.proofs.CanonicalLemmas.{is_none-canonical_error}
 use Rattle.mx_pdu.proofs.FormatLemmas.{formed-from-none, object-of, object-is}

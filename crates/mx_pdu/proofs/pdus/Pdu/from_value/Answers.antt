@@ -1,7 +1,7 @@
 use Rattle.std.proofs.Common.{IsTrue, subst}
 use Rattle.serde_json.specs.Data.{Data}
 use Rattle.serde_json.specs.View.{view}
-use Rattle.mx_canon.specs.Keys.{KeysRise}
+use Rattle.mx_canon.specs.KeyOrder.{KeysRise}
 use Rattle.mx_pdu.specs.Format.{is_well_formed}
 use Rattle.mx_pdu.proofs.FormatLemmas.{formed-from-none, object-of, object-is}
 use Rattle.mx_pdu.proofs.pdus.Pdu.from_value.Goals as goal

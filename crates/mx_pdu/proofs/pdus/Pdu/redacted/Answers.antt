@@ -1,7 +1,7 @@
 use Rattle.std.proofs.Common.{◌≡◌, IsTrue, sym, ap, ◌∙◌, subst}
 use Rattle.serde_json.specs.Data.{Data, object}
 use Rattle.serde_json.specs.View.{members_view}
-use Rattle.mx_canon.specs.Keys.{KeysRise}
+use Rattle.mx_canon.specs.KeyOrder.{KeysRise}
 use Rattle.mx_redact.specs.Redaction.{redact}
 use Rattle.mx_pdu.specs.Event.{room_of, sender_of, prev_ids, auth_ids}
 use Rattle.mx_pdu.specs.Format.{is_well_formed}

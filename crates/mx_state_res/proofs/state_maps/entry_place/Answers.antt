@@ -3,7 +3,7 @@ use Rattle.std.proofs.lemmas.Fn.{always_returns_same}
 use Rattle.mx_auth.specs.Rules.{Key}
 use Rattle.mx_orders.specs.StateMap.{key_cmp}
 use Rattle.mx_state_res.proofs.PlaceLemmas.{searched}
-use Rattle.mx_state_res.proofs.state_maps.place_of.Goals as goal
+use Rattle.mx_state_res.proofs.state_maps.entry_place.Goals as goal
 
 pub returns-clause-found : goal.returns-clause-found
 returns-clause-found c =
