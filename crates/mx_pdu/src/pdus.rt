@@ -1,9 +1,9 @@
 // Events.
-ghost use Rattle.std.specs.Prelude.{◌≡◌, ◌↔◌, IfOk, IsErrOf, IsTrue, None, OnOk, Some, option_map};
+ghost use Rattle.std.specs.Prelude.{◌≡◌, ◌≤◌, ◌↔◌, IfOk, IsErrOf, IsTrue, None, OnOk, Some, length, option_map};
 ghost use Rattle.std.specs.Result.{result_err};
 ghost use Rattle.serde_json.specs.Data.{object};
 ghost use Rattle.serde_json.specs.View.{view, members_view};
-ghost use Rattle.mx_canon.specs.Canonical.{canonical_error, canonical_text};
+ghost use Rattle.mx_canon.specs.Canonical.{canonical_error, canonical_text, in_range, largest};
 ghost use Rattle.mx_canon.specs.KeyOrder.{KeysRise};
 ghost use Rattle.mx_redact.specs.Fields.{kind};
 ghost use Rattle.mx_redact.specs.Hashes.{hash_holds};
@@ -162,30 +162,34 @@ impl Pdu {
 
     /// The events that it follows, in its order, at most 20.
     pub fn prev_events(&self) -> &[EventId]
-        ensures { result.now ≡ prev_ids self.now }
+        ensures ids { result.now ≡ prev_ids self.now }
+        ensures most { length result.now ≤ 20 }
     {
         &self.prev_events
     }
 
     /// The events that it rests on, in its order, at most 10.
     pub fn auth_events(&self) -> &[EventId]
-        ensures { result.now ≡ auth_ids self.now }
+        ensures ids { result.now ≡ auth_ids self.now }
+        ensures most { length result.now ≤ 10 }
     {
         &self.auth_events
     }
 
     /// Its depth, at most 2^53 - 1.
     pub fn depth(&self) -> u64
-        ensures { result ≡ depth_of self.now }
+        ensures depth { result ≡ depth_of self.now }
+        ensures most { result ≤ largest }
     {
         field(&self.event, "depth")
             .and_then(Value::as_u64)
             .unwrap_or(0)
     }
 
-    /// When its server made it, in milliseconds since 1970.
+    /// When its server made it, in milliseconds since 1970, from -(2^53 - 1) to 2^53 - 1.
     pub fn origin_server_ts(&self) -> i64
-        ensures { result ≡ timestamp_of self.now }
+        ensures timestamp { result ≡ timestamp_of self.now }
+        ensures range { IsTrue (in_range result) }
     {
         integer_at(&self.event, "origin_server_ts").unwrap_or(0)
     }
