@@ -126,6 +126,7 @@ class Log:
     def __init__(self):
         self.lines = []
         self.answers = []
+        self.end = b"\n"
 
     def line(self, line, answer):
         self.lines.append(line if isinstance(line, bytes) else canonical(line))
@@ -154,8 +155,8 @@ class Log:
 
     def write(self, name):
         folder = Path(__file__).resolve().parent
-        for ending, lines in ((".jsonl", self.lines), (".answers.jsonl", self.answers)):
-            (folder / (name + ending)).write_bytes(b"".join(line + b"\n" for line in lines))
+        (folder / (name + ".jsonl")).write_bytes(b"\n".join(self.lines) + self.end)
+        (folder / (name + ".answers.jsonl")).write_bytes(b"\n".join(self.answers) + b"\n")
 
 
 class Base:
@@ -349,6 +350,44 @@ def malformed_events(log):
     log.open("a.example", "t1", [*bad, sound], {"open": 1})
     log.next("a.example", "t1", {"id": id_of(sound), "reply": ACCEPTED})
     log.close("a.example", "t1", {"closed": {"pdus": {id_of(sound): ACCEPTED}}})
+
+
+def format_limits(log):
+    """The limits of an event's format: the longest that is formed, and one beyond it."""
+    short = without(create(), "hashes", "state_key")
+    short = {**short, "type": "m.room.message", "hashes": {"sha256": "x"}, "content": {}}
+    text = 65_536 - len(canonical({**short, "content": {"body": ""}}))
+    for number, (key, within, over) in enumerate((
+        ("prev_events", ["$e"] * 20, ["$e"] * 21),
+        ("auth_events", ["$e"] * 10, ["$e"] * 11),
+        ("prev_events", ["$" + "e" * 254], ["$" + "e" * 255]),
+        ("depth", 9007199254740991, 9007199254740992),
+        ("depth", 0, -1),
+        ("origin_server_ts", -9007199254740991, "5"),
+        ("type", "t" * 255, "t" * 256),
+        ("state_key", "k" * 255, "k" * 256),
+        ("state_key", "", None),
+        ("sender", "@" + "a" * 252 + ":b", "@" + "a" * 253 + ":b"),
+        ("room_id", "!r:a", "@r:a"),
+        ("redacts", 1, 1.5),
+        ("content", {"body": "a" * text}, {"body": "a" * (text + 1)}),
+        ("content", {}, []),
+        ("hashes", {}, None),
+    )):
+        log.open("a.example", "t%d" % number, [{**short, key: within}, {**short, key: over}], {"open": 1})
+
+
+def signatures(log):
+    """An event is signed where its sender's server has a signature that is no empty text."""
+    base = Base(log)
+    said = message(A, [base.join_c], base.of_a)
+    told = []
+    for made in ({}, {"b.example": {"ed25519:1": "s"}}, {"a.example": "s"}, {"a.example": {"ed25519:1": 1}},
+                 {"a.example": {"ed25519:1": ""}}):
+        told.append(({**said, "signatures": made}, error("signature")))
+    said = message(A, [base.join_c], base.of_a, "n")
+    told.append(({**said, "signatures": {"a.example": {"ed25519:1": "", "ed25519:2": "s"}}}, ACCEPTED))
+    log.transaction("a.example", "t1", *told)
 
 
 def level_texts(log):
@@ -714,12 +753,14 @@ def bad_lines(log):
     # Of a key that is repeated the last value stands.
     log.line(b' { "txn" : "t1", "step":"next","origin":"a.example","txn":"t9"}\r', {"not_open": True})
     log.open("a.example", "t2", [{}] * 50, {"open": 0})
+    # The last line may lack its end.
+    log.end = b""
 
 
 ROWS = (
     host_refusals, join_before_join_rules, child_before_parent, steps_out_of_turn, last_text_stands, altered_content,
-    two_rooms_one_transaction, one_of_two_rooms_alone, refusals_in_their_order, malformed_events, level_texts,
-    power_level_changes, notification_levels, join_on_an_invite, ban_and_invite_rules, auth_events_check,
+    two_rooms_one_transaction, one_of_two_rooms_alone, refusals_in_their_order, malformed_events, format_limits,
+    signatures, level_texts, power_level_changes, notification_levels, join_on_an_invite, ban_and_invite_rules, auth_events_check,
     closed_to_other_servers, other_rules, demotion_race, demotion_before_the_topic, soft_failure, soft_failed_invite,
     rejected_parent, state_before_rejects, create_in_the_auth_difference, invited_after_leaving,
     left_after_the_invite, invited_by_newer_power_levels, invited_by_equal_power_levels, resolution_of_65_states,
