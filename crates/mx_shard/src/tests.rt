@@ -27,15 +27,11 @@ fn refused<E: Drop>(_error: E) -> AllocError {
     AllocError
 }
 
-fn offered(alloc: Global, id: &str, name: &str) -> Result<Offered, AllocError> {
+fn offered(alloc: Global, id: &str, name: &str, signed: bool) -> Result<Offered, AllocError> {
     let value = Value::from_str(alloc, event_named(name)).map_err(refused)?;
     let pdu = Pdu::from_value(alloc, value).map_err(refused)?;
     let id = EventId::parse(alloc, id).map_err(refused)?;
-    Ok(Offered {
-        pdu,
-        id,
-        signed: true,
-    })
+    Ok(Offered { pdu, id, signed })
 }
 
 // A call by its words, `host ID NAME`, `offer ID NAME` or `ask ID`, and why it was refused.
@@ -52,7 +48,7 @@ fn refusal<K: Keeper<Row = ShardRow>>(
         let query = Query::Event(EventId::parse(alloc, id).map_err(refused)?);
         return Ok(shard.ask(&query).err());
     }
-    let offered = offered(alloc, id, words.next().unwrap_or(""))?;
+    let offered = offered(alloc, id, words.next().unwrap_or(""), true)?;
     if !shard.place().has(offered.pdu.room_id().as_str()) {
         return Ok(None);
     }
@@ -62,12 +58,15 @@ fn refusal<K: Keeper<Row = ShardRow>>(
     Ok(shard.offer(caller, &offered).err())
 }
 
+fn shard_at(alloc: Global, place: Place) -> Result<Shard<MemoryKeeper<ShardRow>>, CallError> {
+    Shard::reopen(alloc, MemoryKeeper::new(alloc), place)
+}
+
 // The rows are the events that were kept, with the callers that offered them.
 #[test]
 fn rows_of_what_is_kept(rt: HostRuntime) -> Result<(), Fail> {
     let alloc = rt.alloc();
-    let keeper: MemoryKeeper<ShardRow> = MemoryKeeper::new(alloc);
-    let mut shard = Shard::reopen(alloc, keeper, Place::new(0, 1))?;
+    let mut shard = shard_at(alloc, Place::new(0, 1))?;
     for (caller, call) in [
         (3, "host $c create"),
         (4, "host $c create"),
