@@ -19,11 +19,7 @@ struct Outcome {
     err: Vec<u8>,
 }
 
-fn run_words(
-    alloc: Global,
-    words: &[&str],
-    input: &[u8],
-) -> Result<Outcome, AllocError> {
+fn run_words(alloc: Global, words: &[&str], input: &[u8]) -> Result<Outcome, AllocError> {
     let mut all = Vec::new(alloc);
     for word in words {
         all.push(String::from_str(alloc, word)?)?;

@@ -1,4 +1,4 @@
-use crate::{EventId, IdError, NotAnId, RoomId, ServerName, UserId};
+use crate::{IdError, NotAnId, ServerName, UserId};
 use std::alloc::Global;
 use std::test::Fail;
 

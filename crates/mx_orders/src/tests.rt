@@ -2,7 +2,7 @@ ghost use Rattle.std.specs.Prelude.{◌<◌, All, IfSome, length};
 ghost use Rattle.mx_orders.specs.Lists.{Distinct};
 
 use crate::plain_ordering::{plain_power_order, stands_in};
-use crate::{Mainline, mainline_order, power_order};
+use crate::power_order;
 use mx_graph::{EventNo, Graph, GraphRow};
 use mx_ident::EventId;
 use mx_pdu::Pdu;

@@ -1,10 +1,9 @@
 use crate::{
-    content_digest, content_hash, event_id, field, plain, redact, reference_digest, reference_hash,
-    signing_bytes, text_field,
+    content_digest, content_hash, event_id, plain, redact, reference_digest, signing_bytes,
 };
-use mx_canon::{CanonError, NotCanonical, text};
+use mx_canon::CanonError;
 use serde_json::{Map, Value};
-use std::alloc::{AllocError, Global};
+use std::alloc::Global;
 use std::test::Fail;
 
 const POWER_LEVELS: &str =

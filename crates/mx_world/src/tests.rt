@@ -2,7 +2,8 @@ ghost use Rattle.std.specs.Prelude.{◌≡◌, ◌≤◌, length, IfOk, IsTrue};
 ghost use Rattle.mx_world.specs.Worlds.{none_open};
 
 use crate::{
-    Answer, BookRow, CallError, Denied, Query, ShardRow, Step, StepReply, TransactionKey, World, run,
+    Answer, BookRow, CallError, Denied, Query, ShardRow, Step, StepReply, TransactionKey, World,
+    run,
 };
 use mx_ident::{EventId, ServerName};
 use mx_keeper::{MemoryKeeper, Storable, TransactionId};
