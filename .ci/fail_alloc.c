@@ -1,9 +1,10 @@
-/* Loaded before the C library, it refuses one allocation: the one whose number, from 1, is in FAIL_ALLOC. It then makes
-   the file that FAIL_ALLOC_MARK names, so that the caller learns that there was such an allocation. */
+/* Loaded before the C library, it refuses one allocation: the one whose number, from 1, is in FAIL_ALLOC. At the end of
+   the program it writes how many allocations there were into the file that FAIL_ALLOC_COUNT names, if it names one. */
 #define _GNU_SOURCE
 #include <dlfcn.h>
 #include <errno.h>
 #include <fcntl.h>
+#include <stdio.h>
 #include <stdlib.h>
 #include <unistd.h>
 
@@ -15,8 +16,6 @@ static int is_refused(void) {
         wanted = number ? atol(number) : 0;
     }
     if (++calls != wanted) return 0;
-    const char *mark = getenv("FAIL_ALLOC_MARK");
-    if (mark) close(open(mark, O_CREAT | O_WRONLY, 0600));
     errno = ENOMEM;
     return 1;
 }
@@ -31,4 +30,14 @@ void *realloc(void *old, size_t size) {
     static void *(*real)(void *, size_t);
     if (!real) real = dlsym(RTLD_NEXT, "realloc");
     return is_refused() ? NULL : real(old, size);
+}
+
+__attribute__((destructor)) static void write_count(void) {
+    const char *name = getenv("FAIL_ALLOC_COUNT");
+    if (!name) return;
+    char text[32];
+    int length = snprintf(text, sizeof text, "%ld", calls);
+    int file = open(name, O_CREAT | O_WRONLY | O_TRUNC, 0600);
+    if (write(file, text, length) != length) _exit(3);
+    close(file);
 }

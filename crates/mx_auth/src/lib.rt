@@ -16,6 +16,3 @@ pub use judging::{agreeing_states_judge_alike, judge};
 pub use refusals::Rule;
 pub use selecting::{NeededKeys, StateKey, needed_keys};
 pub use states::RoomState;
-
-#[cfg(test)]
-mod tests;

@@ -1,4 +1,4 @@
-use crate::{Book, CallError, Opening, TransactionKey};
+use crate::{Book, CallError, TransactionKey};
 use mx_ident::ServerName;
 use mx_keeper::{BookRow, Keeper, KeeperFault, MemoryKeeper, Place, Reply, TransactionId};
 use std::alloc::{AllocError, Global};
@@ -23,82 +23,6 @@ fn reply(alloc: Global, text: &str) -> Result<Reply, AllocError> {
 // The one book of a server, with no transaction.
 fn only_book(alloc: Global) -> Result<Book<MemoryKeeper<BookRow>>, CallError> {
     Book::reopen(alloc, MemoryKeeper::new(alloc), Place::new(0, 1))
-}
-
-// Runs a list of calls, and gives a line for each. A call that the book does not allow is told as such.
-fn told_by(alloc: Global, calls: &[(&str, u64, &str, &str, &str)]) -> Result<String, CallError> {
-    let mut book = only_book(alloc)?;
-    let mut lines = String::new(alloc);
-    for (call, caller, origin, txn, text) in calls {
-        let key = key(alloc, origin, txn)?;
-        let line = tell(alloc, &mut book, call, *caller, &key, text)?;
-        lines.push_str(line.as_str())?;
-        lines.push_str("\n")?;
-    }
-    Ok(lines)
-}
-
-fn tell(
-    alloc: Global,
-    book: &mut Book<MemoryKeeper<BookRow>>,
-    call: &str,
-    caller: u64,
-    key: &TransactionKey,
-    text: &str,
-) -> Result<String, CallError> {
-    if call == "open" {
-        if !book.place().has(key.origin.as_str()) {
-            return Ok(String::from_str(alloc, "another place")?);
-        }
-        return Ok(match book.open(caller, key)? {
-            Opening::Fresh => String::from_str(alloc, "fresh")?,
-            Opening::Busy => String::from_str(alloc, "busy")?,
-            Opening::Kept(reply) => reply.into_string(),
-        });
-    }
-    if !book.is_begun(caller, key) {
-        return Ok(String::from_str(alloc, "not begun")?);
-    }
-    if call == "keep" {
-        book.keep(caller, key, reply(alloc, text)?)?;
-    } else {
-        book.give_up(caller, key);
-    }
-    Ok(String::from_str(alloc, "ended")?)
-}
-
-const CALLS: [(&str, u64, &str, &str, &str); 13] = [
-    ("open", 0, "a.example", "t1", ""),
-    ("open", 1, "a.example", "t1", ""),
-    ("keep", 1, "a.example", "t1", "other"),
-    ("open", 1, "b.example", "t1", ""),
-    ("keep", 0, "a.example", "t1", "{\"pdus\":{}}"),
-    ("open", 1, "a.example", "t1", ""),
-    ("keep", 0, "a.example", "t1", "again"),
-    ("keep", 1, "b.example", "t1", "{}"),
-    ("open", 0, "b.example", "t1", ""),
-    ("open", 0, "a.example", "t2", ""),
-    ("give up", 0, "a.example", "t2", ""),
-    ("open", 2, "a.example", "t2", ""),
-    ("open", 0, "a.example", "t1", ""),
-];
-
-const TOLD: &str =
-    "fresh\nbusy\nnot begun\nfresh\nended\n{\"pdus\":{}}\nnot begun\nended\n{}\nfresh\nended\nfresh\n{\"pdus\":{}}\n";
-
-#[test]
-fn a_kept_reply_is_the_answer_for_good(rt: HostRuntime) -> Result<(), Fail> {
-    let lines = told_by(rt.alloc(), &CALLS)?;
-    assert_eq!(rt; lines.as_str(), TOLD);
-    Ok(())
-}
-
-#[test]
-fn replies_or_no_memory(rt: HostRuntime) {
-    match told_by(rt.alloc(), &CALLS) {
-        Ok(lines) => assert_eq!(rt; lines.as_str(), TOLD),
-        Err(error) => assert_eq!(rt; error, CallError::Memory),
-    }
 }
 
 // A call that is refused for memory leaves the book, so that the same call goes on where memory is ample.

@@ -23,10 +23,6 @@ use std::io::{self, Read, Write};
 use std::process::ExitCode;
 
 #[cfg(test)]
-mod replay_logs;
-#[cfg(test)]
-mod replay_tests;
-#[cfg(test)]
 mod tests;
 
 /// Runs the program on the words of its command line, the first of which is its name, and gives its exit status:

@@ -13,17 +13,13 @@ const HEAD: &str = "id $T88qUID58cSwgtjrzS_C35dNVOdZei7Dk6AJtTNbu9U\nhash bad\nc
 
 // What a run of the program leaves.
 #[derive(Drop)]
-pub(crate) struct Outcome {
-    pub(crate) status: u8,
-    pub(crate) out: Vec<u8>,
-    pub(crate) err: Vec<u8>,
+struct Outcome {
+    status: u8,
+    out: Vec<u8>,
+    err: Vec<u8>,
 }
 
-pub(crate) fn run_words(
-    alloc: Global,
-    words: &[&str],
-    input: &[u8],
-) -> Result<Outcome, AllocError> {
+fn run_words(alloc: Global, words: &[&str], input: &[u8]) -> Result<Outcome, AllocError> {
     let mut all = Vec::new(alloc);
     for word in words {
         all.push(String::from_str(alloc, word)?)?;
@@ -110,6 +106,23 @@ fn words_that_ask_for_nothing(rt: HostRuntime) -> Result<(), Fail> {
         assert_eq!(rt; ran.status, 2, "at {word}");
         assert!(rt; ran.out.is_empty(), "at {word}");
         assert!(rt; !ran.err.is_empty(), "at {word}");
+    }
+    Ok(())
+}
+
+#[test]
+fn words_of_replay(rt: HostRuntime) -> Result<(), Fail> {
+    for words in [
+        ["--name", "", "--shards", "1"],
+        ["--name", "hub.example", "--shards", "0"],
+        ["--name", "hub.example", "--shards", "65"],
+        ["--name", "hub.example", "--shards", "x"],
+        ["--shards", "1", "--shards", "1"],
+    ] {
+        let [a, b, c, d] = words;
+        let ran = run_words(rt.alloc(), &["mx_federd", "replay", a, b, c, d], b"")?;
+        assert_eq!(rt; ran.status, 2, "at {b} {d}");
+        assert!(rt; ran.out.is_empty());
     }
     Ok(())
 }

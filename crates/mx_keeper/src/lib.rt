@@ -20,6 +20,3 @@ pub use replies::Reply;
 pub use rows::{BookRow, ShardRow};
 pub use storing::Storable;
 pub use transaction_ids::TransactionId;
-
-#[cfg(test)]
-mod tests;

@@ -8,6 +8,3 @@ mod reading;
 
 pub use power_levels::Levels;
 pub use reading::{entry_at, level_at, read_level};
-
-#[cfg(test)]
-mod tests;

@@ -2,7 +2,7 @@ ghost use Rattle.std.specs.Prelude.{◌<◌, All, IfSome, length};
 ghost use Rattle.mx_orders.specs.Lists.{Distinct};
 
 use crate::plain_ordering::{plain_power_order, stands_in};
-use crate::{Mainline, mainline_order, power_order};
+use crate::power_order;
 use mx_graph::{EventNo, Graph, GraphRow};
 use mx_ident::EventId;
 use mx_pdu::Pdu;
@@ -77,25 +77,6 @@ fn power_graph(alloc: Global) -> Option<Graph> {
             ("$b", rules, "", 100, "[\"$c\",\"$m\",\"$z\"]", "{}"),
             ("$d", rules, "", 50, "[\"$c\",\"$m\",\"$a\"]", "{}"),
             ("$e", rules, "", 100, "[\"$c\",\"$m\"]", "{}"),
-        ],
-    )
-}
-
-fn mainline_graph(alloc: Global) -> Option<Graph> {
-    let power = "m.room.power_levels";
-    let rules = "m.room.join_rules";
-    graph(
-        alloc,
-        &[
-            CREATE,
-            ("$p1", power, "", 100, "[\"$c\"]", LEVELS),
-            ("$p2", power, "", 250, "[\"$p1\"]", LEVELS),
-            ("$p3", power, "", 100, "[\"$p2\"]", LEVELS),
-            ("$q", rules, "", 900, "[\"$c\"]", "{}"),
-            ("$r", rules, "", 300, "[\"$p1\"]", "{}"),
-            ("$s", rules, "", 200, "[\"$p1\"]", "{}"),
-            ("$t", rules, "", 100, "[\"$p3\"]", "{}"),
-            ("$u", rules, "", 100, "[\"$p3\"]", "{}"),
         ],
     )
 }
@@ -179,75 +160,4 @@ fn one_order_by_both_bodies(rt: HostRuntime) -> Result<(), Fail> {
         assert_eq!(rt; order, plain_power_order(alloc, &graph, &events)?);
     }
     Ok(())
-}
-
-#[test]
-fn mainline_positions(rt: HostRuntime) -> Result<(), Fail> {
-    let alloc = rt.alloc();
-    let graph = mainline_graph(alloc).ok_or("no memory")?;
-    let power = graph.find(&EventId::parse(alloc, "$p3")?);
-    let mainline = Mainline::of(alloc, &graph, power)?;
-    for (id, position) in [
-        ("$q", None),
-        ("$r", Some(2)),
-        ("$s", Some(2)),
-        ("$p2", Some(2)),
-        ("$t", Some(0)),
-        ("$u", Some(0)),
-    ] {
-        let event = graph.find(&EventId::parse(alloc, id)?).ok_or("unknown")?;
-        assert_eq!(rt; mainline.position(&graph, event), position, "at {id}");
-    }
-    Ok(())
-}
-
-#[test]
-fn mainline_order_by_positions(rt: HostRuntime) -> Result<(), Fail> {
-    let alloc = rt.alloc();
-    let graph = mainline_graph(alloc).ok_or("no memory")?;
-    let power = graph.find(&EventId::parse(alloc, "$p3")?);
-    let mainline = Mainline::of(alloc, &graph, power)?;
-    let events = numbers(alloc, &graph, &["$p2", "$q", "$r", "$s", "$t", "$u"]).ok_or("no memory")?;
-    let order = numbers(alloc, &graph, &["$q", "$s", "$p2", "$r", "$t", "$u"]).ok_or("no memory")?;
-    assert_eq!(rt; mainline_order(alloc, &graph, &mainline, &events)?, order);
-    Ok(())
-}
-
-#[test]
-fn mainline_order_without_power_levels(rt: HostRuntime) -> Result<(), Fail> {
-    let alloc = rt.alloc();
-    let rules = "m.room.join_rules";
-    let graph = graph(
-        alloc,
-        &[
-            ("$j", rules, "", 5, "[]", "{}"),
-            ("$k", rules, "", 5, "[]", "{}"),
-            ("$l", rules, "", 3, "[]", "{}"),
-        ],
-    )
-    .ok_or("no memory")?;
-    let mainline = Mainline::of(alloc, &graph, None)?;
-    let events = numbers(alloc, &graph, &["$k", "$j", "$l"]).ok_or("no memory")?;
-    let order = numbers(alloc, &graph, &["$l", "$j", "$k"]).ok_or("no memory")?;
-    assert_eq!(rt; mainline_order(alloc, &graph, &mainline, &events)?, order);
-    Ok(())
-}
-
-#[test]
-fn orders_or_no_memory(rt: HostRuntime) {
-    let alloc = rt.alloc();
-    let Some(graph) = power_graph(alloc) else {
-        return;
-    };
-    let Some(events) = numbers(alloc, &graph, &["$z", "$a", "$e"]) else {
-        return;
-    };
-    if let Ok(order) = power_order(alloc, &graph, &events) {
-        assert_eq!(rt; order.len(), 3);
-    }
-    if let Ok(mainline) = Mainline::of(alloc, &graph, events.first().copied()) {
-        if let Ok(order) = mainline_order(alloc, &graph, &mainline, &events) {
-            assert_eq!(rt; order.len(), 3);
-        }
-    }
 }

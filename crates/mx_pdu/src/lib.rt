@@ -11,8 +11,6 @@ mod lookups;
 mod offering;
 mod pdus;
 mod refusals;
-#[cfg(test)]
-mod tests;
 mod verifiers;
 
 pub use laws::redaction_keeps_the_format;

@@ -15,6 +15,3 @@ mod verdicts;
 pub use refusals::{NotReceived, OfferError};
 pub use timelines::Timeline;
 pub use verdicts::Verdict;
-
-#[cfg(test)]
-mod tests;

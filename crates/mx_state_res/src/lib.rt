@@ -17,6 +17,3 @@ pub use event_sets::rising;
 pub use laws::{equal_states_resolve_to_themselves, one_state_resolves_to_itself};
 pub use resolving::resolve;
 pub use state_maps::StateMap;
-
-#[cfg(test)]
-mod tests;
