@@ -45,7 +45,7 @@ fn room_line(alloc: Global, answer: &Answer) -> Result<Vec<u8>, AllocError> {
 fn refusal(alloc: Global, error: NotARoom) -> Result<String, AllocError> {
     match error {
         NotARoom::CitesAuthEvents => String::from_str(alloc, "malformed"),
-        _ => format!(in alloc; "{error}"),
+        _ => error.to_string(alloc),
     }
 }
 

@@ -1,10 +1,11 @@
 -- What the parts of a `Pdu` are.
-use Rattle.std.specs.Prelude.{◌≡◌, IsTrue}
+use Rattle.std.specs.Prelude.{◌≡◌, IsTrue, option_map, string_bytes}
 use Rattle.serde_json.specs.Data.{Data, object}
 use Rattle.serde_json.specs.View.{members_view}
 use Rattle.mx_canon.specs.KeyOrder.{KeysRise}
 use Rattle.mx_redact.specs.Hashes.{hash_holds}
-use Rattle.mx_pdu.specs.Event.{room_of, sender_of, prev_ids, auth_ids}
+use Rattle.mx_redact.specs.Fields.{kind}
+use Rattle.mx_pdu.specs.Event.{room_of, sender_of, state_key_of, prev_ids, auth_ids}
 use Rattle.mx_pdu.specs.Format.{is_well_formed}
 use Rattle.mx_pdu.specs.declared.pdus.Parts.{Parts}
 
@@ -15,6 +16,8 @@ event_of p = object (members_view p.event.entries)
 pub record IsSound (p : Parts) : Type 0 where
   pub well_formed : IsTrue (is_well_formed (event_of p))
   pub rise : KeysRise (event_of p)
+  pub kind_is : string_bytes p.kind ≡ kind (event_of p)
+  pub state_key_is : option_map string_bytes p.state_key ≡ state_key_of (event_of p)
   pub room : p.room_id ≡ room_of (event_of p)
   pub sender : p.sender ≡ sender_of (event_of p)
   pub prev : p.prev_events.items ≡ prev_ids (event_of p)

@@ -1,18 +1,34 @@
-// Values in an event. Nothing here takes memory.
-ghost use Rattle.std.specs.Prelude.{◌≡◌, option_and_then, option_map};
+// Values in an event.
+ghost use Rattle.std.specs.Prelude.{◌≡◌, IfOk, option_and_then, option_map, string_bytes};
 ghost use Rattle.serde_json.specs.Data.{object};
 ghost use Rattle.serde_json.specs.Find.{as_array, as_i64, as_number, as_object};
 ghost use Rattle.serde_json.specs.View.{view, items_view, members_view};
-ghost use Rattle.mx_redact.specs.Fields.{field, text_at as text_or_empty};
+ghost use Rattle.mx_redact.specs.Fields.{field, text_field as text_field_of, text_at as text_or_empty};
 
 use mx_redact::{field, text_field};
 use serde_json::{Map, Value};
+use std::alloc::{AllocError, Global};
 
 // The text at a key, else the empty text.
 pub fn text_or_empty_at<'a>(event: &'a Map<String, Value>, key: &str) -> &'a str
     ensures { result.now ≡ text_or_empty key.now (object (members_view event.now.entries)) }
 {
     text_field(event, key).unwrap_or("")
+}
+
+// A copy of the text at a key.
+pub fn text_copied_from(
+    alloc: Global,
+    event: &Map<String, Value>,
+    key: &str,
+) -> Result<Option<String>, AllocError>
+    ensures { IfOk result (λ text. option_map string_bytes text
+        ≡ text_field_of key.now (object (members_view event.now.entries))) }
+{
+    match text_field(event, key) {
+        Some(text) => Ok(Some(String::from_str(alloc, text)?)),
+        None => Ok(None),
+    }
 }
 
 // The 64-bit integer at a key.

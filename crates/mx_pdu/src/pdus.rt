@@ -15,7 +15,7 @@ ghost use Rattle.mx_pdu.specs.declared.refusals.NotAnEvent.{NotAnEvent as Cause}
 use crate::checking::{check_canonical_format, check_format};
 use crate::hashes::holds_hash;
 use crate::ids::{event_ids_at, room_id_of, user_id_of};
-use crate::lookups::{integer_at, into_object, object_at, text_or_empty_at};
+use crate::lookups::{integer_at, into_object, object_at, text_copied_from, text_or_empty_at};
 use crate::refusals::{NotAnEvent, PduError};
 use mx_ident::{EventId, RoomId, UserId};
 use mx_redact::{field, redact, text_field};
@@ -37,6 +37,8 @@ pub struct Pdu {
 #[derive(Debug, Drop)]
 struct Parts {
     event: Map<String, Value>,
+    kind: String,
+    state_key: Option<String>,
     room_id: RoomId,
     sender: UserId,
     prev_events: Vec<EventId>,
@@ -108,6 +110,8 @@ impl Pdu {
         requires keys { KeysRise (object (members_view event.entries)) }
         ensures { IfOk result (λ pdu. pdu ≡ object (members_view event.entries)) }
     {
+        let kind = String::from_str(alloc, text_or_empty_at(&event, "type"))?;
+        let state_key = text_copied_from(alloc, &event, "state_key")?;
         let room_id = room_id_of(alloc, text_or_empty_at(&event, "room_id"))?;
         let sender = user_id_of(alloc, text_or_empty_at(&event, "sender"))?;
         let prev_events = event_ids_at(alloc, &event, "prev_events")?;
@@ -117,6 +121,8 @@ impl Pdu {
             alloc,
             Parts {
                 event,
+                kind,
+                state_key,
                 room_id,
                 sender,
                 prev_events,
@@ -142,7 +148,7 @@ impl Pdu {
     pub fn kind(&self) -> &str
         ensures { result.now ≡ kind self.now }
     {
-        text_or_empty_at(&self.parts.event, "type")
+        &self.parts.kind
     }
 
     /// The room that it is of.
@@ -163,7 +169,10 @@ impl Pdu {
     pub fn state_key(&self) -> Option<&str>
         ensures { option_map (λ key. key.now) result ≡ state_key_of self.now }
     {
-        text_field(&self.parts.event, "state_key")
+        match &self.parts.state_key {
+            Some(key) => Some(key.as_str()),
+            None => None,
+        }
     }
 
     /// Its content.
@@ -238,6 +247,8 @@ impl Pdu {
     {
         let old = &*self.parts;
         let event = redact(alloc, &old.event)?;
+        let kind = String::from_str(alloc, text_or_empty_at(&event, "type"))?;
+        let state_key = text_copied_from(alloc, &event, "state_key")?;
         let room_id = old.room_id.clone()?;
         let sender = old.sender.clone()?;
         let prev_events = old.prev_events.clone()?;
@@ -247,6 +258,8 @@ impl Pdu {
             alloc,
             Parts {
                 event,
+                kind,
+                state_key,
                 room_id,
                 sender,
                 prev_events,

@@ -18,4 +18,4 @@ mod tests;
 pub use fields::{field, text_field};
 pub use hashing::{content_digest, content_hash, reference_digest, reference_hash};
 pub use redacting::redact;
-pub use signing::{event_id, id_with_hash, signing_bytes};
+pub use signing::{event_id, event_id_by_text, id_with_hash, signing_bytes};

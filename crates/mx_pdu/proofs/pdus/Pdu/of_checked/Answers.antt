@@ -5,10 +5,10 @@ use Rattle.mx_pdu.proofs.IdLemmas.{room-is, sender-is, prev-are, auth-are}
 use Rattle.mx_pdu.proofs.pdus.Pdu.of_checked.Goals as goal
 
 pub room_id_of-requires : goal.room_id_of-requires
-room_id_of-requires c = ap is_room_id c.text_or_empty_at.ensures ∙ room-is _ c.requires.well_formed
+room_id_of-requires c = ap is_room_id c.text_or_empty_at-2.ensures ∙ room-is _ c.requires.well_formed
 
 pub user_id_of-requires : goal.user_id_of-requires
-user_id_of-requires c = ap is_user_id c.text_or_empty_at-2.ensures ∙ sender-is _ c.requires.well_formed
+user_id_of-requires c = ap is_user_id c.text_or_empty_at-3.ensures ∙ sender-is _ c.requires.well_formed
 
 pub event_ids_at-requires : goal.event_ids_at-requires
 event_ids_at-requires c = prev-are _ c.requires.well_formed
@@ -21,8 +21,10 @@ invariant_of-result c =
     subst IsSound (sym c.in_ok-parts.ensures.ok) (record {
       well_formed = c.requires.well_formed;
       rise = c.requires.keys;
-      room = c.in_ok-room_id.ensures ∙ c.text_or_empty_at.ensures;
-      sender = c.in_ok-sender.ensures ∙ c.text_or_empty_at-2.ensures;
+      kind_is = c.in_ok-kind.ensures.ok ∙ c.text_or_empty_at.ensures;
+      state_key_is = c.in_ok-state_key.ensures;
+      room = c.in_ok-room_id.ensures ∙ c.text_or_empty_at-2.ensures;
+      sender = c.in_ok-sender.ensures ∙ c.text_or_empty_at-3.ensures;
       prev = c.in_ok-prev_events.ensures;
       auth = c.in_ok-auth_events.ensures;
       hash = c.holds_hash-hash_holds.ensures;

@@ -19,6 +19,8 @@ invariant_of-result c =
     subst IsSound (sym c.in_ok-parts.ensures.ok) (record {
       well_formed = subst (λ (d : Data). IsTrue (is_well_formed d)) e (redact-well_formed before known.well_formed known.rise);
       rise = subst KeysRise e (rise-redact before (formed before known.well_formed).has_object known.rise);
+      kind_is = c.in_ok-kind.ensures.ok ∙ c.text_or_empty_at.ensures;
+      state_key_is = c.in_ok-state_key.ensures;
       room = c.in_ok-room_id.ensures.cases ∙ known.room ∙ sym (room-redact before) ∙ ap room_of e;
       sender = c.in_ok-sender.ensures.cases ∙ known.sender ∙ sym (sender-redact before) ∙ ap sender_of e;
       prev = texts-copied _ c.in_ok-prev_events.prev_events.items c.in_ok-prev_events.ensures.cases.0 ∙ known.prev ∙ sym (prev-redact before) ∙ ap prev_ids e;
