@@ -12,7 +12,7 @@ use crate::pdus::Pdu;
 use crate::verifiers::Verifier;
 use mx_canon::CanonError;
 use mx_ident::EventId;
-use mx_redact::{event_id, signing_bytes};
+use mx_redact::{event_id_by_text, signing_bytes};
 use serde_json::{Map, Value};
 use std::alloc::{AllocError, Global};
 
@@ -35,9 +35,9 @@ impl Offered {
         ensures signed { IfOk result (λ offered. offered.signed
             ≡ V.judges verifier.now (server_of (sender_of pdu)) (signing_text pdu) (value_at (codes "signatures") pdu)) }
     {
-        let id = id_of(alloc, &pdu)?;
         let server = pdu.sender().server_name(alloc)?;
         let bytes = signing_bytes_of(alloc, &pdu)?;
+        let id = event_id_by_text(alloc, &bytes)?;
         let signed = verifier.accepts(&server, &bytes, signatures_of(&pdu));
         Ok(Offered { pdu, id, signed })
     }
@@ -54,17 +54,6 @@ impl Clone for Offered {
             id,
             signed: self.signed,
         })
-    }
-}
-
-fn id_of(alloc: Global, pdu: &Pdu) -> Result<EventId, AllocError>
-    ensures { IfOk result (λ id. id ≡ event_id_of pdu.now) }
-{
-    let event = pdu.as_map();
-    match event_id(alloc, event) {
-        Ok(id) => Ok(id),
-        Err(CanonError::Memory) => Err(AllocError),
-        Err(CanonError::NotCanonical(_)) => unreachable!(),
     }
 }
 
