@@ -1,7 +1,7 @@
 -- Worked examples of the authorization rules, over the room of `RoomBase`.
 use Rattle.std.specs.Prelude.{◌≡◌, ℕ, refl, map, replicate, List, ◌∷◌, [], codes, true, false, Option, Some, None}
 use Prim.Native.String.{String}
-use Rattle.serde_json.specs.Data.{Data, boolean, array, no_items}
+use Rattle.serde_json.specs.Data.{Data, null, boolean, array, no_items}
 use Rattle.mx_redact.specs.Fields.{Event, words}
 use Rattle.mx_auth.specs.StateView.{StateView}
 use Rattle.mx_auth.specs.Rules.{Cited, rules, auth_rules, needed_keys, label_text}
@@ -143,6 +143,11 @@ ban-below = refl
 invite-third_party : rules (event 7 "m.room.member" (keyed "@d:d.example") "@a:a.example" (fields ((codes "membership", text "invite") ∷ (codes "third_party_invite", no_fields) ∷ [])) [] []) after6 ≡ Some InviteByThirdParty
 unfolding rules_on_examples
 invite-third_party = refl
+
+-- null is a value
+invite-third_party_null : rules (event 7 "m.room.member" (keyed "@d:d.example") "@a:a.example" (fields ((codes "membership", text "invite") ∷ (codes "third_party_invite", null) ∷ [])) [] []) after6 ≡ Some InviteByThirdParty
+unfolding rules_on_examples
+invite-third_party_null = refl
 
 topic-not_joined : rules (topic 7 "@d:d.example" []) after6 ≡ Some SenderNotJoined
 unfolding rules_on_examples
@@ -377,6 +382,10 @@ users-no_id = refl
 users-no_object : rules (power 9 (fields ((codes "users", array no_items) ∷ [])) "@a:a.example" []) (without_power []) ≡ Some UsersMalformed
 unfolding rules_on_examples
 users-no_object = refl
+
+users-null : rules (power 9 (fields ((codes "users", null) ∷ [])) "@a:a.example" []) (without_power []) ≡ Some UsersMalformed
+unfolding rules_on_examples
+users-null = refl
 
 -- B and C have 50, the sender is B
 abbrev with : List (List ℕ × Data) → Data

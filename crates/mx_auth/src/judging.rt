@@ -2,10 +2,10 @@
 ghost use Rattle.std.specs.Prelude.{◌≡◌, ◌&&◌, not};
 ghost use Rattle.std.specs.Result.{result_err};
 ghost use Rattle.mx_ident.specs.Identifier.{begins_with};
-ghost use Rattle.mx_redact.specs.Fields.{kind};
+ghost use Rattle.mx_redact.specs.Fields.{Event, kind};
 ghost use Rattle.mx_pdu.specs.Event.{is_state};
 ghost use Rattle.mx_levels.specs.Level.{required_level};
-ghost use Rattle.mx_auth.specs.StateView.{power_of};
+ghost use Rattle.mx_auth.specs.StateView.{StateView, power_of};
 ghost use Rattle.mx_auth.specs.Rules.{first_line, rules, other_lines, third_party_invite_lines, reaches, target_of as target, is_own as is_own_event, needed_keys, AgreeAt};
 
 use crate::creating::judge_create;
@@ -91,9 +91,8 @@ fn judge_third_party_invite<S: RoomState>(event: &Pdu, state: &S) -> Result<(), 
 }
 
 /// Two states judge an event alike where they agree on the create event's id and at the event's
-/// [`needed_keys`](crate::needed_keys). It does nothing: this is what it ensures.
-pub fn agreeing_states_judge_alike<S: RoomState, T: RoomState>(event: &Pdu, one: &S, other: &T)
-    ensures { (S.state one.now).create_id ≡ (T.state other.now).create_id
-        → AgreeAt (needed_keys event.now) (S.state one.now) (T.state other.now)
-        → rules event.now (S.state one.now) ≡ rules event.now (T.state other.now) }
+/// [`needed_keys`](crate::needed_keys), whatever types hold them. It does nothing: this is what it ensures.
+pub fn agreeing_states_judge_alike()
+    ensures { (event : Event) (one other : StateView) → one.create_id ≡ other.create_id
+        → AgreeAt (needed_keys event) one other → rules event one ≡ rules event other }
 {}

@@ -1,6 +1,6 @@
 // What takes a text in pieces.
-ghost use Rattle.std.specs.Prelude.{◌≡◌, ℕ, ◌++◌, List, [], IfOk};
-ghost use Rattle.mx_canon.specs.Sinks.{HoldsText};
+ghost use Rattle.std.specs.Prelude.{◌≡◌, ℕ, ◌++◌, List, [], IfOk, MatchResult, true, false};
+ghost use Rattle.mx_canon.specs.Sinks.{HoldsText, is_refused};
 
 use std::alloc::{AllocError, Global};
 
@@ -40,7 +40,8 @@ pub struct TextBuffer {
 impl TextBuffer {
     /// A buffer that has taken nothing.
     pub fn new(alloc: Global) -> TextBuffer
-        ensures { HoldsText result [] }
+        ensures text { HoldsText result [] }
+        ensures refused { is_refused result ≡ false }
     {
         TextBuffer {
             bytes: Vec::new(alloc),
@@ -48,9 +49,12 @@ impl TextBuffer {
         }
     }
 
-    /// The text that it has taken, unless memory ran out on the way.
+    /// The text that it has taken.
+    ///
+    /// `AllocError` where it was refused the memory for a piece, and nowhere else.
     pub fn into_bytes(self) -> Result<Vec<u8>, AllocError>
-        ensures { IfOk result (λ bytes. (text : List ℕ) → HoldsText self text → bytes.items ≡ text) }
+        ensures ok { IfOk result (λ bytes. (text : List ℕ) → HoldsText self text → bytes.items ≡ text) }
+        ensures refused { MatchResult result (λ _. is_refused self ≡ false) (λ _. is_refused self ≡ true) }
     {
         if self.is_refused {
             Err(AllocError)

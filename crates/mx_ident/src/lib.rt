@@ -1,5 +1,10 @@
 //! Matrix identifiers, as the Matrix specification's appendix "Identifier Grammar" defines them: user ids, room ids,
 //! event ids and server names, each of which owns its text.
+//!
+//! They stay four types, and not one that is generic over its kind: a room id can't stand where a user id is asked, each
+//! contract names its own grammar (an event id has no server, a server name no sigil), and what they share is their
+//! tests of a text, which stand once, in `checking`. The price is that `Clone`, `Ord` and `Display` are written four
+//! times.
 #![tactic(auto)]
 
 mod checking;

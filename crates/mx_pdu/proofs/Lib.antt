@@ -5,6 +5,7 @@ pub mod FormatLemmas
 pub mod HashLemmas
 pub mod IdLemmas
 pub mod LengthLemmas
+pub mod LimitLemmas
 pub mod LookupLemmas
 pub mod RedactionLemmas
 pub mod RiseLemmas

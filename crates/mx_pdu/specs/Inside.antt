@@ -3,18 +3,20 @@ use Rattle.std.specs.Prelude.{◌≡◌, IsTrue}
 use Rattle.serde_json.specs.Data.{Data, object}
 use Rattle.serde_json.specs.View.{members_view}
 use Rattle.mx_canon.specs.KeyOrder.{KeysRise}
+use Rattle.mx_redact.specs.Hashes.{hash_holds}
 use Rattle.mx_pdu.specs.Event.{room_of, sender_of, prev_ids, auth_ids}
 use Rattle.mx_pdu.specs.Format.{is_well_formed}
-use Rattle.mx_pdu.specs.declared.pdus.Pdu.TheInside.{Inside}
+use Rattle.mx_pdu.specs.declared.pdus.Parts.{Parts}
 
-abbrev pub event_of : Inside → Data
+abbrev pub event_of : Parts → Data
 event_of p = object (members_view p.event.entries)
 
--- the event is well formed, and the ids beside it are its own
-pub record IsSound (p : Inside) : Type 0 where
+-- the event is well formed, and what stands beside it is its own
+pub record IsSound (p : Parts) : Type 0 where
   pub well_formed : IsTrue (is_well_formed (event_of p))
   pub rise : KeysRise (event_of p)
   pub room : p.room_id ≡ room_of (event_of p)
   pub sender : p.sender ≡ sender_of (event_of p)
   pub prev : p.prev_events.items ≡ prev_ids (event_of p)
   pub auth : p.auth_events.items ≡ auth_ids (event_of p)
+  pub hash : p.hash_holds ≡ hash_holds (event_of p)

@@ -1,18 +1,29 @@
-// The content hash that an event names. Nothing here takes memory.
+// Whether an event's content hash holds. Nothing here takes memory.
 ghost use Rattle.std.specs.Prelude.{◌≡◌, bytes_eq, codes, option_map};
 ghost use Rattle.base64.specs.Engines.{standard_no_pad};
 ghost use Rattle.base64.specs.GeneralPurpose.{encode_of};
 ghost use Rattle.serde_json.specs.Data.{object};
 ghost use Rattle.serde_json.specs.View.{members_view};
 ghost use Rattle.mx_redact.specs.Fields.{text_field, value_at};
+ghost use Rattle.mx_redact.specs.Hashes.{hash_holds};
 
 use crate::lookups::object_at;
 use base64::engine::general_purpose::STANDARD_NO_PAD;
-use mx_redact::text_field;
+use mx_redact::{content_digest, text_field};
 use serde_json::{Map, Value};
 
+// Whether the content hash is the one that the event names.
+pub fn holds_hash(event: &Map<String, Value>) -> bool
+    ensures { result ≡ hash_holds (object (members_view event.now.entries)) }
+{
+    match named_hash(event) {
+        Some(text) => is_text_of(text, &content_digest(event)),
+        None => false,
+    }
+}
+
 // The text at `sha256` in `hashes`.
-pub fn named_hash(event: &Map<String, Value>) -> Option<&str>
+fn named_hash(event: &Map<String, Value>) -> Option<&str>
     ensures { option_map (λ text. text.now) result
         ≡ text_field (codes "sha256") (value_at (codes "hashes") (object (members_view event.now.entries))) }
 {
@@ -23,7 +34,7 @@ pub fn named_hash(event: &Map<String, Value>) -> Option<&str>
 }
 
 // Whether the text is the unpadded standard base64 of the hash.
-pub fn is_text_of(text: &str, hash: &[u8; 32]) -> bool
+fn is_text_of(text: &str, hash: &[u8; 32]) -> bool
     ensures { result ≡ bytes_eq text.now (encode_of standard_no_pad hash.now) }
 {
     text.as_bytes() == encoded(hash).as_slice()

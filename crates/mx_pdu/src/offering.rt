@@ -43,6 +43,20 @@ impl Offered {
     }
 }
 
+impl Clone for Offered {
+    ghost is_clone = { λ offered copy. copy ≡ offered };
+
+    fn clone(&self) -> Result<Offered, AllocError> {
+        let pdu = self.pdu.clone()?;
+        let id = self.id.clone()?;
+        Ok(Offered {
+            pdu,
+            id,
+            signed: self.signed,
+        })
+    }
+}
+
 fn id_of(alloc: Global, pdu: &Pdu) -> Result<EventId, AllocError>
     ensures { IfOk result (λ id. id ≡ event_id_of pdu.now) }
 {

@@ -1,9 +1,9 @@
 // Events.
-ghost use Rattle.std.specs.Prelude.{◌≡◌, ◌↔◌, IfOk, IsErrOf, IsTrue, None, OnOk, Some, option_map};
+ghost use Rattle.std.specs.Prelude.{◌≡◌, ◌≤◌, ◌↔◌, IfOk, IsErrOf, IsTrue, None, OnOk, Some, length, option_map};
 ghost use Rattle.std.specs.Result.{result_err};
 ghost use Rattle.serde_json.specs.Data.{object};
 ghost use Rattle.serde_json.specs.View.{view, members_view};
-ghost use Rattle.mx_canon.specs.Canonical.{canonical_error, canonical_text};
+ghost use Rattle.mx_canon.specs.Canonical.{canonical_error, canonical_text, in_range, largest};
 ghost use Rattle.mx_canon.specs.KeyOrder.{KeysRise};
 ghost use Rattle.mx_redact.specs.Fields.{kind};
 ghost use Rattle.mx_redact.specs.Hashes.{hash_holds};
@@ -13,26 +13,35 @@ ghost use Rattle.mx_pdu.specs.Format.{format_error, is_well_formed};
 ghost use Rattle.mx_pdu.specs.declared.refusals.NotAnEvent.{NotAnEvent as Cause};
 
 use crate::checking::{check_canonical_format, check_format};
-use crate::hashes::{is_text_of, named_hash};
+use crate::hashes::holds_hash;
 use crate::ids::{event_ids_at, room_id_of, user_id_of};
 use crate::lookups::{integer_at, into_object, object_at, text_or_empty_at};
 use crate::refusals::{NotAnEvent, PduError};
 use mx_ident::{EventId, RoomId, UserId};
-use mx_redact::{content_digest, field, redact, text_field};
+use mx_redact::{field, redact, text_field};
 use serde_json::{Map, Value};
 use std::alloc::{AllocError, Global};
 use std::marker::Model;
+use std::sync::Arc;
 
 /// An event that is well formed: its JSON object, and with it the ids that it names.
 ///
 /// Source: the Matrix specification, Room Version 6, "Event format".
+/// Copies share it: [`Clone`] copies no part of the event, and takes no memory.
 #[derive(Debug, Drop)]
 pub struct Pdu {
+    parts: Arc<Parts>,
+}
+
+// The event, and what is worked out once of it.
+#[derive(Debug, Drop)]
+struct Parts {
     event: Map<String, Value>,
     room_id: RoomId,
     sender: UserId,
     prev_events: Vec<EventId>,
     auth_events: Vec<EventId>,
+    hash_holds: bool,
 }
 
 impl Model for Pdu {
@@ -43,11 +52,12 @@ impl Model for Pdu {
 
     ghost coded = { data_code };
 
+    ghost use Rattle.std.specs.Arc.{arc_value};
     ghost use Rattle.mx_pdu.specs.Inside.{event_of, IsSound};
 
-    ghost view = { event_of };
+    ghost view = { λ pdu. event_of (arc_value pdu.parts) };
 
-    ghost invariant = { IsSound };
+    ghost invariant = { λ pdu. IsSound (arc_value pdu.parts) };
 }
 
 impl Pdu {
@@ -102,13 +112,19 @@ impl Pdu {
         let sender = user_id_of(alloc, text_or_empty_at(&event, "sender"))?;
         let prev_events = event_ids_at(alloc, &event, "prev_events")?;
         let auth_events = event_ids_at(alloc, &event, "auth_events")?;
-        Ok(Pdu {
-            event,
-            room_id,
-            sender,
-            prev_events,
-            auth_events,
-        })
+        let hash_holds = holds_hash(&event);
+        let parts = Arc::new(
+            alloc,
+            Parts {
+                event,
+                room_id,
+                sender,
+                prev_events,
+                auth_events,
+                hash_holds,
+            },
+        )?;
+        Ok(Pdu { parts })
     }
 
     /// Why the value is no event of room version 6, if it is none. It takes no memory.
@@ -126,35 +142,35 @@ impl Pdu {
     pub fn kind(&self) -> &str
         ensures { result.now ≡ kind self.now }
     {
-        text_or_empty_at(&self.event, "type")
+        text_or_empty_at(&self.parts.event, "type")
     }
 
     /// The room that it is of.
     pub fn room_id(&self) -> &RoomId
         ensures { result.now ≡ room_of self.now }
     {
-        &self.room_id
+        &self.parts.room_id
     }
 
     /// Who sent it.
     pub fn sender(&self) -> &UserId
         ensures { result.now ≡ sender_of self.now }
     {
-        &self.sender
+        &self.parts.sender
     }
 
     /// Its state key, which a state event has and no other event.
     pub fn state_key(&self) -> Option<&str>
         ensures { option_map (λ key. key.now) result ≡ state_key_of self.now }
     {
-        text_field(&self.event, "state_key")
+        text_field(&self.parts.event, "state_key")
     }
 
     /// Its content.
     pub fn content(&self) -> &Map<String, Value>
         ensures { object (members_view result.now.entries) ≡ content_of self.now }
     {
-        match object_at(&self.event, "content") {
+        match object_at(&self.parts.event, "content") {
             Some(content) => content,
             None => unreachable!(),
         }
@@ -162,39 +178,43 @@ impl Pdu {
 
     /// The events that it follows, in its order, at most 20.
     pub fn prev_events(&self) -> &[EventId]
-        ensures { result.now ≡ prev_ids self.now }
+        ensures ids { result.now ≡ prev_ids self.now }
+        ensures most { length result.now ≤ 20 }
     {
-        &self.prev_events
+        &self.parts.prev_events
     }
 
     /// The events that it rests on, in its order, at most 10.
     pub fn auth_events(&self) -> &[EventId]
-        ensures { result.now ≡ auth_ids self.now }
+        ensures ids { result.now ≡ auth_ids self.now }
+        ensures most { length result.now ≤ 10 }
     {
-        &self.auth_events
+        &self.parts.auth_events
     }
 
     /// Its depth, at most 2^53 - 1.
     pub fn depth(&self) -> u64
-        ensures { result ≡ depth_of self.now }
+        ensures depth { result ≡ depth_of self.now }
+        ensures most { result ≤ largest }
     {
-        field(&self.event, "depth")
+        field(&self.parts.event, "depth")
             .and_then(Value::as_u64)
             .unwrap_or(0)
     }
 
-    /// When its server made it, in milliseconds since 1970.
+    /// When its server made it, in milliseconds since 1970, from -(2^53 - 1) to 2^53 - 1.
     pub fn origin_server_ts(&self) -> i64
-        ensures { result ≡ timestamp_of self.now }
+        ensures timestamp { result ≡ timestamp_of self.now }
+        ensures range { IsTrue (in_range result) }
     {
-        integer_at(&self.event, "origin_server_ts").unwrap_or(0)
+        integer_at(&self.parts.event, "origin_server_ts").unwrap_or(0)
     }
 
     /// The event that a redaction names, where `redacts` is an event id.
     pub fn redacts(&self) -> Option<&str>
         ensures { option_map (λ id. id.now) result ≡ redacts_of self.now }
     {
-        match text_field(&self.event, "redacts") {
+        match text_field(&self.parts.event, "redacts") {
             Some(id) if EventId::is(id) => Some(id),
             _ => None,
         }
@@ -207,10 +227,7 @@ impl Pdu {
     pub fn hash_holds(&self) -> bool
         ensures { result ≡ hash_holds self.now }
     {
-        match named_hash(&self.event) {
-            Some(text) => is_text_of(text, &content_digest(&self.event)),
-            None => false,
-        }
+        self.parts.hash_holds
     }
 
     /// Its redacted form, with the same ids.
@@ -219,18 +236,25 @@ impl Pdu {
     pub fn redacted(&self, alloc: Global) -> Result<Pdu, AllocError>
         ensures { IfOk result (λ pdu. pdu ≡ redacted_form self.now) }
     {
-        let event = redact(alloc, &self.event)?;
-        let room_id = self.room_id.clone()?;
-        let sender = self.sender.clone()?;
-        let prev_events = self.prev_events.clone()?;
-        let auth_events = self.auth_events.clone()?;
-        Ok(Pdu {
-            event,
-            room_id,
-            sender,
-            prev_events,
-            auth_events,
-        })
+        let old = &*self.parts;
+        let event = redact(alloc, &old.event)?;
+        let room_id = old.room_id.clone()?;
+        let sender = old.sender.clone()?;
+        let prev_events = old.prev_events.clone()?;
+        let auth_events = old.auth_events.clone()?;
+        let hash_holds = holds_hash(&event);
+        let parts = Arc::new(
+            alloc,
+            Parts {
+                event,
+                room_id,
+                sender,
+                prev_events,
+                auth_events,
+                hash_holds,
+            },
+        )?;
+        Ok(Pdu { parts })
     }
 
     /// The whole event.
@@ -238,7 +262,7 @@ impl Pdu {
         ensures event { object (members_view result.now.entries) ≡ self.now }
         ensures well_formed { IsTrue (is_well_formed self.now) }
     {
-        &self.event
+        &self.parts.event
     }
 }
 
@@ -246,17 +270,7 @@ impl Clone for Pdu {
     ghost is_clone = { λ pdu copy. copy ≡ pdu };
 
     fn clone(&self) -> Result<Pdu, AllocError> {
-        let event = self.event.clone()?;
-        let room_id = self.room_id.clone()?;
-        let sender = self.sender.clone()?;
-        let prev_events = self.prev_events.clone()?;
-        let auth_events = self.auth_events.clone()?;
-        Ok(Pdu {
-            event,
-            room_id,
-            sender,
-            prev_events,
-            auth_events,
-        })
+        let parts = Arc::try_clone(&self.parts)?;
+        Ok(Pdu { parts })
     }
 }

@@ -1,3 +1,4 @@
 pub mod SelectedLemmas
 pub mod AppendLemmas
 pub mod IdLemmas
+pub mod RedactionRows

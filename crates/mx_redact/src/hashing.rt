@@ -29,7 +29,8 @@ pub fn content_hash(event: &Map<String, Value>) -> Result<[u8; 32], NotCanonical
     }
 }
 
-/// The content hash of an event that has canonical JSON, as [`content_hash`] gives it, with no test that it has.
+/// The content hash of an event, as [`content_hash`] gives it, with no test that the part which is hashed has a
+/// canonical text. Of the event nothing else is read.
 pub fn content_digest(event: &Map<String, Value>) -> [u8; 32]
     ensures { result ≡ content_hash_of (object (members_view event.now.entries)) }
 {
@@ -55,7 +56,8 @@ pub fn reference_hash(event: &Map<String, Value>) -> Result<[u8; 32], NotCanonic
     }
 }
 
-/// The reference hash of an event that has canonical JSON, as [`reference_hash`] gives it, with no test that it has.
+/// The reference hash of an event, as [`reference_hash`] gives it, with no test that the part which is hashed has a
+/// canonical text. Of the event nothing else is read.
 pub fn reference_digest(event: &Map<String, Value>) -> [u8; 32]
     ensures { result ≡ reference_hash_of (object (members_view event.now.entries)) }
 {

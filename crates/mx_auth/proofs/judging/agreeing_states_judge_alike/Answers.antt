@@ -2,4 +2,4 @@ use Rattle.mx_auth.proofs.NeededKeyLemmas.{rules-needed_keys}
 use Rattle.mx_auth.proofs.judging.agreeing_states_judge_alike.Goals as goal
 
 pub returns : goal.returns
-returns g c = rules-needed_keys _ _ _
+returns c = rules-needed_keys

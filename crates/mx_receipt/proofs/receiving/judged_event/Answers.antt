@@ -11,7 +11,7 @@ use Rattle.mx_receipt.proofs.receiving.judged_event.Goals as goal
 
 pub returns-clause-verdict : goal.returns-clause-verdict
 returns-clause-verdict c =
-    let prevs : c.deref.result.now ≡ prev_events c.args.graph.now c.args.event.now = c.deref.ensures.value ∙ c.in_ok-prev_events.ensures.numbers ∙ ap (filter_map (place_of c.args.graph.now)) c.prev_events.ensures in
+    let prevs : c.deref.result.now ≡ prev_events c.args.graph.now c.args.event.now = c.deref.ensures.value ∙ c.in_ok-prev_events.ensures.numbers ∙ ap (filter_map (place_of c.args.graph.now)) c.prev_events.ensures.ids in
     let before : arc_value c.in_ok-before.before ≡ state_before_next (kept_of c.args.graph.now c.args.judgements.now) c.args.event.now =
     c.in_ok-before.ensures.resolved ∙ ap (λ xs. resolve c.args.graph.now (states_at (afters c.args.judgements.now) (events_where c.args.graph.now (is_in xs)))) prevs
     ∙ before-is c.args.graph.now c.args.judgements.now c.args.extremities.now c.args.current.now c.requires.kept c.args.event.now in
@@ -19,8 +19,8 @@ returns-clause-verdict c =
 
 pub returns-clause-judged : goal.returns-clause-judged
 returns-clause-judged c = λ id.
-    let prevs : c.deref.result.now ≡ prev_events c.args.graph.now c.args.event.now = c.deref.ensures.value ∙ c.in_ok-prev_events.ensures.numbers ∙ ap (filter_map (place_of c.args.graph.now)) c.prev_events.ensures in
-    let prevs-3 : c.deref-3.result.now ≡ prev_events c.args.graph.now c.args.event.now = c.deref-3.ensures.value ∙ c.in_ok-prev_events.ensures.numbers ∙ ap (filter_map (place_of c.args.graph.now)) c.prev_events.ensures in
+    let prevs : c.deref.result.now ≡ prev_events c.args.graph.now c.args.event.now = c.deref.ensures.value ∙ c.in_ok-prev_events.ensures.numbers ∙ ap (filter_map (place_of c.args.graph.now)) c.prev_events.ensures.ids in
+    let prevs-3 : c.deref-3.result.now ≡ prev_events c.args.graph.now c.args.event.now = c.deref-3.ensures.value ∙ c.in_ok-prev_events.ensures.numbers ∙ ap (filter_map (place_of c.args.graph.now)) c.prev_events.ensures.ids in
     record {
       flag = refl;
       before =

@@ -1,5 +1,6 @@
-use Rattle.std.proofs.Common.{◌∙◌, ap}
+use Rattle.std.proofs.Common.{◌∙◌, sym, ap, subst}
 use Rattle.mx_ident.specs.Identifier.{is_room_id, is_user_id}
+use Rattle.mx_pdu.specs.Inside.{IsSound}
 use Rattle.mx_pdu.proofs.IdLemmas.{room-is, sender-is, prev-are, auth-are}
 use Rattle.mx_pdu.proofs.pdus.Pdu.of_checked.Goals as goal
 
@@ -17,11 +18,12 @@ event_ids_at-requires-2 c = auth-are _ c.requires.well_formed
 
 pub invariant_of-result : goal.invariant_of-result
 invariant_of-result c =
-    record {
+    subst IsSound (sym c.in_ok-parts.ensures.ok) (record {
       well_formed = c.requires.well_formed;
       rise = c.requires.keys;
       room = c.in_ok-room_id.ensures ∙ c.text_or_empty_at.ensures;
       sender = c.in_ok-sender.ensures ∙ c.text_or_empty_at-2.ensures;
       prev = c.in_ok-prev_events.ensures;
       auth = c.in_ok-auth_events.ensures;
-    }
+      hash = c.holds_hash-hash_holds.ensures;
+    })

@@ -5,7 +5,7 @@ use Rattle.mx_canon.specs.KeyOrder.{KeysRise}
 use Rattle.mx_redact.specs.Redaction.{redact}
 use Rattle.mx_pdu.specs.Event.{room_of, sender_of, prev_ids, auth_ids}
 use Rattle.mx_pdu.specs.Format.{is_well_formed}
-use Rattle.mx_pdu.specs.Inside.{event_of}
+use Rattle.mx_pdu.specs.Inside.{event_of, IsSound}
 use Rattle.mx_pdu.proofs.CloneLemmas.{texts-copied}
 use Rattle.mx_pdu.proofs.FormatLemmas.{formed}
 use Rattle.mx_pdu.proofs.RedactionLemmas.{redact-well_formed, rise-redact, room-redact, sender-redact, prev-redact, auth-redact}
@@ -13,14 +13,15 @@ use Rattle.mx_pdu.proofs.pdus.Pdu.redacted.Goals as goal
 
 pub invariant_of-result : goal.invariant_of-result
 invariant_of-result c =
-    let before = event_of c.self.inside in
-    let known = c.self.invariant in
+    let before = event_of c.deref-old.result.now in
+    let known = subst IsSound (sym c.deref-old.ensures) c.self.invariant in
     let e : redact before ≡ object (members_view c.in_ok-event.event.entries) = sym c.in_ok-event.ensures in
-    record {
+    subst IsSound (sym c.in_ok-parts.ensures.ok) (record {
       well_formed = subst (λ (d : Data). IsTrue (is_well_formed d)) e (redact-well_formed before known.well_formed known.rise);
       rise = subst KeysRise e (rise-redact before (formed before known.well_formed).has_object known.rise);
       room = c.in_ok-room_id.ensures.cases ∙ known.room ∙ sym (room-redact before) ∙ ap room_of e;
       sender = c.in_ok-sender.ensures.cases ∙ known.sender ∙ sym (sender-redact before) ∙ ap sender_of e;
       prev = texts-copied _ c.in_ok-prev_events.prev_events.items c.in_ok-prev_events.ensures.cases.0 ∙ known.prev ∙ sym (prev-redact before) ∙ ap prev_ids e;
       auth = texts-copied _ c.in_ok-auth_events.auth_events.items c.in_ok-auth_events.ensures.cases.0 ∙ known.auth ∙ sym (auth-redact before) ∙ ap auth_ids e;
-    }
+      hash = c.holds_hash-hash_holds.ensures;
+    })
