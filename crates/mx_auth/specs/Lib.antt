@@ -1,4 +1,5 @@
 pub mod StateView
 pub mod Rules
+pub mod RuleCode
 pub mod Entries
 pub mod Keys

@@ -145,7 +145,7 @@ pub same_tests : (f g : ℕ → Bool) (xs : List ℕ) → ((p : ℕ) → In p xs
 same_tests f g [] h = refl
 same_tests f g (x ∷ xs) h = λ i. cond (h x (inl refl) i) (x ∷ same_tests f g xs (λ p k. h p (inr k)) i) (same_tests f g xs (λ p k. h p (inr k)) i)
 
-one_answer : (a b : Bool) → (a ≡ true → b ≡ true) → (b ≡ true → a ≡ true) → a ≡ b
+pub one_answer : (a b : Bool) → (a ≡ true → b ≡ true) → (b ≡ true → a ≡ true) → a ≡ b
 one_answer true b f g = sym (f refl)
 one_answer false true f g = g refl
 one_answer false false f g = refl

@@ -23,10 +23,10 @@ not_in p xs h = by (is_in xs p) refl
     by false e = e
 
 -- a rising list of the n numbers from a on is the part of them that is in it
-abbrev IsPart : ℕ → ℕ → Type 0
+abbrev pub IsPart : ℕ → ℕ → Type 0
 IsPart a n = (xs : List ℕ) → Rises xs → ((y : ℕ) → is_in xs y ≡ true → (a ≤ y) × (y < a + n)) → filter (is_in xs) (range_with_len a n) ≡ xs
 
-rising-filter : (a n : ℕ) → IsPart a n
+pub rising-filter : (a n : ℕ) → IsPart a n
 rising-filter a n [] r h = no_numbers (range_with_len a n)
 rising-filter a zero (x ∷ xs) r h = let b = h x (or_left (x == x) _ (eq-eqb x x refl)) in let low : a ≤ x = b.0 in let high : x < a + 0 = b.1 in absurd (omega arith)
 rising-filter a (suc n) (x ∷ xs) r h = by (λ ys s k. rising-filter (a + 1) n ys s k) (x == a) refl

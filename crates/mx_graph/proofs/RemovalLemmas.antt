@@ -61,7 +61,7 @@ module _ (rows : List Row) (r : Row) where
 
 -- ---- what the events before the last cite
 
-lt-neq : (x n : ℕ) → x < n → (x == n) ≡ false
+pub lt-neq : (x n : ℕ) → x < n → (x == n) ≡ false
 lt-neq x n l = by (x == n) refl
   where
     by : (b : Bool) → (x == n) ≡ b → (x == n) ≡ false

@@ -1,5 +1,6 @@
 -- The record that a create event begins.
 use Rattle.std.proofs.Common.{◌≡◌, ◌++◌, ℕ, Bool, true, false, not, List, [], ◌∷◌, length, refl, sym, ap, subst, ◌∙◌, arith, None}
+use Rattle.std.proofs.lemmas.Bool.{lt-ltb}
 use Rattle.std.specs.Arc.{arc_value}
 use Rattle.std.specs.Prelude.{filter_map, nat_lt, nat_le, codes, if◌then◌else◌}
 use Rattle.std.specs.List.{list_all}
@@ -22,15 +23,14 @@ use Rattle.mx_receipt.specs.Judgements.{IsKept, IsJudged, AreAfter, AreNext, lea
 use Rattle.mx_receipt.specs.TimelineView.{IsSoundCreate}
 use Rattle.mx_receipt.specs.declared.snapshots.Judgement.{Judgement}
 use Rattle.mx_receipt.specs.declared.verdicts.Verdict.TheVariants.{Accepted}
-use Rattle.mx_receipt.proofs.GrowthLemmas.{lt-from}
 
 none_known : (ids : List (List ℕ)) → filter_map (place_of []) ids ≡ []
 none_known [] = refl
 none_known (id ∷ ids) = none_known ids
 
-no_ids : (xs : List (List ℕ)) → nat_lt 0 (length xs) ≡ false → xs ≡ []
+pub no_ids : (xs : List (List ℕ)) → nat_lt 0 (length xs) ≡ false → xs ≡ []
 no_ids [] e = refl
-no_ids (x ∷ xs) e = absurd (cc (sym (lt-from 0 (length (x ∷ xs)) (omega arith)) ∙ e))
+no_ids (x ∷ xs) e = absurd (cc (sym (lt-ltb 0 (length (x ∷ xs)) (omega arith)) ∙ e))
 
 first-passes : (b : Bool) (lines : List Line) → first_line (reject_if CreateHasPrevEvents b ∷ lines) ≡ None → b ≡ false
 first-passes true lines e = absurd (cc e)

@@ -1,70 +1,23 @@
 -- What a record's citations lead to, as it takes one more row.
-use Rattle.std.proofs.Common.{◌≡◌, ◌<◌, ◌≤◌, ◌+◌, ◌==◌, ◌||◌, ◌++◌, ◌⊎◌, inl, inr, ℕ, Bool, true, false, cond, List, [], ◌∷◌, length, refl, sym, ap, subst, ◌∙◌, arith, Option, Some, None, eq-eqb, eqb-true}
-use Rattle.std.proofs.lemmas.Bool.{cases_lt}
+use Rattle.std.proofs.Common.{◌≡◌, ◌<◌, ◌≤◌, ◌+◌, ◌==◌, ◌||◌, ◌++◌, ◌⊎◌, inl, inr, ℕ, Bool, true, false, List, [], ◌∷◌, length, refl, sym, ap, subst, ◌∙◌, arith, eq-eqb, eqb-true}
+use Rattle.std.proofs.lemmas.Bool.{cases_lt, lt-ltb, ltb-true}
 use Rattle.std.proofs.Math.ListN.{get_or-eq_default}
 use Rattle.std.proofs.lemmas.List.{length-append}
-use Rattle.std.proofs.lemmas.Bool.Decides.{nat_tests}
-use Rattle.std.specs.Option.{option_or}
-use Rattle.std.specs.List.{cons_option}
-use Rattle.std.specs.Prelude.{filter_map, bytes_eq, slice_index_or, if◌then◌else◌, nat_lt}
+use Rattle.std.specs.Prelude.{slice_index_or, if◌then◌else◌, nat_lt}
 use Rattle.mx_pdu.specs.Event.{prev_ids}
 use Rattle.mx_graph.specs.Edges.{IsAllFrom}
 use Rattle.mx_graph.specs.Graph.{IsSound, IsClosed, ancestors}
-use Rattle.mx_graph.specs.Record.{Row, no_row, event, is_in, place_of, prev_events}
-use Rattle.mx_graph.proofs.Closure.{or_cases, or_left, or_right}
+use Rattle.mx_graph.specs.Record.{Row, no_row, event, is_in, prev_events}
+use Rattle.mx_graph.proofs.Closure.{one_answer, or_cases, or_left, or_right}
 use Rattle.mx_graph.proofs.ReachedLemmas.{closures-least}
-use Rattle.mx_graph.proofs.RowLemmas.{place_of-push, row-new, row-other}
+use Rattle.mx_graph.proofs.RemovalLemmas.{lt-neq, places-before}
+use Rattle.mx_graph.proofs.RowLemmas.{row-new, row-other}
 use Rattle.mx_receipt.specs.Receipt.{is_accepted}
 use Rattle.mx_receipt.specs.Judgements.{leads_on}
 use Rattle.mx_receipt.specs.declared.verdicts.Verdict.{Verdict}
 use Rattle.mx_receipt.specs.declared.verdicts.Verdict.TheVariants.{Accepted}
 
-pub one_answer : (a b : Bool) → (a ≡ true → b ≡ true) → (b ≡ true → a ≡ true) → a ≡ b
-one_answer true b f g = sym (f refl)
-one_answer false true f g = g refl
-one_answer false false f g = refl
-
--- ---- places of ids
-
--- an id whose place is not that of the new row has the place that it had
-same_place : (rows : List Row) (r : Row) (id : List ℕ) → ((y : ℕ) → place_of (rows ++ r ∷ []) id ≡ Some y → y < length rows) → place_of (rows ++ r ∷ []) id ≡ place_of rows id
-same_place rows r id low = by (place_of rows id) (bytes_eq r.id id) refl (place_of-push rows r id)
-  where
-    by : (o : Option ℕ) (b : Bool) → place_of rows id ≡ o → place_of (rows ++ r ∷ []) id ≡ option_or (place_of rows id) (cond b (Some (length rows)) None) → place_of (rows ++ r ∷ []) id ≡ place_of rows id
-    by (Some p) b e f = f ∙ ap (λ o. option_or o (cond b (Some (length rows)) None)) e ∙ sym e
-    by None false e f = f ∙ ap (λ o. option_or o None) e ∙ sym e
-    by None true e f =
-        let l : length rows < length rows = low (length rows) (f ∙ ap (λ o. option_or o (Some (length rows))) e) in absurd (omega arith)
-
-cons-in : (o : Option ℕ) (xs : List ℕ) (y : ℕ) → is_in xs y ≡ true → is_in (cons_option o xs) y ≡ true
-cons-in None xs y e = e
-cons-in (Some x) xs y e = or_right (x == y) (is_in xs y) e
-
-head-in : (o : Option ℕ) (xs : List ℕ) (y : ℕ) → o ≡ Some y → is_in (cons_option o xs) y ≡ true
-head-in o xs y e = subst (λ w. is_in (cons_option w xs) y ≡ true) (sym e) (or_left (y == y) (is_in xs y) (eq-eqb y y refl))
-
-pub same_places : (rows : List Row) (r : Row) (ids : List (List ℕ)) → ((y : ℕ) → is_in (filter_map (place_of (rows ++ r ∷ [])) ids) y ≡ true → y < length rows) → filter_map (place_of (rows ++ r ∷ [])) ids ≡ filter_map (place_of rows) ids
-same_places rows r [] low = refl
-same_places rows r (id ∷ ids) low =
-    let rest : List ℕ = filter_map (place_of (rows ++ r ∷ [])) ids in
-    let first : place_of (rows ++ r ∷ []) id ≡ place_of rows id = same_place rows r id (λ y e. low y (head-in (place_of (rows ++ r ∷ []) id) rest y e)) in
-    let later : rest ≡ filter_map (place_of rows) ids = same_places rows r ids (λ y e. low y (cons-in (place_of (rows ++ r ∷ []) id) rest y e)) in
-    λ i. cons_option (first i) (later i)
-
 -- ---- numbers
-
-lt-neq : (x n : ℕ) → x < n → (x == n) ≡ false
-lt-neq x n l = by (x == n) refl
-  where
-    by : (b : Bool) → (x == n) ≡ b → (x == n) ≡ false
-    by true e = let f : x ≡ n = eqb-true x n e in absurd (omega arith)
-    by false e = e
-
-lt-to : (a b : ℕ) → nat_lt a b ≡ true → a < b
-lt-to a b e = grind (arith, nat_tests)
-
-pub lt-from : (a b : ℕ) → a < b → nat_lt a b ≡ true
-lt-from a b l = grind (arith, nat_tests)
 
 none_in : (xs : List ℕ) (y : ℕ) → xs ≡ [] → is_in xs y ≡ true → true ≡ false
 none_in xs y e h = sym h ∙ ap (λ zs. is_in zs y) e
@@ -108,12 +61,12 @@ module _ (rows : List Row) (r : Row) (sound : IsSound rows) (after : IsSound (ro
 
   cites-old : (x : ℕ) → x < length rows → cites_after x ≡ cites x
   cites-old x l =
-      same_places rows r (prev_ids (event (rows ++ r ∷ []) x)) (λ y e. let low : y < x = (after.prev x y e).1 in omega arith)
+      places-before rows r (prev_ids (event (rows ++ r ∷ []) x)) (λ y e. let low : y < x = (after.prev x y e).1 in omega arith)
       ∙ ap (λ (s : Row). prev_events rows s.event) (row-other rows r x (lt-neq x (length rows) l))
 
   cites-new : cites_after (length rows) ≡ prev_events rows r.event
   cites-new =
-      same_places rows r (prev_ids (event (rows ++ r ∷ []) (length rows))) (λ y e. (after.prev (length rows) y e).1)
+      places-before rows r (prev_ids (event (rows ++ r ∷ []) (length rows))) (λ y e. (after.prev (length rows) y e).1)
       ∙ ap (λ (s : Row). prev_events rows s.event) (row-new rows r)
 
   cites-beyond : (x : ℕ) → length rows ≤ x → cites x ≡ []
@@ -127,7 +80,7 @@ module _ (rows : List Row) (r : Row) (sound : IsSound rows) (after : IsSound (ro
   -- ancestors are rows
   pub ancestors-below : (starts : List ℕ) (p : ℕ) → is_in (ancestors rows starts) p ≡ true → p < length rows
   ancestors-below starts p e =
-      lt-to p (length rows) ((closures-least rows starts sound).0.1 (λ q. nat_lt q (length rows)) (λ x y h k. lt-from y (length rows) (sound.prev x y k).0) p e)
+      ltb-true p (length rows) ((closures-least rows starts sound).0.1 (λ q. nat_lt q (length rows)) (λ x y h k. lt-ltb y (length rows) (sound.prev x y k).0) p e)
 
   module _ (starts : List ℕ) (below : (x : ℕ) → is_in starts x ≡ true → x < length rows) where
     -- a start or an ancestor is a row
@@ -169,9 +122,9 @@ module _ (rows : List Row) (r : Row) (sound : IsSound rows) (after : IsSound (ro
       -- what is covered are rows
       pub covered-below : (p : ℕ) → covered p ≡ true → p < length rows
       covered-below p e =
-          lt-to p (length rows) (is_covered.least (λ q. nat_lt q (length rows))
-          (λ q f. lt-from q (length rows) (after.prev (length rows) q (ap (λ zs. is_in zs q) cites-new ∙ f)).1)
-          (λ x y f k. lt-from y (length rows) (sound.prev x y (leads-part (is_accepted (slice_index_or verdicts x Accepted)) (cites x) y k)).0) p e)
+          ltb-true p (length rows) (is_covered.least (λ q. nat_lt q (length rows))
+          (λ q f. lt-ltb q (length rows) (after.prev (length rows) q (ap (λ zs. is_in zs q) cites-new ∙ f)).1)
+          (λ x y f k. lt-ltb y (length rows) (sound.prev x y (leads-part (is_accepted (slice_index_or verdicts x Accepted)) (cites x) y k)).0) p e)
 
       from_both : IsClosed cites_after (starts ++ length rows ∷ []) (λ q. is_in (ancestors rows starts) q || covered q)
       from_both x y h k = by (cases_lt x (length rows))

@@ -1,5 +1,5 @@
 -- What a timeline shows, and what its parts are.
-use Rattle.std.proofs.Common.{◌≡◌, ◌+◌, ◌-◌, ◌++◌, ℕ, Bool, true, false, not, ◌||◌, ◌&&◌, List, [], ◌∷◌, take, length, refl, sym, ap, subst, ◌∙◌, arith, Option, Some, None, Err, IsErrOf}
+use Rattle.std.proofs.Common.{◌≡◌, ◌+◌, ◌-◌, ◌++◌, ℕ, Bool, true, false, not, ◌||◌, ◌&&◌, List, [], ◌∷◌, take, length, refl, sym, subst, ◌∙◌, arith, Option, Some, None}
 use Rattle.std.proofs.lemmas.List.{length-append}
 use Rattle.std.proofs.lemmas.List.Folds.{list_any-append}
 use Rattle.std.specs.Arc.{arc_value}
@@ -121,7 +121,3 @@ taken-free rows id e rejected h =
     let cited = or_parts (list_any (λ x. is_none (place_of rows x)) (prev_ids e)) (list_any (λ x. is_none (place_of rows x)) (auth_ids e)) (sym (list_any-append (λ x. is_none (place_of rows x)) (prev_ids e) (auth_ids e)) ∙ third.0) in
     λ i. refuse_if {E = NotAdded} (first.0 i) Known (refuse_if {E = NotAdded} (not (known-all rows (prev_ids e) cited.0 i)) MissingPrevEvent
     (refuse_if {E = NotAdded} (not (known-all rows (auth_ids e) cited.1 i)) MissingAuthEvent (refuse_if {E = NotAdded} (fourth.0 i) Full None)))
-
--- one error of two results
-pub same-error : {T U E : Type 0} (e x : E) → IsErrOf {T = T} (Err e) x → IsErrOf {T = U} (Err e) x
-same-error e x h = ap Err (let g : e ≡ x = cc in g)

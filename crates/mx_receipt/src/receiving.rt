@@ -1,8 +1,6 @@
 // The receipt of an event.
-ghost use Rattle.std.specs.Prelude.{◌≡◌, ◌<◌, ◌↔◌, ◌++◌, ◌∷◌, All, IfOk, is_none, IsErrOf, None, OnErr, OnOk, Option, Some, [], ℕ, List, length};
+ghost use Rattle.std.specs.Prelude.{◌≡◌, ◌<◌, ◌++◌, ◌∷◌, All, IfOk, None, OnErr, OnOk, [], ℕ, List, length};
 ghost use Rattle.std.specs.Arc.{arc_value};
-ghost use Rattle.std.specs.List.{list_any};
-ghost use Rattle.std.specs.Result.{result_err};
 ghost use Rattle.mx_graph.specs.Adding.{add_error};
 ghost use Rattle.mx_graph.specs.Graph.{IsSound};
 ghost use Rattle.mx_graph.specs.Record as record_of;
@@ -13,54 +11,19 @@ ghost use Rattle.mx_receipt.specs.Receipt as definition;
 ghost use Rattle.mx_graph.specs.Record.{Row};
 ghost use Rattle.mx_receipt.specs.TimelineView.{IsSoundCreate};
 ghost use Rattle.mx_receipt.specs.declared.snapshots.Judgement.{Judgement as Judged};
-ghost use Rattle.mx_receipt.specs.declared.refusals.NotReceived.{NotReceived as Cause};
 
 use crate::citing::numbers_of;
 use crate::covering::next_extremities;
 use crate::judging::judged;
-use crate::refusals::{NotReceived, OfferError};
 use crate::snapshots::{Judgement, resolved_after, state_after};
 use crate::timelines::Prepared;
 use crate::verdicts::Verdict;
-use mx_graph::{EventNo, Graph, GraphRow, MOST_ROWS, graph_is_sound};
+use mx_graph::{EventNo, Graph, GraphRow, graph_is_sound};
 use mx_ident::EventId;
 use mx_pdu::Pdu;
 use mx_state_res::{StateMap, rising};
 use std::alloc::{AllocError, Global};
 use std::sync::Arc;
-
-// Whether a record takes an event, and if not, why.
-#[tactic(auto, unfolding(crate::specs::Receipt::offer_error))]
-pub(crate) fn check(graph: &Graph, event: &Pdu, id: &EventId) -> Result<(), NotReceived>
-    ensures { result_err result ≡ definition.offer_error graph.now id.now event.now }
-{
-    if graph.find(id).is_some() {
-        return Err(NotReceived::Known);
-    }
-    if event.kind() == "m.room.create" {
-        return Err(NotReceived::SecondCreate);
-    }
-    if lacks_cited(graph, event) {
-        return Err(NotReceived::MissingEvents);
-    }
-    if graph.len() >= MOST_ROWS {
-        return Err(NotReceived::RoomFull);
-    }
-    Ok(())
-}
-
-// Whether an event that it follows or rests on is not held.
-fn lacks_cited(graph: &Graph, event: &Pdu) -> bool
-    ensures { result ≡ definition.lacks_cited graph.now event.now }
-{
-    lacks_any(graph, event.prev_events()) || lacks_any(graph, event.auth_events())
-}
-
-fn lacks_any(graph: &Graph, ids: &[EventId]) -> bool
-    ensures { result ≡ list_any (λ id. is_none (record_of.place_of graph.now id)) ids.now }
-{
-    ids.iter().any(|id| graph.find(id).is_none())
-}
 
 // The state before an event that comes next: the resolution of the states after its prev events, each once.
 fn state_before(
@@ -214,7 +177,7 @@ pub(crate) fn remove_last(graph: &mut Graph, judgements: &mut Vec<Judgement>)
     judgements.pop();
 }
 
-/// Judges an event and adds it. At an error the room stays.
+/// Judges an event that the room takes, and adds it. At an error the room stays.
 pub(crate) fn prepare_in(
     alloc: Global,
     graph: &mut Graph,
@@ -223,18 +186,15 @@ pub(crate) fn prepare_in(
     current: &StateMap,
     event: Pdu,
     id: EventId,
-) -> Result<(Verdict, Prepared), OfferError>
+) -> Result<(Verdict, Prepared), AllocError>
     requires kept { IsKept graph.old judgements.old.items extremities.now current.now }
+    requires free { definition.offer_error graph.old id event ≡ None }
     ensures verdict { IfOk result (λ made. made.0 ≡ definition.verdict (kept_of graph.old judgements.old.items) event) }
     ensures added { IfOk result (λ made. IsAdded graph.old judgements.old.items id event
         graph.new judgements.new.items made.1.extremities.items (arc_value made.1.current)) }
-    ensures free { OnOk result (definition.offer_error graph.old id event ≡ None) }
-    ensures refused { (cause : Cause)
-        → (IsErrOf result (OfferError.NotReceived cause) ↔ (definition.offer_error graph.old id event ≡ Some cause)) }
     ensures err_rows { OnErr result (graph.new ≡ graph.old) }
     ensures err_judgements { OnErr result (judgements.new.items ≡ judgements.old.items) }
 {
-    check(graph, &event, &id)?;
     graph_is_sound(graph);
     let judged = judged_event(alloc, graph, judgements, extremities, current, &event)?;
     let verdict = judged.judgement.verdict;

@@ -1,6 +1,7 @@
 // A room's events under their verdicts.
-ghost use Rattle.std.specs.Prelude.{◌≡◌, ◌<◌, ◌≤◌, ◌↔◌, ◌++◌, ◌∷◌, All, IfOk, IfSome, IsErrOf, None, OnErr, OnOk, Option, Some, [], length};
+ghost use Rattle.std.specs.Prelude.{◌≡◌, ◌<◌, ◌≤◌, ◌↔◌, ◌++◌, ◌∷◌, All, IfOk, IfSome, IsErrOf, None, OnErr, OnOk, Option, Some, [], is_none, length};
 ghost use Rattle.std.specs.Arc.{arc_value};
+ghost use Rattle.std.specs.List.{list_any};
 ghost use Rattle.std.specs.Result.{result_err};
 ghost use Rattle.mx_graph.specs.Record.{place_of, row as row_at};
 ghost use Rattle.mx_receipt.specs.Judgements.{IsKept, kept_of};
@@ -13,7 +14,7 @@ use crate::receiving::{begin_in, prepare_in, remove_last};
 use crate::refusals::{NotReceived, OfferError};
 use crate::snapshots::Judgement;
 use crate::verdicts::Verdict;
-use mx_graph::{EventNo, Graph, GraphRow};
+use mx_graph::{EventNo, Graph, GraphRow, MOST_ROWS};
 use mx_ident::EventId;
 use mx_pdu::Pdu;
 use mx_state_res::StateMap;
@@ -159,6 +160,42 @@ impl Timeline {
         &self.extremities
     }
 
+    /// Whether the room takes an event, and if not, the first cause that holds. It takes no memory.
+    ///
+    /// The time is that of a look-up for each event that it cites. Source: the Matrix specification, Server-Server API,
+    /// "Checks performed on receipt of a PDU".
+    #[tactic(auto, unfolding(crate::specs::Receipt::offer_error))]
+    pub fn check(&self, event: &Pdu, id: &EventId) -> Result<(), NotReceived>
+        ensures { result_err result ≡ definition.offer_error (definition.rows_of self.now.kept) id.now event.now }
+    {
+        if self.find(id).is_some() {
+            return Err(NotReceived::Known);
+        }
+        if event.kind() == "m.room.create" {
+            return Err(NotReceived::SecondCreate);
+        }
+        if self.lacks_cited(event) {
+            return Err(NotReceived::MissingEvents);
+        }
+        if self.len() >= MOST_ROWS {
+            return Err(NotReceived::RoomFull);
+        }
+        Ok(())
+    }
+
+    // Whether an event that it follows or rests on is not held.
+    fn lacks_cited(&self, event: &Pdu) -> bool
+        ensures { result ≡ definition.lacks_cited (definition.rows_of self.now.kept) event.now }
+    {
+        self.lacks_any(event.prev_events()) || self.lacks_any(event.auth_events())
+    }
+
+    fn lacks_any(&self, ids: &[EventId]) -> bool
+        ensures { result ≡ list_any (λ id. is_none (place_of (definition.rows_of self.now.kept) id)) ids.now }
+    {
+        ids.iter().any(|id| self.find(id).is_none())
+    }
+
     /// Receives an event: judges it and adds it to the room.
     ///
     /// `NotReceived` with the first cause that holds, and `Memory`; at an error the room stays. The time is that of a
@@ -195,6 +232,7 @@ impl Timeline {
         ensures err { OnErr result (self.new ≡ record { kept = self.old.kept; prepared = None }) }
     {
         self.discard();
+        self.check(&event, &id)?;
         let made = prepare_in(
             self.alloc,
             &mut self.graph,
@@ -209,7 +247,7 @@ impl Timeline {
                 self.prepared = Some(prepared);
                 Ok(verdict)
             }
-            Err(error) => Err(error),
+            Err(AllocError) => Err(OfferError::Memory),
         }
     }
 

@@ -1,14 +1,15 @@
 -- An offered event, and what a room does with it (Matrix specification, Server-Server API, checks performed on receipt
 -- of a PDU).
-use Rattle.std.specs.Prelude.{nat_le, Bool, not, if◌then◌else◌, List, codes, length, Option, None, Some}
+use Rattle.std.specs.Prelude.{nat_le, Bool, true, false, not, if◌then◌else◌, List, codes, length, Option, None, Some, option_map}
 use Rattle.mx_redact.specs.Fields.{Event}
 use Rattle.mx_redact.specs.Redaction.{redact}
 use Rattle.mx_redact.specs.Hashes.{hash_holds}
+use Rattle.mx_ident.specs.Identifier.{refuse_if}
 use Rattle.mx_pdu.specs.Event.{has_kind}
 pub use Rattle.mx_pdu.specs.declared.offering.Offered.{Offered}
 use Rattle.mx_graph.specs.Adding.{most_rows}
 use Rattle.mx_graph.specs.Record.{place_of}
-use Rattle.mx_receipt.specs.Receipt.{Kept, rows_of, kept_at, lacks_cited, verdict}
+use Rattle.mx_receipt.specs.Receipt.{Kept, rows_of, kept_at, lacks_cited, verdict, offer_error}
 use Rattle.mx_receipt.specs.declared.refusals.NotReceived.{NotReceived}
 use Rattle.mx_receipt.specs.declared.refusals.NotReceived.TheVariants as received
 use Rattle.mx_room.specs.declared.outcomes.Refusal.{Refusal}
@@ -32,6 +33,12 @@ unfoldable pub offer_outcome : List Kept → Offered → Outcome
 offer_outcome kept o =
     elim (place_of (rows_of kept) o.id) [ None ↦ new_outcome kept o.signed (as_kept o) | Some p ↦ outcome.Known (kept_at kept p).verdict ]
 
+-- the event is kept by the call that offers it
+abbrev pub is_kept : Outcome → Bool
+is_kept (outcome.Kept v) = true
+is_kept (outcome.Known v) = false
+is_kept (outcome.Refused r) = false
+
 -- the row that this outcome adds
 abbrev pub row_by : Offered → Outcome → Option Kept
 row_by o (outcome.Kept v) = Some (record { id = o.id; event = as_kept o; verdict = v })
@@ -44,3 +51,9 @@ refusal_by received.Known = SecondCreate
 refusal_by received.SecondCreate = SecondCreate
 refusal_by received.MissingEvents = MissingEvents
 refusal_by received.RoomFull = RoomFull
+
+-- why an event of a new id is not kept, for private clauses
+unfoldable pub refusal_error : List Kept → Offered → Option Refusal
+refusal_error kept o =
+    refuse_if (has_kind (codes "m.room.create") o.pdu) SecondCreate
+    (refuse_if (not o.signed) Signature (option_map refusal_by (offer_error (rows_of kept) o.id o.pdu)))

@@ -1,10 +1,12 @@
 // One room.
-ghost use Rattle.std.specs.Prelude.{◌≡◌, ◌↔◌, IfOk, IsErrOf, None, OnErr, OnOk, Option, Some, codes, length, option_copied};
+ghost use Rattle.std.specs.Prelude.{◌≡◌, ◌↔◌, IfOk, IsErrOf, IsTrue, None, OnErr, OnOk, Option, Some, codes, is_ok, length, option_copied};
 ghost use Rattle.mx_pdu.specs.Event.{has_kind, room_of};
+ghost use Rattle.mx_graph.specs.Record.{place_of};
 ghost use Rattle.mx_receipt.specs.Receipt as receipt;
+ghost use Rattle.mx_receipt.specs.Receipt.{rows_of};
 ghost use Rattle.mx_room.specs.Asking.{event_shown, query_answer};
 ghost use Rattle.mx_room.specs.Hosting.{host_error};
-ghost use Rattle.mx_room.specs.Offer.{as_kept, offer_outcome, refusal_by, row_by};
+ghost use Rattle.mx_room.specs.Offer.{is_kept, offer_outcome, refusal_by, refusal_error, row_by};
 ghost use Rattle.mx_room.specs.RoomView.{IsHosted, create_id};
 ghost use Rattle.mx_room.specs.declared.hosting.NotARoom.{NotARoom as Cause};
 
@@ -61,7 +63,10 @@ impl Room {
         Ok(room)
     }
 
-    /// What becomes of an offered event, which is kept where it can be. At an error the room stays.
+    /// What becomes of an offered event, which is kept where it can be.
+    ///
+    /// `AllocError` where the event is kept and no memory is left for it; the room stays. Any other outcome takes no
+    /// memory.
     ///
     /// Source: the Matrix specification, Server-Server API, "Checks performed on receipt of a PDU".
     pub fn receive(&mut self, alloc: Global, offered: &Offered) -> Result<Outcome, AllocError>
@@ -71,6 +76,7 @@ impl Room {
           kept = receipt.installed self.old.kept (row_by offered.now (offer_outcome self.old.kept offered.now));
           prepared = None;
         }) }
+        ensures memory { OnErr result (IsTrue (is_kept (offer_outcome self.old.kept offered.now))) }
         ensures err { OnErr result (self.new ≡ record { id = self.old.id; kept = self.old.kept; prepared = None }) }
     {
         let outcome = self.prepare(alloc, offered);
@@ -80,6 +86,8 @@ impl Room {
 
     /// What becomes of an offered event: whatever needs memory to keep it is made, and nothing else changes. An event
     /// that was prepared before is given up.
+    ///
+    /// The error is that of [`receive`](Room::receive).
     pub fn prepare(&mut self, alloc: Global, offered: &Offered) -> Result<Outcome, AllocError>
         ensures outcome { IfOk result (λ outcome. outcome ≡ offer_outcome self.old.kept offered.now) }
         ensures prepared { OnOk result (self.new ≡ record {
@@ -87,6 +95,7 @@ impl Room {
           kept = self.old.kept;
           prepared = row_by offered.now (offer_outcome self.old.kept offered.now);
         }) }
+        ensures memory { OnErr result (IsTrue (is_kept (offer_outcome self.old.kept offered.now))) }
         ensures err { OnErr result (self.new ≡ record { id = self.old.id; kept = self.old.kept; prepared = None }) }
     {
         prepare_in(alloc, &mut self.timeline, offered)
@@ -129,9 +138,10 @@ impl Room {
         &self.timeline.row(EventNo::at(0)).id
     }
 
-    /// The answer to a query. `AllocError` where no memory is left for it.
+    /// The answer to a query. `AllocError` where it shows an event and no memory is left for it.
     pub fn ask(&self, query: &Query) -> Result<Result<QueryReply, Denied>, AllocError>
-        ensures { IfOk result (λ reply. reply ≡ query_answer self.now.kept query.now) }
+        ensures reply { IfOk result (λ reply. reply ≡ query_answer self.now.kept query.now) }
+        ensures memory { OnErr result (IsTrue (is_ok (query_answer self.now.kept query.now))) }
     {
         answer_in(&self.timeline, query)
     }
@@ -170,30 +180,62 @@ fn prepare_in(
       kept = timeline.old.kept;
       prepared = row_by offered.now (offer_outcome timeline.old.kept offered.now);
     }) }
+    ensures memory { OnErr result (IsTrue (is_kept (offer_outcome timeline.old.kept offered.now))) }
     ensures err { OnErr result (timeline.new ≡ record { kept = timeline.old.kept; prepared = None }) }
 {
     timeline.discard();
     if let Some(number) = timeline.find(&offered.id) {
         return Ok(Outcome::Known(timeline.verdict(number)));
     }
-    let event = kept_form(alloc, offered)?;
-    if is_of_create_kind(&event) {
-        return Ok(Outcome::Refused(Refusal::SecondCreate));
+    if let Some(refusal) = refusal_in(timeline, offered) {
+        return Ok(Outcome::Refused(refusal));
+    }
+    keep_in(alloc, timeline, offered)
+}
+
+// Why an event of a new id is not kept. Its redacted form would be refused alike: it has the same type, and cites the
+// same events.
+#[tactic(auto, unfolding(crate::specs::Offer::refusal_error))]
+fn refusal_in(timeline: &Timeline, offered: &Offered) -> Option<Refusal>
+    ensures { result ≡ refusal_error timeline.now.kept offered.now }
+{
+    if is_of_create_kind(&offered.pdu) {
+        return Some(Refusal::SecondCreate);
     }
     if !offered.signed {
-        return Ok(Outcome::Refused(Refusal::Signature));
+        return Some(Refusal::Signature);
     }
+    match timeline.check(&offered.pdu, &offered.id) {
+        Ok(()) => None,
+        Err(cause) => Some(refusal_of(cause)),
+    }
+}
+
+// Prepares an event that is not refused, in the form in which it is kept.
+fn keep_in(alloc: Global, timeline: &mut Timeline, offered: &Offered) -> Result<Outcome, AllocError>
+    requires new { place_of (rows_of timeline.old.kept) offered.now.id ≡ None }
+    requires free { refusal_error timeline.old.kept offered.now ≡ None }
+    requires ready { timeline.old.prepared ≡ None }
+    ensures outcome { IfOk result (λ outcome. outcome ≡ offer_outcome timeline.old.kept offered.now) }
+    ensures prepared { OnOk result (timeline.new ≡ record {
+      kept = timeline.old.kept;
+      prepared = row_by offered.now (offer_outcome timeline.old.kept offered.now);
+    }) }
+    ensures err { OnErr result (timeline.new ≡ record { kept = timeline.old.kept; prepared = None }) }
+{
+    let event = kept_form(alloc, offered)?;
     let id = offered.id.clone()?;
     match timeline.prepare(event, id) {
         Ok(verdict) => Ok(Outcome::Kept(verdict)),
         Err(OfferError::Memory) => Err(AllocError),
-        Err(OfferError::NotReceived(cause)) => Ok(Outcome::Refused(refusal_of(cause))),
+        Err(OfferError::NotReceived(_)) => unreachable!(),
     }
 }
 
 #[tactic(auto, unfolding(crate::specs::Asking::query_answer))]
 fn answer_in(timeline: &Timeline, query: &Query) -> Result<Result<QueryReply, Denied>, AllocError>
-    ensures { IfOk result (λ reply. reply ≡ query_answer timeline.now.kept query.now) }
+    ensures reply { IfOk result (λ reply. reply ≡ query_answer timeline.now.kept query.now) }
+    ensures memory { OnErr result (IsTrue (is_ok (query_answer timeline.now.kept query.now))) }
 {
     match query {
         Query::Event(id) => match event_in(timeline, id) {
@@ -209,7 +251,7 @@ fn is_of_create_kind(event: &Pdu) -> bool
     event.kind() == "m.room.create"
 }
 
-// The refusal by a cause that is no other than these two.
+// The refusal by a cause; the first two are asked before.
 fn refusal_of(cause: NotReceived) -> Refusal
     ensures { result ≡ refusal_by cause }
 {

@@ -10,7 +10,7 @@ use Rattle.mx_receipt.proofs.TimelineLemmas.{taken-free}
 use Rattle.mx_receipt.proofs.receiving.prepare_in.Goals as goal
 
 pub add-requires-clause-free : goal.add-requires-clause-free
-add-requires-clause-free c = taken-free c.args.graph.now c.args.id c.args.event c.is_rejected.result (sym c.in_ok-check.ensures)
+add-requires-clause-free c = taken-free c.args.graph.now c.args.id c.args.event c.is_rejected.result c.requires.free
 
 pub add-requires-clause-known : goal.add-requires-clause-known
 add-requires-clause-known c =

@@ -4,8 +4,7 @@ use Rattle.mx_receipt.specs.Judgements.{IsKept, kept_of}
 use Rattle.mx_receipt.specs.Receipt.{rows_of, offer_error, verdict, judged}
 use Rattle.mx_receipt.specs.TimelineView.{TimelineView}
 use Rattle.mx_receipt.specs.Timelines.{IsTimeline, kept_in}
-use Rattle.mx_receipt.specs.declared.refusals.OfferError.TheVariants.{NotReceived}
-use Rattle.mx_receipt.proofs.TimelineLemmas.{none-prepared, is_prepared, added-kept, added-prepared, same-error}
+use Rattle.mx_receipt.proofs.TimelineLemmas.{none-prepared, is_prepared, added-kept, added-prepared}
 use Rattle.mx_receipt.proofs.timelines.Timeline.prepare.Goals as goal
 
 pub prepare_in-made-requires : goal.prepare_in-made-requires
@@ -13,17 +12,16 @@ prepare_in-made-requires c =
     let shown = c.self.view_is ∙ c.discard.ensures in
     let none : c.self.inside.prepared ≡ None = none-prepared c.self.inside.graph c.self.inside.judgements.items c.self.inside.extremities.items (arc_value c.self.inside.current) c.self.inside.prepared c.self.invariant (ap (λ (t : TimelineView). t.prepared) shown) in
     let kept : IsKept c.self.inside.graph c.self.inside.judgements.items c.self.inside.extremities.items (arc_value c.self.inside.current) = subst (IsTimeline c.self.inside.graph c.self.inside.judgements.items c.self.inside.extremities.items (arc_value c.self.inside.current)) none c.self.invariant in
-    record { kept = subst (λ es. IsKept c.self.inside.graph c.self.inside.judgements.items es c.deref-2.result.now) (sym c.deref.ensures.value) (subst (λ s. IsKept c.self.inside.graph c.self.inside.judgements.items c.self.inside.extremities.items s) (sym c.deref-2.ensures) kept) }
-
-pub returns-in-Err-clause-refused : goal.returns-in-Err-clause-refused
-returns-in-Err-clause-refused c = λ cause.
-    let shown = c.self.view_is ∙ c.discard.ensures in
-    let none : c.self.inside.prepared ≡ None = none-prepared c.self.inside.graph c.self.inside.judgements.items c.self.inside.extremities.items (arc_value c.self.inside.current) c.self.inside.prepared c.self.invariant (ap (λ (t : TimelineView). t.prepared) shown) in
-    let kept : IsKept c.self.inside.graph c.self.inside.judgements.items c.self.inside.extremities.items (arc_value c.self.inside.current) = subst (IsTimeline c.self.inside.graph c.self.inside.judgements.items c.self.inside.extremities.items (arc_value c.self.inside.current)) none c.self.invariant in
     let same : kept_of c.self.inside.graph c.self.inside.judgements.items ≡ c.args.self.now.kept = ap (kept_in c.self.inside.graph c.self.inside.judgements.items) (sym none) ∙ ap (λ (t : TimelineView). t.kept) shown in
     let rows : rows_of c.args.self.now.kept ≡ c.self.inside.graph = ap rows_of (sym same) ∙ sym kept.are_kept in
-    let taken : offer_error (rows_of c.args.self.now.kept) c.args.id c.args.event ≡ offer_error c.self.inside.graph c.args.id c.args.event = ap (λ rs. offer_error rs c.args.id c.args.event) rows in
-    (λ h. taken ∙ (c.in-Err.ensures.refused cause).0 (same-error c.in-Err.error (NotReceived cause) h), λ h. same-error c.in-Err.error (NotReceived cause) ((c.in-Err.ensures.refused cause).1 (sym taken ∙ h)))
+    record {
+      kept = subst (λ es. IsKept c.self.inside.graph c.self.inside.judgements.items es c.deref-2.result.now) (sym c.deref.ensures.value) (subst (λ s. IsKept c.self.inside.graph c.self.inside.judgements.items c.self.inside.extremities.items s) (sym c.deref-2.ensures) kept);
+      free =
+          ap (λ rs. offer_error rs c.args.id c.args.event) (sym rows) ∙ ap (λ (t : TimelineView). offer_error (rows_of t.kept) c.args.id c.args.event) (sym c.discard.ensures) ∙ sym c.in_ok-check.ensures;
+    }
+
+pub returns-in-Err-clause-refused : goal.returns-in-Err-clause-refused
+returns-in-Err-clause-refused c = λ cause. (λ h. absurd (cc h), λ h. absurd (cc (sym (ap (λ (t : TimelineView). offer_error (rows_of t.kept) c.args.id c.args.event) (sym c.discard.ensures) ∙ sym c.in_ok-check.ensures) ∙ h)))
 
 pub invariant_of-self : goal.invariant_of-self
 invariant_of-self c =
@@ -52,19 +50,7 @@ returns-in-Ok-clause-prepared c =
     }) ∙ λ i. record { kept = same i; prepared = Some (judged (same i) c.args.id c.args.event) }
 
 pub returns-in-Ok-clause-free : goal.returns-in-Ok-clause-free
-returns-in-Ok-clause-free c =
-    let shown = c.self.view_is ∙ c.discard.ensures in
-    let none : c.self.inside.prepared ≡ None = none-prepared c.self.inside.graph c.self.inside.judgements.items c.self.inside.extremities.items (arc_value c.self.inside.current) c.self.inside.prepared c.self.invariant (ap (λ (t : TimelineView). t.prepared) shown) in
-    let kept : IsKept c.self.inside.graph c.self.inside.judgements.items c.self.inside.extremities.items (arc_value c.self.inside.current) = subst (IsTimeline c.self.inside.graph c.self.inside.judgements.items c.self.inside.extremities.items (arc_value c.self.inside.current)) none c.self.invariant in
-    let same : kept_of c.self.inside.graph c.self.inside.judgements.items ≡ c.args.self.now.kept = ap (kept_in c.self.inside.graph c.self.inside.judgements.items) (sym none) ∙ ap (λ (t : TimelineView). t.kept) shown in
-    let rows : rows_of c.args.self.now.kept ≡ c.self.inside.graph = ap rows_of (sym same) ∙ sym kept.are_kept in
-    ap (λ rs. offer_error rs c.args.id c.args.event) rows ∙ c.in-Ok.ensures.free
+returns-in-Ok-clause-free c = ap (λ (t : TimelineView). offer_error (rows_of t.kept) c.args.id c.args.event) (sym c.discard.ensures) ∙ sym c.in_ok-check.ensures
 
 pub returns-in-Ok-clause-refused : goal.returns-in-Ok-clause-refused
-returns-in-Ok-clause-refused c = λ cause.
-    let shown = c.self.view_is ∙ c.discard.ensures in
-    let none : c.self.inside.prepared ≡ None = none-prepared c.self.inside.graph c.self.inside.judgements.items c.self.inside.extremities.items (arc_value c.self.inside.current) c.self.inside.prepared c.self.invariant (ap (λ (t : TimelineView). t.prepared) shown) in
-    let kept : IsKept c.self.inside.graph c.self.inside.judgements.items c.self.inside.extremities.items (arc_value c.self.inside.current) = subst (IsTimeline c.self.inside.graph c.self.inside.judgements.items c.self.inside.extremities.items (arc_value c.self.inside.current)) none c.self.invariant in
-    let same : kept_of c.self.inside.graph c.self.inside.judgements.items ≡ c.args.self.now.kept = ap (kept_in c.self.inside.graph c.self.inside.judgements.items) (sym none) ∙ ap (λ (t : TimelineView). t.kept) shown in
-    let rows : rows_of c.args.self.now.kept ≡ c.self.inside.graph = ap rows_of (sym same) ∙ sym kept.are_kept in
-    (λ h. absurd (cc h), λ h. absurd (cc (sym (ap (λ rs. offer_error rs c.args.id c.args.event) rows ∙ c.in-Ok.ensures.free) ∙ h)))
+returns-in-Ok-clause-refused c = λ cause. (λ h. absurd (cc h), λ h. absurd (cc (sym (ap (λ (t : TimelineView). offer_error (rows_of t.kept) c.args.id c.args.event) (sym c.discard.ensures) ∙ sym c.in_ok-check.ensures) ∙ h)))
