@@ -1,7 +1,6 @@
 -- Worked journals, by computation: a transaction that is opened, opened again, kept and sent once more, and one that is given up and opened anew.
 use Rattle.std.proofs.Common.{◌≡◌, ℕ, List, [], ◌∷◌, ◌++◌, codes, refl, true, false}
-use Rattle.mx_keeper.specs.declared.rows.BookRow.{BookRow}
-use Rattle.mx_book.specs.Journal.{Hold, free, begun, kept, hold_of, opening_of, begins, is_legal, stored}
+use Rattle.mx_book.specs.Journal.{free, begun, hold_of, opening_of, begins, is_legal, stored}
 use Rattle.mx_book.specs.declared.transaction_keys.TransactionKey.{TransactionKey}
 use Rattle.mx_book.specs.declared.entries.BookEntry.{BookEntry}
 use Rattle.mx_book.specs.declared.entries.BookEntry.TheVariants.{Begun, Kept, GivenUp}

@@ -105,13 +105,15 @@ impl<K: Keeper<Row = BookRow>> Book<K> {
 
     /// Begins a transaction, unless it is begun and not ended (`Busy`) or its reply is kept (`Kept`).
     ///
-    /// `Memory` where no memory is left. `Storage` exactly where an earlier call was refused so. The time is that of a
-    /// look-up among the transactions.
+    /// `Memory` where no memory is left, but never for `Busy`. `Storage` exactly where an earlier call was refused so.
+    /// The time is that of a look-up among the transactions.
     pub fn open(&mut self, caller: u64, key: &TransactionKey) -> Result<Opening, CallError>
         requires { IsTrue (is_at self.old.place key.now.origin) }
         ensures reply { IfOk result (λ opening. opening ≡ opening_of (hold_of self.old.journal key.now)) }
         ensures journal { OnOk result (self.new.journal ≡ self.old.journal ++ begins key.now caller (hold_of self.old.journal key.now)) }
         ensures err { OnErr result (self.new.journal ≡ self.old.journal) }
+        // A transaction that is begun and not ended is told so, whatever memory there is.
+        ensures memory { result ≡ Err CallError.Memory → (other : ℕ) → hold_of self.old.journal key.now ≢ begun other }
         ensures storage { IsErrOf result CallError.Storage ↔ (self.old.is_refused ≡ true) }
         ensures keeper { self.new.keeper ≡ self.old.keeper }
         ensures place { self.new.place ≡ self.old.place }

@@ -1,5 +1,5 @@
 // Entries of a journal, and the maps that find them.
-ghost use Rattle.std.specs.Prelude.{◌≡◌, ◌↔◌, ◌+◌, ◌++◌, ◌∷◌, [], List, ℕ, Some, None, IfOk, OnOk, OnErr, IsSome, IsTrue, length, slice_get, vec_capacity};
+ghost use Rattle.std.specs.Prelude.{◌≡◌, ◌≢◌, ◌↔◌, ◌+◌, ◌++◌, ◌∷◌, [], List, ℕ, Some, None, IfOk, OnOk, OnErr, IsSome, IsTrue, length, slice_get, vec_capacity};
 ghost use Rattle.std.specs.Option.{option_copied};
 ghost use Rattle.std.specs.BTreeMap.{btree_map_len, get};
 ghost use Rattle.mx_keeper.specs.Places.{is_at};
@@ -24,7 +24,8 @@ pub(crate) fn opening_in(
     key: &TransactionKey,
 ) -> Result<Opening, AllocError>
     requires { IsIndexed journal.now callers.now replies.now }
-    ensures { IfOk result (λ opening. opening ≡ opening_of (hold_of journal.now key.now)) }
+    ensures ok { IfOk result (λ opening. opening ≡ opening_of (hold_of journal.now key.now)) }
+    ensures err { OnErr result ((other : ℕ) → hold_of journal.now key.now ≢ begun other) }
 {
     if callers.contains_key(key) {
         return Ok(Opening::Busy);

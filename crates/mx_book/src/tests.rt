@@ -1,6 +1,6 @@
 use crate::{Book, CallError, TransactionKey};
 use mx_ident::ServerName;
-use mx_keeper::{BookRow, Keeper, MemoryKeeper, Place, Reply, TransactionId};
+use mx_keeper::{BookRow, Keeper, KeeperFault, MemoryKeeper, Place, Reply, TransactionId};
 use std::alloc::{AllocError, Global};
 use std::test::Fail;
 
@@ -54,5 +54,59 @@ fn rows_of_what_is_kept(rt: HostRuntime) -> Result<(), Fail> {
     }
     let again = Book::reopen(alloc, keeper, Place::new(0, 1));
     assert_eq!(rt; again.err(), Some(CallError::Storage));
+    Ok(())
+}
+
+// A keeper of what does not read as rows.
+#[derive(Drop)]
+struct UnreadKeeper {}
+
+impl Keeper for UnreadKeeper {
+    ghost use Rattle.std.specs.Prelude.{◌≡◌, None, ⊤};
+
+    type Row = BookRow;
+
+    ghost rows = { λ _. None };
+
+    ghost is_open = { λ _. ⊤ };
+
+    ghost is_honest = { λ _. ⊤ };
+
+    ghost may_leave = { λ _ left. left ≡ None };
+
+    ghost failed = { λ _. 0 };
+
+    fn append(&mut self, _row: &BookRow) -> Result<(), KeeperFault> {
+        Ok(())
+    }
+
+    fn rows(&mut self) -> Result<Vec<BookRow>, KeeperFault> {
+        Err(KeeperFault::Table)
+    }
+
+    fn failures(&self) -> u64 {
+        0
+    }
+
+    ghost settled = { λ _ _ _ _ is. is };
+}
+
+// Neither is told as want of memory.
+#[test]
+fn rows_and_what_does_not_read_are_refused(rt: HostRuntime) -> Result<(), Fail> {
+    let alloc = rt.alloc();
+    let place = Place::new(0, 1);
+    let TransactionKey { origin, txn } = key(alloc, "a.example", "t1")?;
+    let reply = reply(alloc, "{}")?;
+    let mut keeper = MemoryKeeper::new(alloc);
+    keeper.append(&BookRow { origin, txn, reply })?;
+    assert_eq!(rt;
+        Book::reopen(alloc, keeper, place).err(),
+        Some(CallError::Storage)
+    );
+    assert_eq!(rt;
+        Book::reopen(alloc, UnreadKeeper {}, place).err(),
+        Some(CallError::Storage)
+    );
     Ok(())
 }

@@ -14,7 +14,7 @@ use Rattle.mx_shard.specs.Shown.{IsShown, IsAnswer}
 use Rattle.mx_world.specs.Calls.{Start, left, if_put_to, offers, call_of, calls_from, calls, record_after}
 use Rattle.mx_world.specs.Replies.{Status, unopened, waiting, ended, status_after, next_reply, IsAnswered, IsReply, AreReplies}
 use Rattle.mx_world.specs.Moves.{rest_of}
-use Rattle.mx_world.specs.Agree.{where_so, holds, hears, heard, answers_in, told_from, told_about, IdsApart, StayApart, IsRun, Agree, AlikeAbout}
+use Rattle.mx_world.specs.Agree.{where_so, holds, hears, heard, answers_in, told_from, told_about, IsApart, IsApartAt, StayApart, IsRun, Agree, AlikeAbout}
 use Rattle.mx_receipt.specs.Receipt.{Kept, rows_of, kept_at}
 use Rattle.mx_room.specs.declared.queries.Query.{Query}
 use Rattle.mx_room.specs.declared.queries.Query.TheVariants.{Event as ask_event}
@@ -114,10 +114,10 @@ held_if_shown [] origin now id h = absurd (false≢true h)
 held_if_shown (k ∷ ks) origin now id h = held_if_found (k ∷ ks) (place_of (rows_of (k ∷ ks)) id) h
 
 found_answer : (rows : List ℕ → List Kept) (room origin : List ℕ) (now : ℕ) (id : List ℕ) (a : Answer) →
-    IsShown rows (to_ask origin now (ask_event id)) a → IdsApart rows → holds (rows room) id ≡ true → a ≡ answer (rows room) (to_ask origin now (ask_event id))
+    IsShown rows (to_ask origin now (ask_event id)) a → IsApart rows room id → holds (rows room) id ≡ true → a ≡ answer (rows room) (to_ask origin now (ask_event id))
 found_answer rows room origin now id (ToAsked (Ok reply)) (other, e) apart h =
     let held : holds (rows other) id ≡ true = held_if_shown (rows other) origin now id (ap is_given e) in
-    sym e ∙ ap (λ r. answer (rows r) (to_ask origin now (ask_event id))) (apart id other room held h)
+    sym e ∙ ap (λ r. answer (rows r) (to_ask origin now (ask_event id))) (sym (apart h other held))
 found_answer rows room origin now id (ToAsked (Err denied)) (d, all) apart h = ap (λ x. ToAsked (Err x)) d ∙ sym (all room)
 found_answer rows room origin now id NotHosted h apart k = absurd h
 found_answer rows room origin now id (Hosted i) h apart k = absurd h
@@ -126,7 +126,7 @@ found_answer rows room origin now id (NotHost error) h apart k = absurd h
 found_answer rows room origin now id (ToOffered o) h apart k = absurd h
 
 shown_told : (rows : List ℕ → List Kept) (room origin : List ℕ) (now : ℕ) (id : List ℕ) (a : Answer) →
-    IsShown rows (to_ask origin now (ask_event id)) a → IdsApart rows →
+    IsShown rows (to_ask origin now (ask_event id)) a → IsApart rows room id →
     heard_answer (rows room) (to_ask origin now (ask_event id) ∷ []) (a ∷ []) ≡ answers_alone (rows room) (heard (rows room) (to_ask origin now (ask_event id) ∷ []))
 shown_told rows room origin now id a h apart =
     elim (holds (rows room) id) as (λ b. holds (rows room) id ≡ b → where_so (b || false) (a ∷ []) ≡ where_so (b || false) (answer (rows room) (to_ask origin now (ask_event id)) ∷ [])) [
@@ -144,13 +144,13 @@ room_told rows room other c (OfRoom a) named h =
 room_told rows room other c reply named h = absurd h
 
 ask_told : (rows : List ℕ → List Kept) (room origin : List ℕ) (now : ℕ) (q : Query) (reply : StepReply) →
-    IsAnswered rows (to_ask origin now q) reply → IdsApart rows →
+    IsAnswered rows (to_ask origin now q) reply → IsApartAt rows room (Ask origin now q) →
     heard_answer (rows room) (if_put_to room (to_ask origin now q)) (answers_in reply) ≡ answers_alone (rows room) (heard (rows room) (if_put_to room (to_ask origin now q)))
 ask_told rows room origin now (ask_event id) (OfRoom a) h apart = shown_told rows room origin now id a h apart
 ask_told rows room origin now (ask_event id) reply h apart = absurd h
 
 step_told : (rows : List ℕ → List Kept) (st : TransactionKey → Status) (room : List ℕ) (left : TransactionKey → List Offered) (step : Step) (reply : StepReply) →
-    IsReply rows st step reply → IdsApart rows → ((p : TransactionKey) → rest_of (st p) ≡ left p) →
+    IsReply rows st step reply → IsApartAt rows room step → ((p : TransactionKey) → rest_of (st p) ≡ left p) →
     heard_answer (rows room) (call_of room left step) (answers_in reply) ≡ answers_alone (rows room) (heard (rows room) (call_of room left step))
 step_told rows st room left (Host o) reply h apart same_rest =
     room_told rows room (room_of o.pdu) (to_host o) reply refl h
@@ -165,7 +165,7 @@ step_told rows st room left (Ask origin now q) reply h apart same_rest = ask_tol
 
 -- ---- runs
 
-pub told-alone : (s : Start) (room : List ℕ) (earlier later : List Step) (replies : List StepReply) → AreReplies s earlier later replies → StayApart s earlier later →
+pub told-alone : (s : Start) (room : List ℕ) (earlier later : List Step) (replies : List StepReply) → AreReplies s earlier later replies → StayApart s room earlier later →
     told_from s room earlier later replies ≡ answers_alone (record_after s earlier room) (heard (record_after s earlier room) (calls_from s room earlier later))
 told-alone s room earlier [] [] h apart = refl
 told-alone s room earlier [] (reply ∷ replies) h apart = absurd h
@@ -181,18 +181,22 @@ told-alone s room earlier (step ∷ later) (reply ∷ replies) h apart =
     ∙ sym (answers-heard-append kept cs (calls_from s room (earlier ++ step ∷ []) later))
 
 -- what a run tells about a room is what a server answers that hosts it alone and got its calls
-pub told-about : (s : Start) (room : List ℕ) (steps : List Step) (replies : List StepReply) → IsRun s steps replies →
+pub told-about : (s : Start) (room : List ℕ) (steps : List Step) (replies : List StepReply) → IsRun s room steps replies →
     told_about s room steps replies ≡ answers_alone (s.record_at room) (heard (s.record_at room) (calls s room steps))
 told-about s room steps replies run = told-alone s room [] steps replies run.replied run.apart
 
-pub alike : (s s' : Start) (room : List ℕ) (steps steps' : List Step) (replies replies' : List StepReply) → IsRun s steps replies → IsRun s' steps' replies' → Agree s s' room steps steps' → AlikeAbout s s' room steps steps' replies replies'
+-- runs that agree leave the room one record
+pub same_records : (s s' : Start) (room : List ℕ) (steps steps' : List Step) → Agree s s' room steps steps' → record_after s steps room ≡ record_after s' steps' room
+same_records s s' room steps steps' agree =
+    sym (record-heard (s.record_at room) (calls s room steps))
+    ∙ ap (λ k. record_alone k (heard (s.record_at room) (calls s room steps))) agree.begin ∙ ap (record_alone (s'.record_at room)) agree.calls
+    ∙ record-heard (s'.record_at room) (calls s' room steps')
+
+pub alike : (s s' : Start) (room : List ℕ) (steps steps' : List Step) (replies replies' : List StepReply) → IsRun s room steps replies → IsRun s' room steps' replies' → Agree s s' room steps steps' → AlikeAbout s s' room steps steps' replies replies'
 alike s s' room steps steps' replies replies' run run' agree = record {
   answers =
       told-about s room steps replies run
       ∙ ap (λ k. answers_alone k (heard (s.record_at room) (calls s room steps))) agree.begin ∙ ap (answers_alone (s'.record_at room)) agree.calls
       ∙ sym (told-about s' room steps' replies' run');
-  last_record =
-      sym (record-heard (s.record_at room) (calls s room steps))
-      ∙ ap (λ k. record_alone k (heard (s.record_at room) (calls s room steps))) agree.begin ∙ ap (record_alone (s'.record_at room)) agree.calls
-      ∙ record-heard (s'.record_at room) (calls s' room steps');
+  last_record = same_records s s' room steps steps' agree;
 }

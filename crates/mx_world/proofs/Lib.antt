@@ -7,3 +7,4 @@ pub mod RefusalLemmas
 pub mod RoomLemmas
 pub mod RunLemmas
 pub mod MakingLemmas
+pub mod StorageLemmas

@@ -12,7 +12,7 @@ use Rattle.mx_world.specs.Calls.{Start, record_after, call_of}
 use Rattle.mx_world.specs.Replies.{Status, status_after, status_by, IsReply, AreReplies}
 use Rattle.mx_world.specs.Moves.{rest_of, moved, RecordsMove, StatusesMove}
 use Rattle.mx_world.specs.View.{Progress, WorldView}
-use Rattle.mx_world.specs.Worlds.{book_journals, holds_of, found, status_found, records_in, status_in, kept_body, start, none_open, Stays, Moves, IsAfter}
+use Rattle.mx_world.specs.Worlds.{shard_journals, records_of, book_journals, holds_of, found, status_found, records_in, status_in, kept_body, start, none_open, Stays, Moves, IsAfter}
 use Rattle.mx_world.specs.declared.steps.Step.{Step}
 use Rattle.mx_world.specs.declared.steps.StepReply.{StepReply}
 use Rattle.mx_world.proofs.NextStep.{next_record, next_status, rest_of-status}
@@ -78,12 +78,12 @@ both_move (Err e) u u' x h k = tt
 pub moves_of : {K L A E : Type 0} (r : Result A E) (w w' u u' : WorldView K L) (x : Step) → u ≡ w → u' ≡ w' → OnOk r (RecordsMove (records_in u) (records_in u') (status_in u) x) → OnOk r (StatusesMove (records_in u) (status_in u) (status_in u') x) → OnOk r (Moves w w' x)
 moves_of r w w' u u' x is is' h k = subst (λ v. OnOk r (Moves v w' x)) is (subst (λ v. OnOk r (Moves u v x)) is' (both_move r u u' x h k))
 
-both_stay : {K L A E : Type 0} (r : Result A E) (u u' : WorldView K L) → OnErr r ((room : List ℕ) → records_in u' room ≡ records_in u room) → OnErr r ((p : TransactionKey) → status_in u' p ≡ status_in u p) → OnErr r (Stays u u')
-both_stay (Ok a) u u' h k = tt
-both_stay (Err e) u u' h k = record { records = h; statuses = k }
+both_stay : {K L A E : Type 0} (r : Result A E) (u u' : WorldView K L) → OnErr r (shard_journals u'.shards ≡ shard_journals u.shards) → OnErr r (book_journals u'.books ≡ book_journals u.books) → OnErr r ((p : TransactionKey) → status_in u' p ≡ status_in u p) → OnErr r (Stays u u')
+both_stay (Ok a) u u' h b k = tt
+both_stay (Err e) u u' h b k = record { shard_journals = h; book_journals = b; records = λ room. ap (λ js. records_of js room) h; statuses = k }
 
-pub stays_of : {K L A E : Type 0} (r : Result A E) (w w' u u' : WorldView K L) → u ≡ w → u' ≡ w' → OnErr r ((room : List ℕ) → records_in u' room ≡ records_in u room) → OnErr r ((p : TransactionKey) → status_in u' p ≡ status_in u p) → OnErr r (Stays w w')
-stays_of r w w' u u' is is' h k = subst (λ v. OnErr r (Stays v w')) is (subst (λ v. OnErr r (Stays u v)) is' (both_stay r u u' h k))
+pub stays_of : {K L A E : Type 0} (r : Result A E) (w w' u u' : WorldView K L) → u ≡ w → u' ≡ w' → OnErr r (shard_journals u'.shards ≡ shard_journals u.shards) → OnErr r (book_journals u'.books ≡ book_journals u.books) → OnErr r ((p : TransactionKey) → status_in u' p ≡ status_in u p) → OnErr r (Stays w w')
+stays_of r w w' u u' is is' h b k = subst (λ v. OnErr r (Stays v w')) is (subst (λ v. OnErr r (Stays u v)) is' (both_stay r u u' h b k))
 
 -- what stays is as after the same steps
 pub after_none_more : {K L : Type 0} (s : Start) (steps : List Step) (w w' : WorldView K L) → IsAfter s steps w → Stays w w' → IsAfter s steps w'

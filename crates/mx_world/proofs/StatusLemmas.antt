@@ -184,47 +184,47 @@ never-busy None (kept reply) agree h is = cc is
 pub at-self : {A : Type 0} (a a' : TransactionKey → A) (q : TransactionKey) (change : A → A) → AtTransaction a a' q change → a' q ≡ change (a q)
 at-self a a' q change h = h q ∙ ap (λ b. if b then change (a q) else a q) (same-self q)
 
+-- what was added and taken out again is as before
+pub taken-back : {A : Type 0} (a a' a'' : TransactionKey → Option A) (q : TransactionKey) (x : A) → a q ≡ None → AtTransaction a a' q (λ _. Some x) → AtTransaction a' a'' q (λ _. None) → (p : TransactionKey) → a'' p ≡ a p
+taken-back a a' a'' q x none there back = λ p.
+    back p
+    ∙ elim (same p q) as (λ t. same p q ≡ t → cond t None (a' p) ≡ a p) [
+      | true ↦ λ h. subst (λ r. None ≡ a r) (sym (same-eq p q h)) (sym none)
+      | false ↦ λ h. there p ∙ ap (λ b. if b then Some x else a p) h
+    ] refl
+
 -- what is kept is replayed, and stays
-pub replayed : (going : List (TransactionKey × Progress)) (journals journals' : List (List BookEntry)) (q : TransactionKey) (events : List Offered) (reply : List ℕ) → found going q ≡ None → holds_of journals q ≡ kept reply → AtTransaction (holds_of journals) (holds_of journals') q opened → AllAgree going journals →
-    (Replayed reply ≡ open_reply events (statuses_of going journals q)) × AtTransaction (statuses_of going journals) (statuses_of going journals') q (after_open events) × AllAgree going journals'
-replayed going journals journals' q events reply none is ss agree =
-    let same_found = at_none (found going) (found going) q (λ p. refl) in (
+pub replayed : (going going' : List (TransactionKey × Progress)) (journals journals' : List (List BookEntry)) (q : TransactionKey) (events : List Offered) (reply : List ℕ) → found going q ≡ None → holds_of journals q ≡ kept reply →
+    ((p : TransactionKey) → found going' p ≡ found going p) → AtTransaction (holds_of journals) (holds_of journals') q opened → AllAgree going journals →
+    (Replayed reply ≡ open_reply events (statuses_of going journals q)) × AtTransaction (statuses_of going journals) (statuses_of going' journals') q (after_open events) × AllAgree going' journals'
+replayed going going' journals journals' q events reply none is same_going ss agree =
+    let same_found = at_none (found going) (found going') q same_going in (
       ap (λ s. open_reply events (status_found None s)) (sym is) ∙ ap (λ f. open_reply events (status_found f (holds_of journals q))) (sym none),
-      statuses-at going going journals journals' q (λ f. f) opened (after_open events) same_found ss
+      statuses-at going going' journals journals' q (λ f. f) opened (after_open events) same_found ss
           (ap (λ f. status_found f (opened (holds_of journals q))) none ∙ ap (λ s. status_found None (opened s)) is ∙ ap (λ s. after_open events (status_found None s)) (sym is)
           ∙ ap (λ f. after_open events (status_found f (holds_of journals q))) (sym none)),
-      at_each Agrees (found going) (found going) (holds_of journals) (holds_of journals') q (λ f. f) opened same_found ss agree
+      at_each Agrees (found going) (found going') (holds_of journals) (holds_of journals') q (λ f. f) opened same_found ss agree
           (subst (λ f. Agrees f (opened (holds_of journals q))) (sym none) (subst (λ s. Agrees None (opened s)) (sym is) tt)),
     )
 
--- what is begun and then given up is as before
-pub given-up : (s s' s'' : TransactionKey → Hold) (q : TransactionKey) → AtTransaction s s' q opened → AtTransaction s' s'' q (λ _. free) → s q ≡ free → (p : TransactionKey) → s'' p ≡ s p
-given-up s s' s'' q first second is = λ p.
-    second p
-    ∙ elim (same p q) as (λ t. same p q ≡ t → cond t free (s' p) ≡ s p) [
-      | true ↦ λ h. subst (λ r. free ≡ s r) (sym (same-eq p q h)) (sym is)
-      | false ↦ λ h. first p ∙ ap (λ b. if b then opened (s p) else s p) h
-    ] refl
+-- a transaction that its book has begun is open
+pub opened-all : (going going' : List (TransactionKey × Progress)) (journals journals' : List (List BookEntry)) (q : TransactionKey) (events : List Offered) → found going q ≡ None → holds_of journals q ≡ free →
+    AtTransaction (found going) (found going') q (λ _. Some (record { rest = events; told = [] })) → AtTransaction (holds_of journals) (holds_of journals') q opened → AllAgree going journals →
+    AtTransaction (statuses_of going journals) (statuses_of going' journals') q (after_open events) × AllAgree going' journals'
+opened-all going going' journals journals' q events none is fs ss agree = (
+  statuses-at going going' journals journals' q (λ _. Some (record { rest = events; told = [] })) opened (after_open events) fs ss
+      (ap (λ s. after_open events (status_found None s)) (sym is) ∙ ap (λ f. after_open events (status_found f (holds_of journals q))) (sym none)),
+  at_each Agrees (found going) (found going') (holds_of journals) (holds_of journals') q (λ _. Some (record { rest = events; told = [] })) opened fs ss agree
+      (subst (λ s. Agrees (Some (record { rest = events; told = [] })) (opened s)) (sym is) refl),
+)
 
--- a transaction that its book has begun is open, or all is as before
-pub opened-all : {A E : Type 0} (r : Result A E) (going going' : List (TransactionKey × Progress)) (journals journals' journals'' : List (List BookEntry)) (q : TransactionKey) (events : List Offered) → found going q ≡ None → holds_of journals q ≡ free →
-    AtTransaction (holds_of journals) (holds_of journals') q opened → AllAgree going journals → OnOk r (AtTransaction (found going) (found going') q (λ _. Some (record { rest = events; told = [] }))) → OnOk r (journals'' ≡ journals') →
-    OnErr r (going' ≡ going) → OnErr r (AtTransaction (holds_of journals') (holds_of journals'') q (λ _. free)) →
-    OnOk r (AtTransaction (statuses_of going journals) (statuses_of going' journals'') q (after_open events)) × OnErr r ((p : TransactionKey) → statuses_of going' journals'' p ≡ statuses_of going journals p) × AllAgree going' journals''
-opened-all (Ok x) going going' journals journals' journals'' q events none is ss agree fs same_journals e e' =
-    let states : AtTransaction (holds_of journals) (holds_of journals'') q opened = subst (λ js. AtTransaction (holds_of journals) (holds_of js) q opened) (sym same_journals) ss in (
-      statuses-at going going' journals journals'' q (λ _. Some (record { rest = events; told = [] })) opened (after_open events) fs states
-          (ap (λ s. after_open events (status_found None s)) (sym is) ∙ ap (λ f. after_open events (status_found f (holds_of journals q))) (sym none)),
-      tt,
-      at_each Agrees (found going) (found going') (holds_of journals) (holds_of journals'') q (λ _. Some (record { rest = events; told = [] })) opened fs states agree
-          (subst (λ s. Agrees (Some (record { rest = events; told = [] })) (opened s)) (sym is) refl),
-    )
-opened-all (Err e) going going' journals journals' journals'' q events none is ss agree o o' same_going over =
-    let back : (p : TransactionKey) → holds_of journals'' p ≡ holds_of journals p = given-up (holds_of journals) (holds_of journals') (holds_of journals'') q ss over is in (
-      tt,
-      (λ p. ap (λ f. status_found f (holds_of journals'' p)) (found-same going going' same_going p) ∙ ap (status_found (found going p)) (back p)),
-      (λ p. subst (λ f. Agrees f (holds_of journals'' p)) (sym (found-same going going' same_going p)) (subst (Agrees (found going p)) (sym (back p)) (agree p))),
-    )
+-- one that its book refuses leaves all as before
+pub refused-all : (going going' : List (TransactionKey × Progress)) (journals journals' : List (List BookEntry)) → ((p : TransactionKey) → found going' p ≡ found going p) → journals' ≡ journals → AllAgree going journals →
+    ((p : TransactionKey) → statuses_of going' journals' p ≡ statuses_of going journals p) × AllAgree going' journals'
+refused-all going going' journals journals' same_going same_journals agree = (
+  (λ p. ap (λ f. status_found f (holds_of journals' p)) (same_going p) ∙ ap (λ js. status_found (found going p) (holds_of js p)) same_journals),
+  (λ p. subst (λ f. Agrees f (holds_of journals' p)) (sym (same_going p)) (subst (λ js. Agrees (found going p) (holds_of js p)) (sym same_journals) (agree p))),
+)
 
 -- ---- ends
 

@@ -10,6 +10,7 @@ use Rattle.mx_room.specs.declared.queries.Query.{Query}
 use Rattle.mx_room.specs.declared.queries.Query.TheVariants.{Event as ask_event}
 use Rattle.mx_shard.specs.declared.answers.Answer.{Answer}
 use Rattle.mx_world.specs.declared.steps.Step.{Step}
+use Rattle.mx_world.specs.declared.steps.Step.TheVariants.{Ask}
 use Rattle.mx_world.specs.declared.steps.StepReply.{StepReply}
 use Rattle.mx_world.specs.declared.steps.StepReply.TheVariants.{OfRoom, OfEvent}
 
@@ -55,19 +56,24 @@ told_about s room steps replies = told_from s room [] steps replies
 
 -- ---- runs
 
--- no two rooms hold one id
-abbrev pub IdsApart : (List ℕ → List Kept) → Type 0
-IdsApart rows = (id room other : List ℕ) → IsTrue (holds (rows room) id) → IsTrue (holds (rows other) id) → room ≡ other
+-- an id that the room holds stands in no other
+abbrev pub IsApart : (List ℕ → List Kept) → List ℕ → List ℕ → Type 0
+IsApart rows room id = IsTrue (holds (rows room) id) → (other : List ℕ) → IsTrue (holds (rows other) id) → room ≡ other
 
--- nor do they before any of the later steps
-abbrev pub StayApart : Start → List Step → List Step → Type 0
-StayApart s earlier [] = Unit {0}
-StayApart s earlier (step ∷ later) = IdsApart (record_after s earlier) × StayApart s (earlier ++ step ∷ []) later
+-- so does the id that a step queries, where it queries an event by its id alone
+abbrev pub IsApartAt : (List ℕ → List Kept) → List ℕ → Step → Type 0
+IsApartAt rows room (Ask origin now (ask_event id)) = IsApart rows room id
+IsApartAt rows room step = Unit {0}
 
--- a run with its replies, in which no two rooms hold one id
-pub record IsRun (s : Start) (steps : List Step) (replies : List StepReply) : Type 0 where
+-- the ids that the later steps query so stand apart, each before its step
+abbrev pub StayApart : Start → List ℕ → List Step → List Step → Type 0
+StayApart s room earlier [] = Unit {0}
+StayApart s room earlier (step ∷ later) = IsApartAt (record_after s earlier) room step × StayApart s room (earlier ++ step ∷ []) later
+
+-- a run with its replies, in which the room's ids that are queried stand in no other room
+pub record IsRun (s : Start) (room : List ℕ) (steps : List Step) (replies : List StepReply) : Type 0 where
   pub replied : AreReplies s [] steps replies
-  pub apart : StayApart s [] steps
+  pub apart : StayApart s room [] steps
 
 -- two runs that begin with one record of the room and give it the same calls, but for those that it does not hear
 pub record Agree (s s' : Start) (room : List ℕ) (steps steps' : List Step) : Type 0 where

@@ -15,6 +15,7 @@ use Rattle.mx_world.specs.Replies.{told_of}
 use Rattle.mx_world.specs.View.{Progress}
 use Rattle.mx_world.specs.Worlds.{holds_of, book_journals, found}
 use Rattle.mx_world.specs.declared.answers.Told.{Told}
+use Rattle.mx_world.specs.declared.callers.TheConstants.{SOLE_CALLER}
 
 abbrev pub shard_places : {K : Type 0} → List (ShardView K) → List PlaceView
 shard_places shards = map (λ shard. shard.place) shards
@@ -28,10 +29,10 @@ pub record ArePlaced (places : List PlaceView) : Type 0 where
   pub few : length places ≤ 64
   pub each : (n : ℕ) (d : PlaceView) → n < length places → get_or places n d ≡ record { number = n; count = length places }
 
--- what is open was begun by the caller 0, and nothing else is begun and not ended
+-- what is open was begun by the sole caller, and nothing else is begun and not ended
 abbrev pub Agrees : Option Progress → Hold → Type 0
 Agrees (Some progress) free = ⊥
-Agrees (Some progress) (begun caller) = caller ≡ 0
+Agrees (Some progress) (begun caller) = caller ≡ SOLE_CALLER
 Agrees (Some progress) (kept reply) = ⊥
 Agrees None free = Unit {0}
 Agrees None (begun caller) = ⊥
@@ -48,7 +49,7 @@ pub record IsSound {K L : Type 0} (shards : List (ShardView K)) (books : List (B
 
 -- the state that opening a transaction leaves
 abbrev pub opened : Hold → Hold
-opened free = begun 0
+opened free = begun SOLE_CALLER
 opened (begun caller) = begun caller
 opened (kept reply) = kept reply
 

@@ -6,3 +6,4 @@ pub mod View
 pub mod Codes
 pub mod Worlds
 pub mod Inside
+pub mod Storage

@@ -83,8 +83,10 @@ is_refused w = list_any (λ shard. shard.is_refused) w.shards || list_any (λ bo
 abbrev pub AtTransaction : {A : Type 0} → (TransactionKey → A) → (TransactionKey → A) → TransactionKey → (A → A) → Type 0
 AtTransaction old new q change = (p : TransactionKey) → new p ≡ (if same p q then change (old p) else old p)
 
--- each room's record and each transaction's status stay
+-- each journal, each room's record and each transaction's status stay
 pub record Stays {K L : Type 0} (old new : WorldView K L) : Type 0 where
+  pub shard_journals : shard_journals new.shards ≡ shard_journals old.shards
+  pub book_journals : book_journals new.books ≡ book_journals old.books
   pub records : (room : List ℕ) → records_in new room ≡ records_in old room
   pub statuses : (p : TransactionKey) → status_in new p ≡ status_in old p
 

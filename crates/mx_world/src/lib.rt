@@ -4,6 +4,7 @@
 mod answers;
 mod bodies;
 mod books;
+mod callers;
 mod making;
 mod numbering;
 mod rooms;
@@ -15,6 +16,7 @@ mod worlds;
 
 pub use answers::Told;
 pub use bodies::processing_result;
+pub use callers::SOLE_CALLER;
 pub use mx_book::TransactionKey;
 pub use mx_keeper::{BookRow, CallError, Keeper, Reply, ShardRow};
 pub use mx_room::{Denied, NotARoom, Outcome, Query, QueryReply, Refusal};

@@ -1,10 +1,11 @@
 // Lists of steps.
-ghost use Rattle.std.specs.Prelude.{◌≡◌, ◌<◌, ℕ, List, [], take, length, IsTrue, IfOk, OnOk, IfErr};
+ghost use Rattle.std.specs.Prelude.{◌≡◌, ◌<◌, ℕ, List, [], take, length, get_or, IsTrue, IfOk, OnOk, IfErr};
 ghost use Rattle.mx_shard.specs.LoneRoom.{answers_alone};
 ghost use Rattle.mx_world.specs.Calls.{Start, calls, record_after};
-ghost use Rattle.mx_world.specs.Replies.{AreReplies};
+ghost use Rattle.mx_world.specs.Replies.{status_after, AreReplies};
 ghost use Rattle.mx_world.specs.Agree.{heard, told_about, StayApart, IsRun, Agree, AlikeAbout};
 ghost use Rattle.mx_world.specs.Worlds.{none_open, is_refused, records_in, start, IsAfter};
+ghost use Rattle.mx_world.specs.Storage.{IsStorageFailure};
 
 use crate::steps::{Step, StepReply};
 use crate::worlds::World;
@@ -22,8 +23,9 @@ pub struct RunError {
 
 /// Runs steps in order, and gives the reply to each.
 ///
-/// Each reply is the one that the steps before it call for. Where no two rooms ever hold one event id, what the replies
-/// tell about a room is what a server tells that hosts this room alone and gets this room's calls in that order.
+/// Each reply is the one that the steps before it call for. Where no other room holds an event id of a room when it is
+/// queried alone, what the replies tell about this room is what a server tells that hosts it alone and gets its calls in
+/// that order.
 /// `RunError` where a step is refused: the steps before it are done, and it changed nothing.
 pub fn run<K: Keeper<Row = ShardRow>, L: Keeper<Row = BookRow>>(
     world: &mut World<K, L>,
@@ -36,13 +38,16 @@ pub fn run<K: Keeper<Row = ShardRow>, L: Keeper<Row = BookRow>>(
     // Each room's record is that of a server which hosts it alone and got its calls.
     ensures records { OnOk result ((room : List ℕ) → records_in world.new room ≡ record_after (start world.old) steps.now room) }
     // Each room is answered as by a server that hosts it alone and got its calls.
-    ensures alone { IfOk result (λ replies. StayApart (start world.old) [] steps.now → (room : List ℕ) →
+    ensures alone { IfOk result (λ replies. (room : List ℕ) → StayApart (start world.old) room [] steps.now →
         told_about (start world.old) room steps.now replies.items
         ≡ answers_alone (records_in world.old room) (heard (records_in world.old room) (calls (start world.old) room steps.now))) }
     // A run that stops has done the steps before the one that was refused, and says how many.
     ensures err { IfErr result (λ error. IsAfter (start world.old) (take error.done steps.now) world.new) }
     ensures stopped { IfErr result (λ error. error.done < length steps.now) }
-    ensures storage { IfErr result (λ error. error.cause ≡ CallError.Storage → IsTrue (is_refused world.new)) }
+    // The step's own shard or book is refused, and was at the start, or its keeper's count of failures has risen since.
+    ensures storage { IfErr result (λ error. error.cause ≡ CallError.Storage → (step : Step)
+        → IsStorageFailure K.failed L.failed (status_after (start world.old) (take error.done steps.now)) world.old world.new (get_or steps.now error.done step)) }
+    ensures refused { IfErr result (λ error. error.cause ≡ CallError.Storage → IsTrue (is_refused world.new)) }
 {
     if steps.is_empty() {
         return Ok(Vec::new(alloc));
@@ -70,7 +75,10 @@ pub fn run<K: Keeper<Row = ShardRow>, L: Keeper<Row = BookRow>>(
 
 /// Two runs that agree on a room's calls answer alike about it, and leave it the same record, whatever else they do.
 pub fn agreeing_runs_answer_alike()
-    ensures { (s s' : Start) (room : List ℕ) (steps steps' : List Step) (replies replies' : List StepReply) →
-        IsRun s steps replies → IsRun s' steps' replies' → Agree s s' room steps steps' →
+    ensures alike { (s s' : Start) (room : List ℕ) (steps steps' : List Step) (replies replies' : List StepReply) →
+        IsRun s room steps replies → IsRun s' room steps' replies' → Agree s s' room steps steps' →
         AlikeAbout s s' room steps steps' replies replies' }
+    // For the records the replies do not count, nor which ids stand in which rooms.
+    ensures records { (s s' : Start) (room : List ℕ) (steps steps' : List Step) →
+        Agree s s' room steps steps' → record_after s steps room ≡ record_after s' steps' room }
 {}

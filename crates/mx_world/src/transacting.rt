@@ -1,17 +1,17 @@
 // Transactions: their openings, their events in turn, and their ends.
-ghost use Rattle.std.specs.Prelude.{◌≡◌, ◌≢◌, ℕ, List, [], None, Some, IfOk, OnOk, OnErr, IsTrue};
-ghost use Rattle.std.specs.List.{list_any};
+ghost use Rattle.std.specs.Prelude.{◌≡◌, ℕ, List, [], Some, IfOk, OnOk, OnErr};
 ghost use Rattle.mx_shard.specs.LoneRoom.{record_alone};
-ghost use Rattle.mx_book.specs.Journal.{free, begun};
+ghost use Rattle.mx_book.specs.Journal.{free};
 ghost use Rattle.mx_book.specs.declared.transaction_keys.TransactionKey.{TransactionKey};
 ghost use Rattle.mx_world.specs.Calls.{offers};
-ghost use Rattle.mx_world.specs.Replies.{unopened, open_reply, next_reply, close_reply};
+ghost use Rattle.mx_world.specs.Replies.{open_reply, next_reply, close_reply};
 ghost use Rattle.mx_world.specs.Moves.{rest_of, after_open, after_close};
-ghost use Rattle.mx_world.specs.Worlds.{shard_journals, records_of, book_journals, holds_of, found, status_found, statuses_of, AtTransaction};
+ghost use Rattle.mx_world.specs.Worlds.{shard_journals, records_of, book_journals, found, status_found, statuses_of, AtTransaction};
+ghost use Rattle.mx_world.specs.Storage.{BookFails, BooksLast, NextFails, ShardsLast, OnlyAt, next_room};
 ghost use Rattle.mx_world.specs.Inside.{shard_places, book_places, advanced, ArePlaced, AllAgree};
 
 use crate::bodies::reply_body;
-use crate::books::{begin_in, give_up_in, keep_in};
+use crate::books::{begin_in, keep_in};
 use crate::steps::StepReply;
 use crate::transactions::Transaction;
 use mx_book::{Book, Opening, TransactionKey};
@@ -21,7 +21,8 @@ use mx_shard::Shard;
 use std::alloc::{AllocError, Global};
 use std::collections::BTreeMap;
 
-/// Opens the transaction with these events, unless it is open or its reply is kept.
+/// Opens the transaction with these events, unless it is open or its reply is kept. What needs memory here comes first,
+/// so that its book begins it last.
 pub(crate) fn open_in<L: Keeper<Row = BookRow>>(
     alloc: Global,
     books: &mut [Book<L>],
@@ -34,46 +35,31 @@ pub(crate) fn open_in<L: Keeper<Row = BookRow>>(
     ensures reply { IfOk result (λ r. r ≡ open_reply events.now (statuses_of going.old.entries (book_journals books.old) key.now)) }
     ensures statuses { OnOk result (AtTransaction (statuses_of going.old.entries (book_journals books.old)) (statuses_of going.new.entries (book_journals books.new)) key.now (after_open events.now)) }
     ensures err { OnErr result ((p : TransactionKey) → statuses_of going.new.entries (book_journals books.new) p ≡ statuses_of going.old.entries (book_journals books.old) p) }
+    ensures err_books { OnErr result (book_journals books.new ≡ book_journals books.old) }
     ensures agree { AllAgree going.new.entries (book_journals books.new) }
     ensures places { book_places books.new ≡ book_places books.old }
-    ensures storage { result ≡ Err CallError.Storage → IsTrue (list_any (λ book. book.is_refused) books.new) }
+    ensures storage { result ≡ Err CallError.Storage → BookFails L.failed books.old books.new key.now.origin }
+    ensures only { OnlyAt (Some key.now.origin) books.old books.new }
+    ensures last { BooksLast L.failed books.old books.new }
 {
     if going.contains_key(key) {
         return Ok(StepReply::Busy);
     }
-    let opening = begin_in(books, key)?;
-    match opening {
-        Opening::Fresh => start_in(alloc, books, going, key, events),
-        Opening::Kept(reply) => Ok(StepReply::Replayed(reply)),
-        Opening::Busy => unreachable!(),
-    }
-}
-
-// A transaction that its book has begun is open from now on; where no memory is left for it, it is given up.
-fn start_in<L: Keeper<Row = BookRow>>(
-    alloc: Global,
-    books: &mut [Book<L>],
-    going: &mut BTreeMap<TransactionKey, Transaction>,
-    key: &TransactionKey,
-    events: &[Offered],
-) -> Result<StepReply, CallError>
-    requires placed { ArePlaced (book_places books.old) }
-    requires begun { holds_of (book_journals books.old) key.now ≡ begun 0 }
-    requires free { found going.old.entries key.now ≡ None }
-    ensures reply { IfOk result (λ r. r ≡ open_reply events.now unopened) }
-    ensures found { OnOk result (AtTransaction (found going.old.entries) (found going.new.entries) key.now (λ _. Some (record { rest = events.now; told = [] }))) }
-    ensures states { OnOk result (book_journals books.new ≡ book_journals books.old) }
-    ensures err_found { OnErr result (going.new.entries ≡ going.old.entries) }
-    ensures err_states { OnErr result (AtTransaction (holds_of (book_journals books.old)) (holds_of (book_journals books.new)) key.now (λ _. free)) }
-    ensures places { book_places books.new ≡ book_places books.old }
-    ensures storage { result ≢ Err CallError.Storage }
-{
-    match add_transaction(alloc, going, key, events) {
-        Ok(()) => Ok(StepReply::Opened(events.len())),
-        Err(_) => {
-            give_up_in(books, key);
-            Err(CallError::Memory)
+    add_transaction(alloc, going, key, events)?;
+    let opening = match begin_in(books, key) {
+        Ok(opening) => opening,
+        Err(error) => {
+            going.remove(key);
+            return Err(error);
         }
+    };
+    match opening {
+        Opening::Fresh => Ok(StepReply::Opened(events.len())),
+        Opening::Kept(reply) => {
+            going.remove(key);
+            Ok(StepReply::Replayed(reply))
+        }
+        Opening::Busy => unreachable!(),
     }
 }
 
@@ -107,7 +93,9 @@ pub(crate) fn next_in<K: Keeper<Row = ShardRow>>(
     ensures err { OnErr result (going.new.entries ≡ going.old.entries) }
     ensures err_shards { OnErr result (shard_journals shards.new ≡ shard_journals shards.old) }
     ensures places { shard_places shards.new ≡ shard_places shards.old }
-    ensures storage { result ≡ Err CallError.Storage → IsTrue (list_any (λ shard. shard.is_refused) shards.new) }
+    ensures storage { result ≡ Err CallError.Storage → NextFails K.failed shards.old shards.new (rest_of (status_found (found going.old.entries key.now) free)) }
+    ensures only { OnlyAt (next_room (rest_of (status_found (found going.old.entries key.now) free))) shards.old shards.new }
+    ensures last { ShardsLast K.failed shards.old shards.new }
 {
     match going.get_mut(key) {
         Some(transaction) => transaction.advance(shards),
@@ -127,9 +115,12 @@ pub(crate) fn close_in<L: Keeper<Row = BookRow>>(
     ensures reply { IfOk result (λ r. r ≡ close_reply (statuses_of going.old.entries (book_journals books.old) key.now)) }
     ensures statuses { OnOk result (AtTransaction (statuses_of going.old.entries (book_journals books.old)) (statuses_of going.new.entries (book_journals books.new)) key.now after_close) }
     ensures err { OnErr result ((p : TransactionKey) → statuses_of going.new.entries (book_journals books.new) p ≡ statuses_of going.old.entries (book_journals books.old) p) }
+    ensures err_books { OnErr result (book_journals books.new ≡ book_journals books.old) }
     ensures agree { AllAgree going.new.entries (book_journals books.new) }
     ensures places { book_places books.new ≡ book_places books.old }
-    ensures storage { result ≡ Err CallError.Storage → IsTrue (list_any (λ book. book.is_refused) books.new) }
+    ensures storage { result ≡ Err CallError.Storage → BookFails L.failed books.old books.new key.now.origin }
+    ensures only { OnlyAt (Some key.now.origin) books.old books.new }
+    ensures last { BooksLast L.failed books.old books.new }
 {
     let Some(transaction) = going.get(key) else {
         return Ok(StepReply::NotOpen);

@@ -1,10 +1,10 @@
 // One transaction that is open.
-ghost use Rattle.std.specs.Prelude.{◌≡◌, ◌++◌, ◌∷◌, ℕ, List, [], length, drop, IfOk, OnOk, OnErr, IsTrue};
-ghost use Rattle.std.specs.List.{list_any};
+ghost use Rattle.std.specs.Prelude.{◌≡◌, ◌++◌, ◌∷◌, ℕ, List, [], length, drop, IfOk, OnOk, OnErr};
 ghost use Rattle.mx_shard.specs.LoneRoom.{record_alone};
 ghost use Rattle.mx_world.specs.Calls.{offers};
 ghost use Rattle.mx_world.specs.Replies.{waiting, next_reply};
 ghost use Rattle.mx_world.specs.Worlds.{shard_journals, records_of};
+ghost use Rattle.mx_world.specs.Storage.{NextFails, ShardsLast, OnlyAt, next_room};
 ghost use Rattle.mx_world.specs.Inside.{shard_places, offered_answer, progress_after, ArePlaced};
 
 use crate::answers::Told;
@@ -75,7 +75,9 @@ impl Transaction {
         ensures err { OnErr result (self.new ≡ self.old) }
         ensures err_shards { OnErr result (shard_journals shards.new ≡ shard_journals shards.old) }
         ensures places { shard_places shards.new ≡ shard_places shards.old }
-        ensures storage { result ≡ Err CallError.Storage → IsTrue (list_any (λ shard. shard.is_refused) shards.new) }
+        ensures storage { result ≡ Err CallError.Storage → NextFails K.failed shards.old shards.new self.old.rest }
+        ensures only { OnlyAt (next_room self.old.rest) shards.old shards.new }
+        ensures last { ShardsLast K.failed shards.old shards.new }
     {
         take_next(&self.events, &mut self.told, shards)
     }
@@ -121,7 +123,9 @@ fn take_next<K: Keeper<Row = ShardRow>>(
     ensures err { OnErr result (told.new.items ≡ told.old.items) }
     ensures err_shards { OnErr result (shard_journals shards.new ≡ shard_journals shards.old) }
     ensures places { shard_places shards.new ≡ shard_places shards.old }
-    ensures storage { result ≡ Err CallError.Storage → IsTrue (list_any (λ shard. shard.is_refused) shards.new) }
+    ensures storage { result ≡ Err CallError.Storage → NextFails K.failed shards.old shards.new (drop (length told.old.items) events.now) }
+    ensures only { OnlyAt (next_room (drop (length told.old.items) events.now)) shards.old shards.new }
+    ensures last { ShardsLast K.failed shards.old shards.new }
 {
     let Some(offered) = events.get(told.len()) else {
         return Ok(StepReply::NoMore);

@@ -1,6 +1,5 @@
 // The server.
-ghost use Rattle.std.specs.Prelude.{◌≡◌, ◌++◌, ◌∷◌, ◌≤◌, ◌||◌, ℕ, List, [], length, IfOk, OnOk, OnErr, IsTrue};
-ghost use Rattle.std.specs.List.{list_any};
+ghost use Rattle.std.specs.Prelude.{◌≡◌, ◌++◌, ◌∷◌, ◌≤◌, ℕ, List, [], length, IfOk, OnOk, OnErr, IsTrue};
 ghost use Rattle.mx_shard.specs.LoneRoom.{to_ask, call_room};
 ghost use Rattle.mx_shard.specs.Shown.{IsAnswer};
 ghost use Rattle.mx_book.specs.declared.transaction_keys.TransactionKey.{TransactionKey};
@@ -8,6 +7,7 @@ ghost use Rattle.mx_world.specs.Calls.{Start, record_after};
 ghost use Rattle.mx_world.specs.Replies.{unopened, status_after, IsReply};
 ghost use Rattle.mx_world.specs.Moves.{RecordsMove, StatusesMove};
 ghost use Rattle.mx_world.specs.Worlds.{shard_journals, book_journals, records_of, statuses_of, records_in, status_in, none_open, is_refused, Stays, Moves, IsAfter};
+ghost use Rattle.mx_world.specs.Storage.{IsStorageFailure, ChangesOwn};
 ghost use Rattle.mx_world.specs.Inside.{IsSound};
 
 use crate::making::{books_over, shards_over};
@@ -85,13 +85,18 @@ impl<K: Keeper<Row = ShardRow>, L: Keeper<Row = BookRow>> World<K, L> {
 
     /// One step. After any steps from a start its reply is the one that these steps call for.
     ///
-    /// `Memory` where no memory is left. `Storage` where what keeps the rows of a shard or of a book failed, now or
-    /// before. A step that is refused changes no room's record and no transaction's status.
+    /// `Memory` where no memory is left. `Storage` where what keeps the rows of the step's own shard or book failed, now
+    /// or before: the shard of the event's room, the book of the transaction's server, or, for a query by an event's id
+    /// alone, any shard. A step that is refused changes no journal, and so no room's record, and no transaction's status.
     pub fn step(&mut self, alloc: Global, step: &Step) -> Result<StepReply, CallError>
         ensures next { IfOk result (λ reply. (s : Start) (earlier : List Step) → IsAfter s earlier self.old →
             IsReply (record_after s earlier) (status_after s earlier) step.now reply × IsAfter s (earlier ++ step.now ∷ []) self.new) }
         ensures err { OnErr result (Stays self.old self.new) }
-        ensures storage { result ≡ Err CallError.Storage → IsTrue (is_refused self.new) }
+        // Its own shard or book is refused, and was before, or its keeper's count of failures rose in this step.
+        ensures storage { result ≡ Err CallError.Storage → IsStorageFailure K.failed L.failed (status_in self.old) self.old self.new step.now }
+        ensures refused { result ≡ Err CallError.Storage → IsTrue (is_refused self.new) }
+        // It changes no other, and what is refused stays so.
+        ensures own { ChangesOwn K.failed L.failed (status_in self.old) self.old self.new step.now }
     {
         self.advance(alloc, step)
     }
@@ -101,7 +106,9 @@ impl<K: Keeper<Row = ShardRow>, L: Keeper<Row = BookRow>> World<K, L> {
         ensures reply { IfOk result (IsReply (records_in self.old) (status_in self.old) step.now) }
         ensures moves { OnOk result (Moves self.old self.new step.now) }
         ensures err { OnErr result (Stays self.old self.new) }
-        ensures storage { result ≡ Err CallError.Storage → IsTrue (is_refused self.new) }
+        ensures storage { result ≡ Err CallError.Storage → IsStorageFailure K.failed L.failed (status_in self.old) self.old self.new step.now }
+        ensures refused { result ≡ Err CallError.Storage → IsTrue (is_refused self.new) }
+        ensures own { ChangesOwn K.failed L.failed (status_in self.old) self.old self.new step.now }
     {
         step_in(
             alloc,
@@ -124,10 +131,14 @@ fn step_in<K: Keeper<Row = ShardRow>, L: Keeper<Row = BookRow>>(
     ensures reply { IfOk result (IsReply (records_of (shard_journals shards.old)) (statuses_of going.old.entries (book_journals books.old)) step.now) }
     ensures records { OnOk result (RecordsMove (records_of (shard_journals shards.old)) (records_of (shard_journals shards.new)) (statuses_of going.old.entries (book_journals books.old)) step.now) }
     ensures statuses { OnOk result (StatusesMove (records_of (shard_journals shards.old)) (statuses_of going.old.entries (book_journals books.old)) (statuses_of going.new.entries (book_journals books.new)) step.now) }
-    ensures err_records { OnErr result ((room : List ℕ) → records_of (shard_journals shards.new) room ≡ records_of (shard_journals shards.old) room) }
+    ensures err_shards { OnErr result (shard_journals shards.new ≡ shard_journals shards.old) }
+    ensures err_books { OnErr result (book_journals books.new ≡ book_journals books.old) }
     ensures err_statuses { OnErr result ((p : TransactionKey) → statuses_of going.new.entries (book_journals books.new) p ≡ statuses_of going.old.entries (book_journals books.old) p) }
     ensures sound { IsSound shards.new books.new going.new.entries }
-    ensures storage { result ≡ Err CallError.Storage → IsTrue (list_any (λ shard. shard.is_refused) shards.new || list_any (λ book. book.is_refused) books.new) }
+    ensures storage { result ≡ Err CallError.Storage → IsStorageFailure K.failed L.failed (statuses_of going.old.entries (book_journals books.old))
+        (record { shards = shards.old; books = books.old; going = going.old.entries }) (record { shards = shards.new; books = books.new; going = going.new.entries }) step.now }
+    ensures own { ChangesOwn K.failed L.failed (statuses_of going.old.entries (book_journals books.old))
+        (record { shards = shards.old; books = books.old; going = going.old.entries }) (record { shards = shards.new; books = books.new; going = going.new.entries }) step.now }
 {
     match step {
         Step::Host(offered) => {

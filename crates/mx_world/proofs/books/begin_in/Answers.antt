@@ -1,8 +1,9 @@
-use Rattle.std.proofs.Common.{◌≡◌, ◌∙◌, sym, ap, refl, length, Err}
+use Rattle.std.proofs.Common.{◌≡◌, ◌∙◌, sym, ap, refl, length, get_or, Err}
 use Rattle.mx_keeper.specs.Places.{place_number}
 use Rattle.mx_book.specs.Journal.{free, begun, kept}
 use Rattle.mx_book.specs.declared.entries.BookEntry.TheVariants.{Kept, GivenUp}
-use Rattle.mx_world.proofs.PlaceLemmas.{placed-is_at, places-set, journals-set, any-set}
+use Rattle.mx_world.proofs.PlaceLemmas.{placed-is_at, places-set, journals-set}
+use Rattle.mx_world.proofs.StorageLemmas.{lasts-called, lasts-same, all-set, only-set, fails-set}
 use Rattle.mx_world.proofs.StatusLemmas.{book-begun, book-entry, state-get}
 use Rattle.mx_world.proofs.RefusalLemmas.{is-storage, on_err}
 use Rattle.mx_world.proofs.books.begin_in.Goals as goal
@@ -14,11 +15,6 @@ returns-in_err-opening-clause-err g c =
 pub returns-in_err-opening-clause-places : goal.returns-in_err-opening-clause-places
 returns-in_err-opening-clause-places g c =
     places-set c.args.books.now (λ book. book.place) c.number_for-number.result c.index-books-number.result c.open.new.self c.number_for-number.ensures.within c.open.ensures.place
-
-pub returns-in_err-opening-clause-storage : goal.returns-in_err-opening-clause-storage
-returns-in_err-opening-clause-storage g c = λ is.
-    any-set c.args.books.now (λ book. book.is_refused) c.number_for-number.result c.open.new.self c.number_for-number.ensures.within
-    (c.open.ensures.refused ∙ c.in_err-opening.ensures.storage.0 (ap (λ e. Err e) (is-storage c.from_residual.result c.in_err-opening.field-0.0 c.from_residual.ensures.1 is)))
 
 pub open-requires : goal.open-requires
 open-requires g c =
@@ -33,3 +29,26 @@ returns-clause-states g c =
 pub returns-clause-places : goal.returns-clause-places
 returns-clause-places g c =
     places-set c.args.books.now (λ book. book.place) c.number_for-number.result c.index-books-number.result c.open.new.self c.number_for-number.ensures.within c.open.ensures.place
+
+pub returns-in_err-opening-clause-storage : goal.returns-in_err-opening-clause-storage
+returns-in_err-opening-clause-storage g c = λ is.
+    fails-set (λ book. book.is_refused) (λ book. g.L.Keeper.failed book.keeper) c.args.books.now c.number_for-number.result c.index-books-number.result c.open.new.self c.args.key.now.origin
+    (c.number_for-number.ensures.number ∙ ap (place_number (length c.args.books.now)) c.as_str.ensures.text) c.number_for-number.ensures.within
+    (c.open.ensures.refused ∙ c.in_err-opening.ensures.storage.0 (ap (λ e. Err e) (is-storage c.from_residual.result c.in_err-opening.field-0.0 c.from_residual.ensures.1 is)))
+    (lasts-same (λ book. book.is_refused) (λ book. g.L.Keeper.failed book.keeper) (get_or c.args.books.now c.number_for-number.result c.index-books-number.result) c.open.new.self c.open.ensures.refused (ap g.L.Keeper.failed c.open.ensures.keeper))
+
+pub returns-in_err-opening-clause-only : goal.returns-in_err-opening-clause-only
+returns-in_err-opening-clause-only g c = only-set c.args.books.now c.number_for-number.result c.open.new.self c.args.key.now.origin (c.number_for-number.ensures.number ∙ ap (place_number (length c.args.books.now)) c.as_str.ensures.text)
+
+pub returns-in_err-opening-clause-last : goal.returns-in_err-opening-clause-last
+returns-in_err-opening-clause-last g c =
+    all-set (λ book. book.is_refused) (λ book. g.L.Keeper.failed book.keeper) c.args.books.now c.number_for-number.result c.index-books-number.result c.open.new.self c.number_for-number.ensures.within
+    (lasts-same (λ book. book.is_refused) (λ book. g.L.Keeper.failed book.keeper) (get_or c.args.books.now c.number_for-number.result c.index-books-number.result) c.open.new.self c.open.ensures.refused (ap g.L.Keeper.failed c.open.ensures.keeper))
+
+pub returns-clause-only : goal.returns-clause-only
+returns-clause-only g c = only-set c.args.books.now c.number_for-number.result c.open.new.self c.args.key.now.origin (c.number_for-number.ensures.number ∙ ap (place_number (length c.args.books.now)) c.as_str.ensures.text)
+
+pub returns-clause-last : goal.returns-clause-last
+returns-clause-last g c =
+    all-set (λ book. book.is_refused) (λ book. g.L.Keeper.failed book.keeper) c.args.books.now c.number_for-number.result c.index-books-number.result c.open.new.self c.number_for-number.ensures.within
+    (lasts-same (λ book. book.is_refused) (λ book. g.L.Keeper.failed book.keeper) (get_or c.args.books.now c.number_for-number.result c.index-books-number.result) c.open.new.self c.open.ensures.refused (ap g.L.Keeper.failed c.open.ensures.keeper))

@@ -1,5 +1,7 @@
-use Rattle.std.proofs.Common.{◌∙◌, sym}
+use Rattle.std.proofs.Common.{◌∙◌, sym, ap, Err}
 use Rattle.mx_world.proofs.RoomLemmas.{none-more, none-shown, shown-in}
+use Rattle.mx_world.proofs.StorageLemmas.{some-fails}
+use Rattle.mx_world.proofs.RefusalLemmas.{is-storage}
 use Rattle.mx_world.proofs.rooms.ask_in.Goals as goal
 
 pub loop-shard-preserved : goal.loop-shard-preserved
@@ -13,3 +15,8 @@ returns-then-is_shown-clause-reply g c = λ origin now.
 
 pub returns-clause-reply : goal.returns-clause-reply
 returns-clause-reply g c = none-shown c.args.shards.now c.loop-shard.shard-index c.args.query.now c.requires c.loop-shard-test.false c.loop-shard.invariant
+
+pub returns-in_err-answer-clause-storage : goal.returns-in_err-answer-clause-storage
+returns-in_err-answer-clause-storage g c = λ is.
+    some-fails (λ shard. shard.is_refused) (λ shard. g.K.Keeper.failed shard.keeper) c.args.shards.now c.loop-shard.shard-index c.shard-item.result c.shard-item.is c.loop-shard-test.true
+    (c.in_err-answer.ensures.storage.0 (ap (λ e. Err e) (is-storage c.from_residual.result c.in_err-answer.field-0.0 c.from_residual.ensures.1 is)))

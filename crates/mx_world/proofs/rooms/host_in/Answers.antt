@@ -7,7 +7,8 @@ use Rattle.mx_shard.specs.Journal.{Entry, journal_after}
 use Rattle.mx_keeper.specs.declared.refusals.CallError.{CallError}
 use Rattle.mx_world.specs.Calls.{if_put_to}
 use Rattle.mx_world.specs.Worlds.{journal_at, shard_journals, records_of}
-use Rattle.mx_world.proofs.PlaceLemmas.{placed-is_at, places-set, journals-set, any-set, room-called}
+use Rattle.mx_world.proofs.PlaceLemmas.{placed-is_at, places-set, journals-set, room-called}
+use Rattle.mx_world.proofs.StorageLemmas.{lasts-called, all-set, only-set, fails-set}
 use Rattle.mx_world.proofs.RefusalLemmas.{is-storage, on_err}
 use Rattle.mx_world.proofs.rooms.host_in.Goals as goal
 
@@ -25,11 +26,6 @@ pub returns-in_err-answer-clause-places : goal.returns-in_err-answer-clause-plac
 returns-in_err-answer-clause-places g c =
     places-set c.args.shards.now (λ shard. shard.place) c.number_for-number.result c.index-shards-number.result c.host.new.self c.number_for-number.ensures.within c.host.ensures.place
 
-pub returns-in_err-answer-clause-storage : goal.returns-in_err-answer-clause-storage
-returns-in_err-answer-clause-storage g c = λ is.
-    any-set c.args.shards.now (λ shard. shard.is_refused) c.number_for-number.result c.host.new.self c.number_for-number.ensures.within
-    (c.in_err-answer.ensures.refused.0 (ap (λ e. Err e) (is-storage c.from_residual.result c.in_err-answer.field-0.0 c.from_residual.ensures.1 is)))
-
 pub returns-clause-records : goal.returns-clause-records
 returns-clause-records g c = λ room.
     let own : c.as_str.result.now ≡ room_of c.args.offered.now.pdu = c.as_str.ensures.text ∙ c.room_id.ensures in
@@ -39,3 +35,31 @@ returns-clause-records g c = λ room.
 pub returns-clause-places : goal.returns-clause-places
 returns-clause-places g c =
     places-set c.args.shards.now (λ shard. shard.place) c.number_for-number.result c.index-shards-number.result c.host.new.self c.number_for-number.ensures.within c.host.ensures.place
+
+pub returns-in_err-answer-clause-storage : goal.returns-in_err-answer-clause-storage
+returns-in_err-answer-clause-storage g c = λ is.
+    let own : c.as_str.result.now ≡ room_of c.args.offered.now.pdu = c.as_str.ensures.text ∙ c.room_id.ensures in
+    fails-set (λ shard. shard.is_refused) (λ shard. g.K.Keeper.failed shard.keeper) c.args.shards.now c.number_for-number.result c.index-shards-number.result c.host.new.self (room_of c.args.offered.now.pdu)
+    (c.number_for-number.ensures.number ∙ ap (place_number (length c.args.shards.now)) own) c.number_for-number.ensures.within
+    (c.in_err-answer.ensures.refused.0 (ap (λ e. Err e) (is-storage c.from_residual.result c.in_err-answer.field-0.0 c.from_residual.ensures.1 is)))
+    (lasts-called (λ shard. shard.is_refused) (λ shard. g.K.Keeper.failed shard.keeper) (get_or c.args.shards.now c.number_for-number.result c.index-shards-number.result) c.host.new.self c.in_err-answer.ensures.storage c.in_err-answer.ensures.refused c.in_err-answer.ensures.stays_refused c.host.ensures.counted)
+
+pub returns-in_err-answer-clause-only : goal.returns-in_err-answer-clause-only
+returns-in_err-answer-clause-only g c =
+    let own : c.as_str.result.now ≡ room_of c.args.offered.now.pdu = c.as_str.ensures.text ∙ c.room_id.ensures in
+    only-set c.args.shards.now c.number_for-number.result c.host.new.self (room_of c.args.offered.now.pdu) (c.number_for-number.ensures.number ∙ ap (place_number (length c.args.shards.now)) own)
+
+pub returns-in_err-answer-clause-last : goal.returns-in_err-answer-clause-last
+returns-in_err-answer-clause-last g c =
+    all-set (λ shard. shard.is_refused) (λ shard. g.K.Keeper.failed shard.keeper) c.args.shards.now c.number_for-number.result c.index-shards-number.result c.host.new.self c.number_for-number.ensures.within
+    (lasts-called (λ shard. shard.is_refused) (λ shard. g.K.Keeper.failed shard.keeper) (get_or c.args.shards.now c.number_for-number.result c.index-shards-number.result) c.host.new.self c.in_err-answer.ensures.storage c.in_err-answer.ensures.refused c.in_err-answer.ensures.stays_refused c.host.ensures.counted)
+
+pub returns-clause-only : goal.returns-clause-only
+returns-clause-only g c =
+    let own : c.as_str.result.now ≡ room_of c.args.offered.now.pdu = c.as_str.ensures.text ∙ c.room_id.ensures in
+    only-set c.args.shards.now c.number_for-number.result c.host.new.self (room_of c.args.offered.now.pdu) (c.number_for-number.ensures.number ∙ ap (place_number (length c.args.shards.now)) own)
+
+pub returns-clause-last : goal.returns-clause-last
+returns-clause-last g c =
+    all-set (λ shard. shard.is_refused) (λ shard. g.K.Keeper.failed shard.keeper) c.args.shards.now c.number_for-number.result c.index-shards-number.result c.host.new.self c.number_for-number.ensures.within
+    (lasts-called (λ shard. shard.is_refused) (λ shard. g.K.Keeper.failed shard.keeper) (get_or c.args.shards.now c.number_for-number.result c.index-shards-number.result) c.host.new.self c.in_ok-answer.ensures.storage c.in_ok-answer.ensures.refused c.in_ok-answer.ensures.stays_refused c.host.ensures.counted)

@@ -1,5 +1,5 @@
-use Rattle.mx_world.proofs.Alike.{alike}
+use Rattle.mx_world.proofs.Alike.{alike, same_records}
 use Rattle.mx_world.proofs.runs.agreeing_runs_answer_alike.Goals as goal
 
 pub returns : goal.returns
-returns c = alike
+returns c = record { alike = alike; records = same_records }
