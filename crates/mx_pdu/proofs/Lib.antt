@@ -1,5 +1,6 @@
 pub mod CanonicalLemmas
 pub mod CloneLemmas
+pub mod EventRows
 pub mod FieldLemmas
 pub mod FormatLemmas
 pub mod HashLemmas

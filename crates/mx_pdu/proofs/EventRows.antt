@@ -1,0 +1,99 @@
+-- Worked examples of the fields of an event and of its limits. Each computes.
+use Rattle.std.specs.Prelude.{◌≡◌, refl, ℕ, List, [], ◌∷◌, codes, pos, negsuc, replicate, true, false, Some, None}
+use Rattle.serde_json.specs.Data.{Data, null, string, number, unsigned, negative, array, object, Items, no_items, item, no_members, member}
+use Rattle.mx_pdu.specs.Event.{prev_ids, auth_ids, depth_of, timestamp_of, redacts_of, state_key_of, is_state}
+use Rattle.mx_pdu.specs.Format.{is_short, is_short_list, is_depth, is_string, is_event_id_list, has_fields}
+
+-- an object with one field
+abbrev one : List ℕ → Data → Data
+one key d = object (member key d no_members)
+
+abbrev texts : List (List ℕ) → Items
+texts [] = no_items
+texts (t ∷ ts) = item (string t) (texts ts)
+
+abbrev ids : ℕ → Data
+ids n = array (texts (replicate n (codes "$1")))
+
+depth-there : depth_of (one (codes "depth") (number (unsigned 5))) ≡ 5
+depth-there = refl
+
+depth-absent : depth_of (object no_members) ≡ 0
+depth-absent = refl
+
+timestamp-there : timestamp_of (one (codes "origin_server_ts") (number (negative (negsuc 49)))) ≡ negsuc 49
+timestamp-there = refl
+
+timestamp-absent : timestamp_of (object no_members) ≡ pos 0
+timestamp-absent = refl
+
+-- in their order, and an id twice where it stands twice
+prev-there : prev_ids (one (codes "prev_events") (array (texts (codes "$4" ∷ codes "$1" ∷ codes "$4" ∷ [])))) ≡ codes "$4" ∷ codes "$1" ∷ codes "$4" ∷ []
+prev-there = refl
+
+auth-there : auth_ids (one (codes "auth_events") (array (texts (codes "$3" ∷ codes "$1" ∷ [])))) ≡ codes "$3" ∷ codes "$1" ∷ []
+auth-there = refl
+
+redacts-there : redacts_of (one (codes "redacts") (string (codes "$7"))) ≡ Some (codes "$7")
+redacts-there = refl
+
+redacts-no_id : redacts_of (one (codes "redacts") (string (codes "7"))) ≡ None
+redacts-no_id = refl
+
+-- the empty key is a state key, and null is none
+state_key-empty : state_key_of (one (codes "state_key") (string [])) ≡ Some []
+state_key-empty = refl
+
+state_key-null : is_state (one (codes "state_key") null) ≡ false
+state_key-null = refl
+
+text-null : is_string null ≡ false
+text-null = refl
+
+-- ---- limits
+
+text-255 : is_short (string (replicate 255 97)) ≡ true
+text-255 = refl
+
+text-256 : is_short (string (replicate 256 97)) ≡ false
+text-256 = refl
+
+prev-20 : is_short_list 20 (ids 20) ≡ true
+prev-20 = refl
+
+prev-21 : is_short_list 20 (ids 21) ≡ false
+prev-21 = refl
+
+auth-10 : is_short_list 10 (ids 10) ≡ true
+auth-10 = refl
+
+auth-11 : is_short_list 10 (ids 11) ≡ false
+auth-11 = refl
+
+depth-0 : is_depth (number (unsigned 0)) ≡ true
+depth-0 = refl
+
+depth-largest : is_depth (number (unsigned 9007199254740991)) ≡ true
+depth-largest = refl
+
+depth-above : is_depth (number (unsigned 9007199254740992)) ≡ false
+depth-above = refl
+
+depth-negative : is_depth (number (negative (negsuc 0))) ≡ false
+depth-negative = refl
+
+-- an id but for its length
+ids-sound : is_event_id_list (ids 2) ≡ true
+ids-sound = refl
+
+ids-bare : is_event_id_list (array (texts (codes "$" ∷ []))) ≡ false
+ids-bare = refl
+
+ids-number : is_event_id_list (array (item (number (unsigned 1)) no_items)) ≡ false
+ids-number = refl
+
+ids-long : is_event_id_list (array (texts ((36 ∷ replicate 255 97) ∷ []))) ≡ true
+ids-long = refl
+
+fields-empty : has_fields (object no_members) ≡ false
+fields-empty = refl
