@@ -1,18 +1,22 @@
 -- What a call is about to change, by what its room tells.
-use Rattle.std.proofs.Common.{◌≡◌, ℕ, ◌<◌, List, [], ◌∷◌, length, get_or, set, take, drop, ◌++◌, append-nil, Option, Some, None, refl, sym, ◌∙◌, ap, subst, arith}
-use Rattle.std.specs.Prelude.{option_map, option_to_list, All}
+use Rattle.std.proofs.Common.{◌≡◌, ℕ, ◌<◌, ◌↔◌, true, List, [], ◌∷◌, length, get_or, set, take, drop, ◌++◌, append-nil, Option, Some, None, refl, sym, ◌∙◌, ap, subst, arith}
+use Rattle.std.specs.Prelude.{option_map, option_to_list, All, Err, IsErrOf, IsTrue, find, bytes_eq}
 use Rattle.std.specs.BTreeMap.{BTreeMap}
 use Rattle.std.proofs.lemmas.List.{get_or_default, set-get_or, take_all, drop_all}
 use Rattle.mx_pdu.specs.Event.{room_of}
 use Rattle.mx_keeper.specs.declared.rows.ShardRow.{ShardRow}
 use Rattle.mx_receipt.specs.Receipt.{Kept}
 use Rattle.mx_room.specs.Hosting.{host_error}
-use Rattle.mx_room.specs.Offer.{Offered, offer_outcome, row_by}
+use Rattle.mx_room.specs.Offer.{Offered, is_kept, offer_outcome, row_by}
 use Rattle.mx_room.specs.RoomView.{RoomView, IsHosted}
 use Rattle.mx_room.specs.declared.hosting.NotARoom.{NotARoom}
+use Rattle.mx_room.specs.declared.hosting.HostError.{HostError}
+use Rattle.mx_room.specs.declared.hosting.HostError.TheVariants.{Memory, NotARoom as no_room_by}
 use Rattle.mx_room.specs.declared.outcomes.Outcome.{Outcome}
+use Rattle.mx_room.specs.declared.outcomes.Outcome.TheVariants as outcome
 use Rattle.mx_shard.specs.LoneRoom.{to_host, to_offer, answer, added, hosting, first_rows}
-use Rattle.mx_shard.specs.Inside.{no_room, room_at, rows_in, IsReady, IsNumbered, number_of, with_prepared}
+use Rattle.mx_shard.specs.Inside.{no_room, room_at, rows_at, rows_in, IsReady, IsNumbered, number_of, with_prepared}
+use Rattle.mx_shard.specs.Told.{tells_hosted, tells_kept}
 use Rattle.mx_shard.specs.Changes.{IsAnswered, IsNewRoom, IsNewRow, IsHosting, IsOffering, row_for}
 use Rattle.mx_shard.specs.declared.hosting.Hosting.{Hosting}
 use Rattle.mx_shard.specs.declared.hosting.Hosting.TheVariants as hosts
@@ -62,6 +66,20 @@ not_hosted kept origin o none = record {
   nothing = ap (λ rows. added rows (to_offer origin o)) none;
 }
 
+-- an event that makes a room
+pub no_cause : {T : Type 0} (o : Offered) (e : HostError) → e ≡ Memory → ((cause : NotARoom) → IsErrOf {T = T} (Err e) (no_room_by cause) ↔ (host_error o ≡ Some cause)) → host_error o ≡ None
+no_cause o e memory refused = by (host_error o) refl
+  where
+    by : (w : Option NotARoom) → host_error o ≡ w → host_error o ≡ None
+    by None is = is
+    by (Some cause) is =
+        let same : e ≡ no_room_by cause = (let told = (refused cause).1 is in cc) in
+        let wrong : Memory ≡ no_room_by cause = sym memory ∙ same in
+        absurd (cc wrong)
+
+pub new_hosted : (rooms : List RoomView) (o : Offered) → find (λ room. bytes_eq room.id (room_of o.pdu)) rooms ≡ None → host_error o ≡ None → IsTrue (tells_hosted (answer (rows_in rooms (room_of o.pdu)) (to_host o)))
+new_hosted rooms o missing free = ap tells_hosted (ap (λ room. answer (rows_at room) (to_host o)) missing ∙ ap (hosting o) free)
+
 -- ---- an event that is offered to a room with events
 
 pub offer_answer : (kept : List Kept) (origin : List ℕ) (o : Offered) → IsHosted kept → ToOffered (offer_outcome kept o) ≡ answer kept (to_offer origin o)
@@ -71,6 +89,21 @@ offer_answer (k ∷ ks) origin o h = refl
 pub offer_added : (kept : List Kept) (origin : List ℕ) (o : Offered) → IsHosted kept → option_to_list (row_by o (offer_outcome kept o)) ≡ added kept (to_offer origin o)
 offer_added [] origin o h = absurd (omega arith)
 offer_added (k ∷ ks) origin o h = refl
+
+pub kept_told : (rooms : List RoomView) (numbers : BTreeMap (List ℕ) ℕ) (o : Offered) (n : ℕ) (d : RoomView) → IsNumbered numbers rooms → number_of numbers (room_of o.pdu) ≡ Some n → All IsReady rooms →
+    IsTrue (is_kept (offer_outcome (get_or rooms n d).kept o)) → (origin : List ℕ) → IsTrue (tells_kept (answer (rows_in rooms (room_of o.pdu)) (to_offer origin o)))
+kept_told rooms numbers o n d numbered held ready told origin =
+    let found = room_found numbers rooms (room_of o.pdu) n numbered held in
+    let at : get_or rooms n d ≡ room_at rooms n = get_or_default rooms n d no_room found.within in
+    let mine : IsReady (get_or rooms n d) = subst IsReady (sym at) (ready n no_room found.within) in
+    let same : rows_in rooms (room_of o.pdu) ≡ (get_or rooms n d).kept = rows_found rooms (room_of o.pdu) n found ∙ ap (λ (q : RoomView). q.kept) (sym at) in
+    ap tells_kept (ap (λ kept. answer kept (to_offer origin o)) same ∙ sym (offer_answer (get_or rooms n d).kept origin o mine.hosted)) ∙ told
+
+-- a row is added of an event that is kept
+pub row_kept : (o : Offered) (x : Outcome) (k : Kept) → row_by o x ≡ Some k → is_kept x ≡ true
+row_kept o (outcome.Kept v) k e = refl
+row_kept o (outcome.Known v) k e = absurd (cc e)
+row_kept o (outcome.Refused r) k e = absurd (cc e)
 
 some_row : (f : Kept → ShardRow) (v : Option Kept) (row : ShardRow) → Some row ≡ option_map f v → (k : Kept) × (v ≡ Some k) × (row ≡ f k)
 some_row f None row e = absurd (cc e)

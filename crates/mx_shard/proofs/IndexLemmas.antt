@@ -1,6 +1,6 @@
 -- A shard's rooms and its journal, after a call.
 use Rattle.std.proofs.Common.{◌≡◌, ℕ, ◌<◌, true, false, cond, IsTrue, List, [], ◌∷◌, ◌++◌, length, set, map, Option, Some, None, refl, sym, ◌∙◌, ap, subst, arith, length-append, append-nil, ◌⊎◌, inl, inr}
-use Rattle.std.specs.Prelude.{All, bytes_eq, option_to_list}
+use Rattle.std.specs.Prelude.{All, IsTrue, bytes_eq, option_to_list}
 use Rattle.std.specs.BTreeMap.{BTreeMap}
 use Rattle.std.specs.Map.{lookup}
 use Rattle.std.specs.Cmp.Lexicographic.{slice_cmp}
@@ -14,9 +14,10 @@ use Rattle.mx_keeper.specs.declared.rows.ShardRow.{ShardRow}
 use Rattle.mx_pdu.specs.Event.{room_of}
 use Rattle.mx_receipt.specs.Receipt.{Kept, begun, kept_at}
 use Rattle.mx_receipt.specs.declared.verdicts.Verdict.TheVariants.{Accepted}
-use Rattle.mx_room.specs.Offer.{Offered}
+use Rattle.mx_room.specs.Offer.{Offered, row_by}
 use Rattle.mx_room.specs.RoomView.{RoomView}
 use Rattle.mx_shard.specs.LoneRoom.{Call, call_room, to_host, to_offer, answer, added, hosting, first_rows}
+use Rattle.mx_shard.specs.Told.{tells_kept}
 use Rattle.mx_shard.specs.Journal.{Entry, entry_of, record_of, journal_after, stored, IsLegal}
 use Rattle.mx_shard.specs.Inside.{no_room, room_at, rows_at, rows_in, with_prepared, with_kept, IsReady, IsNumbered, IsMoved, IsSameMap, IsSound, entry_in, journal_of, IsWithin, IsIndexed}
 use Rattle.mx_shard.specs.Changes.{IsAnswered, IsNewRoom, IsNewRow, row_for}
@@ -29,7 +30,7 @@ use Rattle.mx_shard.proofs.JournalLaws.{record-after, record-after-other}
 use Rattle.mx_shard.proofs.LegalLaws.{legal-after, legal-start}
 use Rattle.mx_shard.proofs.Places.{IsFound}
 use Rattle.mx_shard.proofs.RoomLemmas.{text-eq, room_found, rows_found, id_found, rows_push, rows_set, numbers_push, numbers_set, numbers_same, no_number, moved_back}
-use Rattle.mx_shard.proofs.ChangeLemmas.{offer_answer, offer_added}
+use Rattle.mx_shard.proofs.ChangeLemmas.{offer_answer, offer_added, row_kept}
 
 -- ---- rooms that grow
 
@@ -294,6 +295,9 @@ module _ (before mid : List RoomView) (numbers : BTreeMap (List ℕ) ℕ) (place
   offer_reply origin =
       ap ToOffered made.outcome ∙ offer_answer old.kept origin o is_ready.hosted
       ∙ ap (λ rows. answer rows (to_offer origin o)) (sym (indexed.records (room_of o.pdu) ∙ own_rows))
+
+  pub offer_kept : (origin : List ℕ) → IsTrue (tells_kept (answer (record_of (journal_of before places) (room_of o.pdu)) (to_offer origin o)))
+  offer_kept origin = ap tells_kept (sym (offer_reply origin)) ∙ row_kept o new.outcome made.kept (ap (row_by o) made.outcome ∙ made.adds)
 
   pub offer_stored : (origin : List ℕ) (rows : Option (List ShardRow)) → rows ≡ Some (stored (journal_of before places)) →
       with_row rows new.row ≡ Some (stored (journal_after (journal_of before places) caller (room_of o.pdu) (to_offer origin o)))

@@ -1,4 +1,5 @@
 pub mod LoneRoom
+pub mod Told
 pub mod Shown
 pub mod Journal
 pub mod View

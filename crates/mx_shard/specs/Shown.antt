@@ -1,8 +1,9 @@
 -- What several rooms answer to a query (our own).
-use Rattle.std.specs.Prelude.{ℕ, ◌≡◌, List, Option, Some, None, Ok, Err}
+use Rattle.std.specs.Prelude.{ℕ, ◌≡◌, List, Option, Some, None, Ok, Err, IsTrue}
 use Rattle.mx_receipt.specs.Receipt.{Kept}
 use Rattle.mx_room.specs.declared.queries.Denied.TheVariants.{NotFound}
 use Rattle.mx_shard.specs.LoneRoom.{Call, answer}
+use Rattle.mx_shard.specs.Told.{tells_shown}
 use Rattle.mx_shard.specs.declared.answers.Answer.{Answer}
 use Rattle.mx_shard.specs.declared.answers.Answer.TheVariants.{ToAsked}
 
@@ -12,6 +13,10 @@ IsShown rows call (ToAsked (Ok reply)) = (room : List ℕ) × (answer (rows room
 IsShown rows call (ToAsked (Err denied)) =
     (denied ≡ NotFound) × ((room : List ℕ) → answer (rows room) call ≡ ToAsked (Err NotFound))
 IsShown rows call other = ⊥
+
+-- some room shows what the call asks for
+abbrev pub HasShown : (List ℕ → List Kept) → Call → Type 0
+HasShown rows call = (room : List ℕ) × IsTrue (tells_shown (answer (rows room) call))
 
 -- the answer of the room that the call is put to, else what some room shows
 abbrev pub IsAnswer : (List ℕ → List Kept) → Call → Option (List ℕ) → Answer → Type 0

@@ -1,8 +1,8 @@
 // What rooms show.
-ghost use Rattle.std.specs.Prelude.{ℕ, List, IfOk};
+ghost use Rattle.std.specs.Prelude.{ℕ, List, IfOk, OnErr};
 ghost use Rattle.mx_room.specs.declared.queries.Query.TheVariants.{Event as ask_event};
 ghost use Rattle.mx_shard.specs.LoneRoom.{to_ask, call_room};
-ghost use Rattle.mx_shard.specs.Shown.{IsAnswer, IsShown};
+ghost use Rattle.mx_shard.specs.Shown.{HasShown, IsAnswer, IsShown};
 ghost use Rattle.mx_shard.specs.Inside.{rows_in, IsDistinct};
 
 use crate::answers::Answer;
@@ -13,8 +13,9 @@ use std::alloc::AllocError;
 /// The answer to a query, of these rooms.
 pub(crate) fn answer_in(rooms: &[Room], query: &Query) -> Result<Answer, AllocError>
     requires { IsDistinct rooms.now }
-    ensures { IfOk result (λ reply. (origin : List ℕ) (now : ℕ)
+    ensures reply { IfOk result (λ reply. (origin : List ℕ) (now : ℕ)
         → IsAnswer (rows_in rooms.now) (to_ask origin now query.now) (call_room (to_ask origin now query.now)) reply) }
+    ensures memory { OnErr result ((origin : List ℕ) (now : ℕ) → HasShown (rows_in rooms.now) (to_ask origin now query.now)) }
 {
     match query {
         Query::Event(id) => shown_in(rooms, id),
@@ -24,7 +25,8 @@ pub(crate) fn answer_in(rooms: &[Room], query: &Query) -> Result<Answer, AllocEr
 // The event with this id, from whatever room shows it.
 fn shown_in(rooms: &[Room], id: &EventId) -> Result<Answer, AllocError>
     requires { IsDistinct rooms.now }
-    ensures { IfOk result (λ reply. (origin : List ℕ) (now : ℕ) → IsShown (rows_in rooms.now) (to_ask origin now (ask_event id.now)) reply) }
+    ensures reply { IfOk result (λ reply. (origin : List ℕ) (now : ℕ) → IsShown (rows_in rooms.now) (to_ask origin now (ask_event id.now)) reply) }
+    ensures memory { OnErr result ((origin : List ℕ) (now : ℕ) → HasShown (rows_in rooms.now) (to_ask origin now (ask_event id.now))) }
 {
     for room in rooms {
         if let Some(event) = room.event(id) {

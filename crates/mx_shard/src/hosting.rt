@@ -1,6 +1,9 @@
 // Rooms that are hosted.
-ghost use Rattle.std.specs.Prelude.{◌≡◌, ◌<◌, ◌++◌, ◌∷◌, [], Some, None, IfOk, OnOk, OnErr, length, find, bytes_eq, vec_len, vec_capacity, option_copied};
-ghost use Rattle.mx_shard.specs.Inside.{IsNumbered, IsMoved, IsSameMap};
+ghost use Rattle.std.specs.Prelude.{◌≡◌, ◌<◌, ◌++◌, ◌∷◌, [], Some, None, IfOk, OnOk, OnErr, IsTrue, length, find, bytes_eq, vec_len, vec_capacity, option_copied};
+ghost use Rattle.mx_pdu.specs.Event.{room_of};
+ghost use Rattle.mx_shard.specs.LoneRoom.{to_host, answer};
+ghost use Rattle.mx_shard.specs.Told.{tells_hosted};
+ghost use Rattle.mx_shard.specs.Inside.{IsNumbered, IsMoved, IsSameMap, rows_in};
 ghost use Rattle.mx_shard.specs.Changes.{IsHosting};
 
 use crate::answers::Answer;
@@ -36,7 +39,8 @@ pub(crate) fn hosting_in(
     offered: &Offered,
 ) -> Result<Hosting, AllocError>
     requires { IsNumbered numbers.now rooms.now }
-    ensures { IfOk result (λ hosting. IsHosting rooms.now caller offered.now hosting) }
+    ensures hosting { IfOk result (λ hosting. IsHosting rooms.now caller offered.now hosting) }
+    ensures memory { OnErr result (IsTrue (tells_hosted (answer (rows_in rooms.now (room_of offered.now.pdu)) (to_host offered.now)))) }
 {
     if let Some(room) = room_with(rooms, numbers, offered.pdu.room_id()) {
         let id = room.create_id().clone()?;

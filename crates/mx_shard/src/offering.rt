@@ -1,8 +1,10 @@
 // Events that are offered.
-ghost use Rattle.std.specs.Prelude.{◌≡◌, ◌<◌, ◌++◌, ◌∷◌, [], None, All, IfOk, OnOk, OnErr, length, option_map, slice_set, vec_len, vec_capacity};
+ghost use Rattle.std.specs.Prelude.{◌≡◌, ◌<◌, ◌++◌, ◌∷◌, ℕ, List, [], None, All, IfOk, OnOk, OnErr, IsTrue, length, option_map, slice_set, vec_len, vec_capacity};
 ghost use Rattle.mx_pdu.specs.Event.{room_of};
-ghost use Rattle.mx_room.specs.Offer.{as_kept, offer_outcome, row_by};
-ghost use Rattle.mx_shard.specs.Inside.{IsNumbered, IsReady, room_at, with_prepared, with_kept};
+ghost use Rattle.mx_room.specs.Offer.{as_kept, is_kept, offer_outcome, row_by};
+ghost use Rattle.mx_shard.specs.Inside.{IsNumbered, IsReady, room_at, rows_in, with_prepared, with_kept};
+ghost use Rattle.mx_shard.specs.LoneRoom.{to_offer, answer};
+ghost use Rattle.mx_shard.specs.Told.{tells_kept};
 ghost use Rattle.mx_shard.specs.Changes.{IsOffering, row_for as row_of};
 
 use crate::answers::Answer;
@@ -40,6 +42,8 @@ pub(crate) fn offering_in(
     requires numbered { IsNumbered numbers.now rooms.old }
     requires ready { All IsReady rooms.old }
     ensures offering { IfOk result (λ offering. IsOffering rooms.old rooms.new numbers.now caller offered.now offering) }
+    ensures memory { OnErr result ((origin : List ℕ)
+        → IsTrue (tells_kept (answer (rows_in rooms.old (room_of offered.now.pdu)) (to_offer origin offered.now)))) }
     ensures err { OnErr result (rooms.new ≡ rooms.old) }
 {
     let Some(number) = numbers.get(offered.pdu.room_id()) else {
@@ -67,6 +71,7 @@ fn prepare_in(
     ensures outcome { IfOk result (λ told. told.0 ≡ offer_outcome room.old.kept offered.now) }
     ensures row { IfOk result (λ told. told.1 ≡ option_map (row_of (room_of offered.now.pdu) caller) (row_by offered.now (offer_outcome room.old.kept offered.now))) }
     ensures prepared { OnOk result (room.new ≡ with_prepared room.old (row_by offered.now (offer_outcome room.old.kept offered.now))) }
+    ensures memory { OnErr result (IsTrue (is_kept (offer_outcome room.old.kept offered.now))) }
     ensures err { OnErr result (room.new ≡ with_prepared room.old None) }
 {
     let outcome = room.prepare(alloc, offered)?;

@@ -5,7 +5,8 @@ ghost use Rattle.mx_keeper.specs.Places.{is_at};
 ghost use Rattle.mx_keeper.specs.declared.rows.ShardRow.{ShardRow};
 ghost use Rattle.mx_pdu.specs.Event.{room_of};
 ghost use Rattle.mx_shard.specs.LoneRoom.{to_host, to_offer, to_ask, call_room, answer};
-ghost use Rattle.mx_shard.specs.Shown.{IsAnswer};
+ghost use Rattle.mx_shard.specs.Shown.{HasShown, IsAnswer};
+ghost use Rattle.mx_shard.specs.Told.{tells_hosted, tells_kept};
 ghost use Rattle.mx_shard.specs.Journal.{record_of, journal_after, stored, IsLegal};
 
 use crate::answers::Answer;
@@ -13,7 +14,7 @@ use crate::asking::answer_in;
 use crate::hosting::{Hosting, add_room, hosting_in, remove_room, reserve_room};
 use crate::journal_places::JournalPlace;
 use crate::offering::{Offering, discard_in, install_in, offering_in};
-use crate::storing::store;
+use crate::storing::{store, store_with_place};
 use mx_ident::RoomId;
 use mx_keeper::{CallError, Keeper, KeeperFault, Place, ShardRow};
 use mx_pdu::Offered;
@@ -110,8 +111,9 @@ impl<K: Keeper<Row = ShardRow>> Shard<K> {
 
     /// Hosts the room of the event, where it is not hosted and the event makes one.
     ///
-    /// `Memory` where no memory is left. `Storage` where the keeper's count of failures rose in this call, or an earlier
-    /// call was refused so; from then on the shard answers `Storage`. At an error the journal stays.
+    /// `Memory` where the room is hosted, by this event or before, and no memory is left for that or for the answer.
+    /// `Storage` where the keeper's count of failures rose in this call, or an earlier call was refused so; from then on
+    /// the shard answers `Storage`. At an error the journal stays.
     pub fn host(&mut self, caller: u64, offered: &Offered) -> Result<Answer, CallError>
         requires { IsTrue (is_at self.old.place (room_of offered.now.pdu)) }
         ensures reply { IfOk result (λ reply. reply ≡ answer (record_of self.old.journal (room_of offered.now.pdu)) (to_host offered.now)) }
@@ -119,6 +121,7 @@ impl<K: Keeper<Row = ShardRow>> Shard<K> {
         ensures err { OnErr result (self.new.journal ≡ self.old.journal) }
         ensures place { self.new.place ≡ self.old.place }
 
+        ensures memory { result ≡ Err CallError.Memory → IsTrue (tells_hosted (answer (record_of self.old.journal (room_of offered.now.pdu)) (to_host offered.now))) }
         ensures storage { result ≡ Err CallError.Storage → (self.old.is_refused ≡ true) ⊎ Rose (K.failed self.old.keeper) (K.failed self.new.keeper) }
         ensures refused { IsErrOf result CallError.Storage ↔ (self.new.is_refused ≡ true) }
         ensures stays_refused { self.old.is_refused ≡ true → result ≡ Err CallError.Storage }
@@ -151,7 +154,8 @@ impl<K: Keeper<Row = ShardRow>> Shard<K> {
 
     /// Offers the event to its room, which keeps it where it can.
     ///
-    /// The errors are those of [`host`](Shard::host).
+    /// `Memory` where the room keeps the event and no memory is left for it. `Storage` as of [`host`](Shard::host). At an
+    /// error the journal stays.
     ///
     /// Source: the Matrix specification, Server-Server API, "Checks performed on receipt of a PDU".
     pub fn offer(&mut self, caller: u64, offered: &Offered) -> Result<Answer, CallError>
@@ -161,6 +165,8 @@ impl<K: Keeper<Row = ShardRow>> Shard<K> {
         ensures err { OnErr result (self.new.journal ≡ self.old.journal) }
         ensures place { self.new.place ≡ self.old.place }
 
+        ensures memory { result ≡ Err CallError.Memory → (origin : List ℕ)
+            → IsTrue (tells_kept (answer (record_of self.old.journal (room_of offered.now.pdu)) (to_offer origin offered.now))) }
         ensures storage { result ≡ Err CallError.Storage → (self.old.is_refused ≡ true) ⊎ Rose (K.failed self.old.keeper) (K.failed self.new.keeper) }
         ensures refused { IsErrOf result CallError.Storage ↔ (self.new.is_refused ≡ true) }
         ensures stays_refused { self.old.is_refused ≡ true → result ≡ Err CallError.Storage }
@@ -175,11 +181,15 @@ impl<K: Keeper<Row = ShardRow>> Shard<K> {
         if self.is_refused {
             return Err(CallError::Storage);
         }
-        self.journal.reserve(1)?;
         match offering_in(self.alloc, &mut self.rooms, &self.numbers, caller, offered)? {
             Offering::Answered(answer) => Ok(answer),
             Offering::Prepared(new) => {
-                match store(&mut self.keeper, &mut self.is_refused, &new.row) {
+                match store_with_place(
+                    &mut self.keeper,
+                    &mut self.is_refused,
+                    &mut self.journal,
+                    &new.row,
+                ) {
                     Ok(()) => Ok(install_in(&mut self.rooms, &mut self.journal, caller, new)),
                     Err(error) => {
                         discard_in(&mut self.rooms, new);
@@ -192,13 +202,15 @@ impl<K: Keeper<Row = ShardRow>> Shard<K> {
 
     /// The answer to a query: that of the room which it names, or what some room of this place shows.
     ///
-    /// `Memory` where no memory is left. `Storage` exactly where an earlier call was refused so. The time of a query by
+    /// `Memory` where some room shows an event and no memory is left for it. `Storage` exactly where an earlier call was
+    /// refused so. The time of a query by
     /// an event's id alone is that of a look-up in each room.
     pub fn ask(&self, query: &Query) -> Result<Answer, CallError>
         ensures reply { IfOk result (λ reply. (origin : List ℕ) (now : ℕ)
             → IsAnswer (record_of self.now.journal) (to_ask origin now query.now) (call_room (to_ask origin now query.now)) reply) }
         // Each room is of this place.
         ensures here { All (λ entry. IsTrue (is_at self.now.place entry.room)) self.now.journal }
+        ensures memory { result ≡ Err CallError.Memory → (origin : List ℕ) (now : ℕ) → HasShown (record_of self.now.journal) (to_ask origin now query.now) }
         ensures storage { IsErrOf result CallError.Storage ↔ (self.now.is_refused ≡ true) }
     {
         if self.is_refused {

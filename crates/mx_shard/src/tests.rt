@@ -151,3 +151,50 @@ fn refused_from_the_first_failure(rt: HostRuntime) -> Result<(), Fail> {
     assert_eq!(rt; shard.into_keeper().failures(), 1);
     Ok(())
 }
+
+// A keeper that holds what does not read as rows.
+#[derive(Drop)]
+struct UnreadableKeeper;
+
+impl Keeper for UnreadableKeeper {
+    ghost use Rattle.std.specs.Prelude.{None, ⊤};
+
+    type Row = ShardRow;
+
+    ghost rows = { λ _. None };
+
+    ghost is_open = { λ _. ⊤ };
+
+    ghost is_honest = { λ _. ⊥ };
+
+    ghost may_leave = { λ _ _. ⊤ };
+
+    ghost failed = { λ _. 0 };
+
+    fn append(&mut self, _row: &ShardRow) -> Result<(), KeeperFault> {
+        Ok(())
+    }
+
+    fn rows(&mut self) -> Result<Vec<ShardRow>, KeeperFault> {
+        Err(KeeperFault::Table)
+    }
+
+    fn failures(&self) -> u64 {
+        0
+    }
+
+    ghost settled = { λ _ _ honest _ _. absurd honest };
+}
+
+#[test]
+fn no_shard_over_a_row_or_an_unreadable_table(rt: HostRuntime) -> Result<(), Fail> {
+    let alloc = rt.alloc();
+    let place = Place::new(0, 1);
+    let mut shard = shard_at(alloc, place)?;
+    assert_eq!(rt; tell(alloc, &mut shard, 0, "host $c create")?, "hosted");
+    let again = Shard::reopen(alloc, shard.into_keeper(), place);
+    assert_eq!(rt; again.err(), Some(CallError::Storage));
+    let unreadable = Shard::reopen(alloc, UnreadableKeeper, place);
+    assert_eq!(rt; unreadable.err(), Some(CallError::Storage));
+    Ok(())
+}

@@ -5,11 +5,11 @@ use Rattle.mx_pdu.specs.Event.{room_of}
 use Rattle.mx_keeper.specs.declared.rows.ShardRow.{ShardRow}
 use Rattle.mx_room.specs.RoomView.{RoomView}
 use Rattle.mx_shard.specs.Inside.{rows_at}
-use Rattle.mx_shard.proofs.ChangeLemmas.{not_host}
+use Rattle.mx_shard.proofs.ChangeLemmas.{not_host, new_hosted, no_cause}
 use Rattle.mx_shard.proofs.hosting.hosting_in.Goals as goal
 
-pub returns-in_ok-row-in-Ok : goal.returns-in_ok-row-in-Ok
-returns-in_ok-row-in-Ok c = record {
+pub returns-in_ok-row-in-Ok-clause-hosting : goal.returns-in_ok-row-in-Ok-clause-hosting
+returns-in_ok-row-in-Ok-clause-hosting c = record {
   missing = ap (λ id. find (λ (r : RoomView). bytes_eq r.id id) c.args.rooms.now) (sym c.room_id.ensures) ∙ sym c.room_with.ensures ∙ ap option_copied c.in_default.is;
   free = c.in-Ok.ensures.free;
   room = c.in-Ok.ensures.hosted;
@@ -17,8 +17,14 @@ returns-in_ok-row-in-Ok c = record {
   row = c.in_ok-row-in-Ok.ensures ∙ ap (λ (e : Event). let row : ShardRow = record { room = room_of c.args.offered.now.pdu; event = e; caller = c.args.caller } in row) c.in_ok-event-in-Ok.ensures.cases;
 }
 
-pub returns-in-Err-NotARoom : goal.returns-in-Err-NotARoom
-returns-in-Err-NotARoom c =
+pub returns-in-Err-NotARoom-clause-hosting : goal.returns-in-Err-NotARoom-clause-hosting
+returns-in-Err-NotARoom-clause-hosting c =
     let missing : find (λ (r : RoomView). bytes_eq r.id (room_of c.args.offered.now.pdu)) c.args.rooms.now ≡ None =
     ap (λ id. find (λ (r : RoomView). bytes_eq r.id id) c.args.rooms.now) (sym c.room_id.ensures) ∙ sym c.room_with.ensures ∙ ap option_copied c.in_default.is in
     not_host _ c.args.offered.now c.in-Err-NotARoom.error (ap rows_at missing) ((c.in-Err-NotARoom.ensures.refused c.in-Err-NotARoom.error).0 (ap Err c.in-Err-NotARoom.field-0-is))
+
+pub returns-in-Err-Memory-clause-memory : goal.returns-in-Err-Memory-clause-memory
+returns-in-Err-Memory-clause-memory c =
+    let missing : find (λ (r : RoomView). bytes_eq r.id (room_of c.args.offered.now.pdu)) c.args.rooms.now ≡ None =
+    ap (λ id. find (λ (r : RoomView). bytes_eq r.id id) c.args.rooms.now) (sym c.room_id.ensures) ∙ sym c.room_with.ensures ∙ ap option_copied c.in_default.is in
+    new_hosted c.args.rooms.now c.args.offered.now missing (no_cause c.args.offered.now c.in-Err-Memory.field-0 c.in-Err-Memory.field-0-is c.in-Err-Memory.ensures.refused)

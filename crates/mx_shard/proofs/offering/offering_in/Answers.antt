@@ -1,8 +1,9 @@
 use Rattle.std.proofs.Common.{◌≡◌, ◌∙◌, ◌<◌, length, Some, refl, sym, ap, arith}
 use Rattle.mx_pdu.specs.Event.{room_of}
 use Rattle.mx_shard.specs.Inside.{rows_at, number_of}
+use Rattle.mx_room.proofs.RoomLemmas.{at-error}
 use Rattle.mx_shard.proofs.RoomLemmas.{room_found, room_missing}
-use Rattle.mx_shard.proofs.ChangeLemmas.{not_hosted, new_row, nothing_new}
+use Rattle.mx_shard.proofs.ChangeLemmas.{not_hosted, new_row, nothing_new, kept_told}
 use Rattle.mx_shard.proofs.offering.offering_in.Goals as goal
 
 pub returns-in_default-clause-offering : goal.returns-in_default-clause-offering
@@ -31,3 +32,9 @@ returns-in-None-clause-offering c =
     let held : number_of c.args.numbers.now (room_of c.args.offered.now.pdu) ≡ Some c.in-Some.number.now = ap (number_of c.args.numbers.now) (sym c.room_id.ensures) ∙ sym c.in-Some.ensures.value in
     nothing_new c.args.rooms.now c.args.numbers.now c.args.caller c.args.offered.now c.in-Some.number.now c.index-rooms-number.result c.prepare_in.new.room c.in_ok-outcome.outcome c.in_ok-outcome.row
     c.requires.numbered held c.in_ok-outcome.ensures.outcome c.in_ok-outcome.ensures.row c.in_ok-outcome.ensures.prepared c.requires.ready c.in-None.is
+
+pub returns-in_err-outcome-clause-memory : goal.returns-in_err-outcome-clause-memory
+returns-in_err-outcome-clause-memory c =
+    let held : number_of c.args.numbers.now (room_of c.args.offered.now.pdu) ≡ Some c.in-Some.number.now = ap (number_of c.args.numbers.now) (sym c.room_id.ensures) ∙ sym c.in-Some.ensures.value in
+    at-error c.from_residual.result
+    (kept_told c.args.rooms.now c.args.numbers.now c.args.offered.now c.in-Some.number.now c.index-rooms-number.result c.requires.numbered held c.requires.ready c.in_err-outcome.ensures.memory)

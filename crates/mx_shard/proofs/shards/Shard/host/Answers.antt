@@ -30,7 +30,7 @@ invariant_of-self-in-Ok g c =
     let e = c.in_ok-new-in-Made.ensures in
     let new = c.in_ok-new-in-Made.new in
     let o = c.args.offered.now in
-    let made = made_of c.deref.result.now b.rooms.items c.args.caller o c.in_ok-answer.field-0 c.in-Made.new new c.deref.ensures.value c.in-Made.is e.new c.in_ok-answer.ensures in
+    let made = made_of c.deref.result.now b.rooms.items c.args.caller o c.in_ok-answer.field-0 c.in-Made.new new c.deref.ensures.value c.in-Made.is e.new c.in_ok-answer.ensures.hosting in
     let named = ap (λ (n : NewRoom). n.room.id) (sym e.new) ∙ made_id b.rooms.items c.args.caller o new made in
     let after = host_after b.rooms.items b.numbers b.journal.items c.args.caller o new c.self.invariant.0.indexed made c.add_room.new.rooms.items r.numbers c.in-Made.new.room.id c.add_room.new.journal.items
     (c.add_room.ensures.rooms ∙ ap (λ (rs : List RoomView). rs ++ new.room ∷ []) e.rooms) named e.moved
@@ -50,7 +50,7 @@ invariant_of-self-in-Err g c =
     let e = c.in_ok-new-in-Made.ensures in
     let new = c.in_ok-new-in-Made.new in
     let o = c.args.offered.now in
-    let made = made_of c.deref.result.now b.rooms.items c.args.caller o c.in_ok-answer.field-0 c.in-Made.new new c.deref.ensures.value c.in-Made.is e.new c.in_ok-answer.ensures in
+    let made = made_of c.deref.result.now b.rooms.items c.args.caller o c.in_ok-answer.field-0 c.in-Made.new new c.deref.ensures.value c.in-Made.is e.new c.in_ok-answer.ensures.hosting in
     let named = ap (λ (n : NewRoom). n.room.id) (sym e.new) ∙ made_id b.rooms.items c.args.caller o new made in
     let own = made_id b.rooms.items c.args.caller o new made in
     let same = host_removed b.rooms.items b.numbers b.journal.items c.args.caller o new c.self.invariant.0.indexed made r.numbers c.remove_room.new.numbers c.in-Made.new.room.id new.room.id named own e.moved c.remove_room.ensures in (
@@ -68,7 +68,7 @@ returns-in-Ok-clause-reply g c =
     let e = c.in_ok-new-in-Made.ensures in
     let new = c.in_ok-new-in-Made.new in
     let o = c.args.offered.now in
-    let made = made_of c.deref.result.now b.rooms.items c.args.caller o c.in_ok-answer.field-0 c.in-Made.new new c.deref.ensures.value c.in-Made.is e.new c.in_ok-answer.ensures in
+    let made = made_of c.deref.result.now b.rooms.items c.args.caller o c.in_ok-answer.field-0 c.in-Made.new new c.deref.ensures.value c.in-Made.is e.new c.in_ok-answer.ensures.hosting in
     c.add_room.ensures.reply ∙ host_reply b.rooms.items b.numbers b.journal.items c.args.caller o new c.self.invariant.0.indexed made
     ∙ ap (λ (v : ShardView _). answer (record_of v.journal (room_of o.pdu)) (to_host o)) c.self.view_is
 
@@ -79,7 +79,7 @@ returns-in-Ok-clause-journal g c =
     let e = c.in_ok-new-in-Made.ensures in
     let new = c.in_ok-new-in-Made.new in
     let o = c.args.offered.now in
-    let made = made_of c.deref.result.now b.rooms.items c.args.caller o c.in_ok-answer.field-0 c.in-Made.new new c.deref.ensures.value c.in-Made.is e.new c.in_ok-answer.ensures in
+    let made = made_of c.deref.result.now b.rooms.items c.args.caller o c.in_ok-answer.field-0 c.in-Made.new new c.deref.ensures.value c.in-Made.is e.new c.in_ok-answer.ensures.hosting in
     let named = ap (λ (n : NewRoom). n.room.id) (sym e.new) ∙ made_id b.rooms.items c.args.caller o new made in
     let after = host_after b.rooms.items b.numbers b.journal.items c.args.caller o new c.self.invariant.0.indexed made c.add_room.new.rooms.items r.numbers c.in-Made.new.room.id c.add_room.new.journal.items
     (c.add_room.ensures.rooms ∙ ap (λ (rs : List RoomView). rs ++ new.room ∷ []) e.rooms) named e.moved
@@ -93,7 +93,7 @@ returns-in-Ok-clause-durable g c = λ honest left may.
     let e = c.in_ok-new-in-Made.ensures in
     let new = c.in_ok-new-in-Made.new in
     let o = c.args.offered.now in
-    let made = made_of c.deref.result.now b.rooms.items c.args.caller o c.in_ok-answer.field-0 c.in-Made.new new c.deref.ensures.value c.in-Made.is e.new c.in_ok-answer.ensures in
+    let made = made_of c.deref.result.now b.rooms.items c.args.caller o c.in_ok-answer.field-0 c.in-Made.new new c.deref.ensures.value c.in-Made.is e.new c.in_ok-answer.ensures.hosting in
     let named = ap (λ (n : NewRoom). n.room.id) (sym e.new) ∙ made_id b.rooms.items c.args.caller o new made in
     let after = host_after b.rooms.items b.numbers b.journal.items c.args.caller o new c.self.invariant.0.indexed made c.add_room.new.rooms.items r.numbers c.in-Made.new.room.id c.add_room.new.journal.items
     (c.add_room.ensures.rooms ∙ ap (λ (rs : List RoomView). rs ++ new.room ∷ []) e.rooms) named e.moved
@@ -109,7 +109,7 @@ returns-in-Ok-clause-crash g c = λ honest left may.
     let e = c.in_ok-new-in-Made.ensures in
     let new = c.in_ok-new-in-Made.new in
     let o = c.args.offered.now in
-    let made = made_of c.deref.result.now b.rooms.items c.args.caller o c.in_ok-answer.field-0 c.in-Made.new new c.deref.ensures.value c.in-Made.is e.new c.in_ok-answer.ensures in
+    let made = made_of c.deref.result.now b.rooms.items c.args.caller o c.in_ok-answer.field-0 c.in-Made.new new c.deref.ensures.value c.in-Made.is e.new c.in_ok-answer.ensures.hosting in
     let was = c.self.invariant.1 c.if-self.false (c.store.ensures.honest honest) in
     subst (λ (v : ShardView _). g.K.Keeper.may_leave v.keeper left ⊎ (left ≡ Some (stored (journal_after v.journal c.args.caller (room_of o.pdu) (to_host o))))) c.self.view_is
     (either_left left (with_row (g.K.Keeper.rows b.keeper) new.row) (Some (stored (journal_after (journal_of b.rooms.items b.journal.items) c.args.caller (room_of o.pdu) (to_host o)))) (c.store.ensures.crash honest left may)
@@ -122,7 +122,7 @@ returns-in-Err-clause-crash g c = λ honest left may.
     let e = c.in_ok-new-in-Made.ensures in
     let new = c.in_ok-new-in-Made.new in
     let o = c.args.offered.now in
-    let made = made_of c.deref.result.now b.rooms.items c.args.caller o c.in_ok-answer.field-0 c.in-Made.new new c.deref.ensures.value c.in-Made.is e.new c.in_ok-answer.ensures in
+    let made = made_of c.deref.result.now b.rooms.items c.args.caller o c.in_ok-answer.field-0 c.in-Made.new new c.deref.ensures.value c.in-Made.is e.new c.in_ok-answer.ensures.hosting in
     let was = c.self.invariant.1 c.if-self.false (c.store.ensures.honest honest) in
     subst (λ (v : ShardView _). g.K.Keeper.may_leave v.keeper left ⊎ (left ≡ Some (stored (journal_after v.journal c.args.caller (room_of o.pdu) (to_host o))))) c.self.view_is
     (either_left left (with_row (g.K.Keeper.rows b.keeper) new.row) (Some (stored (journal_after (journal_of b.rooms.items b.journal.items) c.args.caller (room_of o.pdu) (to_host o)))) (c.store.ensures.crash honest left may)
