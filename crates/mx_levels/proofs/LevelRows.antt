@@ -203,3 +203,27 @@ invite-set = refl
 invite-none : invite_level None ≡ pos 0
 unfolding invite_level
 invite-none = refl
+
+-- ---- every level by its table
+
+abbrev all_levels : Option Data → List ℤ
+all_levels p =
+    ban_level p ∷ kick_level p ∷ redact_level p ∷ invite_level p ∷ required_level p (codes "m") false ∷ required_level p (codes "m") true
+    ∷ user_level (Some create) p (codes "@b:b.example") ∷ user_level (Some create) p (codes "@a:a.example") ∷ required_level p (codes "x") true ∷ []
+
+abbrev all_given : Data
+all_given =
+    event ((codes "ban", level 1) ∷ (codes "events", fields ((codes "x", level 8) ∷ [])) ∷ (codes "events_default", level 5) ∷ (codes "invite", level 4)
+    ∷ (codes "kick", level 2) ∷ (codes "redact", level 3) ∷ (codes "state_default", level 6) ∷ (codes "users_default", level 7) ∷ [])
+
+levels-given : all_levels (Some all_given) ≡ pos 1 ∷ pos 2 ∷ pos 3 ∷ pos 4 ∷ pos 5 ∷ pos 6 ∷ pos 7 ∷ pos 7 ∷ pos 8 ∷ []
+unfolding ban_level kick_level redact_level invite_level required_level user_level read_level
+levels-given = refl
+
+levels-not_given : all_levels (Some (event [])) ≡ pos 50 ∷ pos 50 ∷ pos 50 ∷ pos 0 ∷ pos 0 ∷ pos 50 ∷ pos 0 ∷ pos 0 ∷ pos 50 ∷ []
+unfolding ban_level kick_level redact_level invite_level required_level user_level read_level
+levels-not_given = refl
+
+levels-no_event : all_levels None ≡ pos 50 ∷ pos 50 ∷ pos 50 ∷ pos 0 ∷ pos 0 ∷ pos 0 ∷ pos 0 ∷ pos 100 ∷ pos 0 ∷ []
+unfolding ban_level kick_level redact_level invite_level required_level user_level read_level
+levels-no_event = refl

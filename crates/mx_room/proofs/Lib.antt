@@ -1,1 +1,3 @@
 pub mod RoomLemmas
+pub mod RoomOnExamples
+pub mod RoomRows

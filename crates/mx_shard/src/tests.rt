@@ -1,8 +1,8 @@
-use crate::{CallError, Shard};
+use crate::{Answer, CallError, Shard};
 use mx_ident::EventId;
 use mx_keeper::{Keeper, KeeperFault, MemoryKeeper, Place, ShardRow};
 use mx_pdu::{Offered, Pdu};
-use mx_room::Query;
+use mx_room::{Outcome, Query};
 use serde_json::Value;
 use std::alloc::{AllocError, Global};
 use std::test::Fail;
@@ -34,28 +34,38 @@ fn offered(alloc: Global, id: &str, name: &str, signed: bool) -> Result<Offered,
     Ok(Offered { pdu, id, signed })
 }
 
-// A call by its words, `host ID NAME`, `offer ID NAME` or `ask ID`, and why it was refused.
-fn refusal<K: Keeper<Row = ShardRow>>(
+// A call by its words, `host ID NAME`, `offer ID NAME` or `ask ID`. The answer is told in a word.
+fn tell<K: Keeper<Row = ShardRow>>(
     alloc: Global,
     shard: &mut Shard<K>,
     caller: u64,
     call: &str,
-) -> Result<Option<CallError>, AllocError> {
+) -> Result<&'static str, CallError> {
     let mut words = call.split(' ');
     let kind = words.next().unwrap_or("");
     let id = words.next().unwrap_or("");
     if kind == "ask" {
         let query = Query::Event(EventId::parse(alloc, id).map_err(refused)?);
-        return Ok(shard.ask(&query).err());
+        return Ok(word(&shard.ask(&query)?));
     }
     let offered = offered(alloc, id, words.next().unwrap_or(""), true)?;
     if !shard.place().has(offered.pdu.room_id().as_str()) {
-        return Ok(None);
+        return Ok("another place");
     }
     if kind == "host" {
-        return Ok(shard.host(caller, &offered).err());
+        return Ok(word(&shard.host(caller, &offered)?));
     }
-    Ok(shard.offer(caller, &offered).err())
+    Ok(word(&shard.offer(caller, &offered)?))
+}
+
+fn word(answer: &Answer) -> &'static str {
+    match answer {
+        Answer::Hosted(_) => "hosted",
+        Answer::AlreadyHosted(_) => "already",
+        Answer::ToOffered(Outcome::Kept(_)) => "kept",
+        Answer::ToAsked(Ok(_)) => "event",
+        _ => "another answer",
+    }
 }
 
 fn shard_at(alloc: Global, place: Place) -> Result<Shard<MemoryKeeper<ShardRow>>, CallError> {
@@ -67,12 +77,13 @@ fn shard_at(alloc: Global, place: Place) -> Result<Shard<MemoryKeeper<ShardRow>>
 fn rows_of_what_is_kept(rt: HostRuntime) -> Result<(), Fail> {
     let alloc = rt.alloc();
     let mut shard = shard_at(alloc, Place::new(0, 1))?;
-    for (caller, call) in [
-        (3, "host $c create"),
-        (4, "host $c create"),
-        (5, "offer $j join"),
+    for (caller, call, told) in [
+        (3, "host $c create", "hosted"),
+        (4, "host $c create", "already"),
+        (5, "offer $j join", "kept"),
+        (6, "ask $j", "event"),
     ] {
-        assert_eq!(rt; refusal(alloc, &mut shard, caller, call)?, None);
+        assert_eq!(rt; tell(alloc, &mut shard, caller, call)?, told);
     }
     let mut keeper = shard.into_keeper();
     let rows = keeper.rows()?;
@@ -146,8 +157,55 @@ fn refused_from_the_first_failure(rt: HostRuntime) -> Result<(), Fail> {
         ("host $c create", Some(CallError::Storage)),
         ("ask $c", Some(CallError::Storage)),
     ] {
-        assert_eq!(rt; refusal(alloc, &mut shard, 0, call)?, wanted, "at {call}");
+        assert_eq!(rt; tell(alloc, &mut shard, 0, call).err(), wanted, "at {call}");
     }
     assert_eq!(rt; shard.into_keeper().failures(), 1);
+    Ok(())
+}
+
+// A keeper that holds what does not read as rows.
+#[derive(Drop)]
+struct UnreadableKeeper;
+
+impl Keeper for UnreadableKeeper {
+    ghost use Rattle.std.specs.Prelude.{None, ⊤};
+
+    type Row = ShardRow;
+
+    ghost rows = { λ _. None };
+
+    ghost is_open = { λ _. ⊤ };
+
+    ghost is_honest = { λ _. ⊥ };
+
+    ghost may_leave = { λ _ _. ⊤ };
+
+    ghost failed = { λ _. 0 };
+
+    fn append(&mut self, _row: &ShardRow) -> Result<(), KeeperFault> {
+        Ok(())
+    }
+
+    fn rows(&mut self) -> Result<Vec<ShardRow>, KeeperFault> {
+        Err(KeeperFault::Table)
+    }
+
+    fn failures(&self) -> u64 {
+        0
+    }
+
+    ghost settled = { λ _ _ honest _ _. absurd honest };
+}
+
+#[test]
+fn no_shard_over_a_row_or_an_unreadable_table(rt: HostRuntime) -> Result<(), Fail> {
+    let alloc = rt.alloc();
+    let place = Place::new(0, 1);
+    let mut shard = shard_at(alloc, place)?;
+    assert_eq!(rt; tell(alloc, &mut shard, 0, "host $c create")?, "hosted");
+    let again = Shard::reopen(alloc, shard.into_keeper(), place);
+    assert_eq!(rt; again.err(), Some(CallError::Storage));
+    let unreadable = Shard::reopen(alloc, UnreadableKeeper, place);
+    assert_eq!(rt; unreadable.err(), Some(CallError::Storage));
     Ok(())
 }

@@ -8,3 +8,4 @@ pub mod OrderLemmas
 pub mod EqualStateLemmas
 pub mod ResolutionOnExamples
 pub mod ResolutionRows
+pub mod MoreResolutionRows

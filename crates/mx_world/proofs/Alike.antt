@@ -5,7 +5,6 @@ use Rattle.std.specs.List.{list_any}
 use Rattle.std.proofs.lemmas.Bool.{false≢true}
 use Rattle.std.proofs.lemmas.Slice.Eq.{bytes_eq-Decides}
 use Rattle.mx_pdu.specs.Event.{room_of}
-use Rattle.mx_redact.specs.Fields.{Event}
 use Rattle.mx_graph.specs.Record.{place_of}
 use Rattle.mx_room.specs.Offer.{Offered}
 use Rattle.mx_room.specs.Asking.{shown, event_shown, event_reply, query_answer}

@@ -8,3 +8,5 @@ pub mod RoomLemmas
 pub mod RunLemmas
 pub mod MakingLemmas
 pub mod StorageLemmas
+pub mod TextLemmas
+pub mod StepRows

@@ -1,6 +1,6 @@
 -- Views that are made one after the other, each at the place of its number.
-use Rattle.std.proofs.Common.{◌≡◌, ℕ, zero, suc, ◌+◌, ◌<◌, ◌≤◌, List, [], ◌∷◌, ◌++◌, length, get_or, map, replicate, refl, sym, ◌∙◌, ap, arith, inl, inr}
-use Rattle.std.proofs.lemmas.List.{length-map, length-replicate, map_push, length_push, get_or_push, get_or_append_left, replicate_more}
+use Rattle.std.proofs.Common.{◌≡◌, ℕ, zero, suc, ◌+◌, ◌-◌, ◌<◌, ◌≤◌, List, [], ◌∷◌, ◌++◌, length, drop, get_or, map, replicate, refl, sym, ◌∙◌, ap, arith, inl, inr, length-drop}
+use Rattle.std.proofs.lemmas.List.{length-map, length-replicate, drop-drop, get_or-drop, map_push, length_push, get_or_push, get_or_append_left, replicate_more}
 use Rattle.std.proofs.Math.Nat.{eq-or-lt_of_le}
 use Rattle.mx_keeper.specs.Places.{PlaceView, place_number}
 use Rattle.mx_shard.specs.Journal.{Entry, record_of}
@@ -53,3 +53,16 @@ nothing_of room = refl
 pub no-records : (journals : List (List Entry)) (n : ℕ) → journals ≡ replicate n [] → (room : List ℕ) → records_of journals room ≡ []
 no-records journals n none room =
     ap (λ js. record_of (get_or js (place_number (length journals) room) []) room) none ∙ ap (λ j. record_of j room) (nothing_at n (place_number (length journals) room)) ∙ nothing_of room
+
+-- ---- the keepers that are taken one by one
+
+pub taken_first : {A : Type 0} (xs ys : List A) (n : ℕ) (x : A) → drop n xs ≡ x ∷ ys → (n < length xs) × ((d : A) → get_or xs n d ≡ x)
+taken_first xs ys n x h =
+    let more : length (drop n xs) ≡ length (x ∷ ys) = ap length h in
+    let left : length (drop n xs) ≡ length xs - n = length-drop n xs in (
+      omega (arith, more, left),
+      λ d. ap (λ k. get_or xs k d) (let same : n ≡ n + 0 = omega arith in same) ∙ sym (get_or-drop n xs 0 d) ∙ ap (λ zs. get_or zs 0 d) h,
+    )
+
+pub taken_more : {A : Type 0} (xs ys : List A) (n m : ℕ) (x : A) → m ≡ n + 1 → drop n xs ≡ x ∷ ys → ys ≡ drop m xs
+taken_more xs ys n m x more h = sym (ap (drop 1) h) ∙ drop-drop 1 n xs ∙ ap (λ k. drop k xs) (sym more)

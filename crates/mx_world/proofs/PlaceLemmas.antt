@@ -1,19 +1,18 @@
 -- What stands at the place of a name.
 use Rattle.std.proofs.Common.{◌≡◌, ◌≢◌, ◌⊎◌, ℕ, zero, suc, ◌<◌, Bool, true, false, cond, ◌||◌, IsTrue, List, [], ◌∷◌, length, get_or, set, map, Some, refl, sym, ◌∙◌, ap, subst, arith, inl, inr}
-use Rattle.std.specs.Prelude.{bytes_eq, if◌then◌else◌, nat_eq}
+use Rattle.std.specs.Prelude.{bytes_eq, if◌then◌else◌}
 use Rattle.std.specs.List.{list_any}
-use Rattle.std.proofs.lemmas.Bool.{false≢true, eq-eqb, eqb-true, cases_eq}
+use Rattle.std.proofs.lemmas.Bool.{eq-eqb, cases_eq}
 use Rattle.std.proofs.lemmas.Slice.Eq.{bytes_eq-Decides}
 use Rattle.std.proofs.lemmas.List.{get_or-map, get_or-set_same, get_or-set_other, length-map, length-set, map-set, set-get_or}
 use Rattle.mx_keeper.specs.Places.{PlaceView, place_number, is_at}
-use Rattle.mx_receipt.specs.Receipt.{Kept}
-use Rattle.mx_shard.specs.LoneRoom.{Call, call_room, added, record_alone}
+use Rattle.mx_shard.specs.LoneRoom.{Call, call_room, record_alone}
 use Rattle.mx_shard.specs.Journal.{Entry, record_of, journal_after}
 use Rattle.mx_shard.specs.View.{ShardView}
 use Rattle.mx_shard.proofs.JournalLaws.{record-after, record-after-other}
 use Rattle.mx_world.specs.Calls.{concerns, if_put_to}
 use Rattle.mx_world.specs.Worlds.{journal_at, records_of, shard_journals}
-use Rattle.mx_world.specs.Inside.{shard_places, ArePlaced}
+use Rattle.mx_world.specs.Inside.{ArePlaced}
 
 -- ---- journals
 

@@ -1,9 +1,8 @@
 -- What a change at one key does to the statuses of all.
-use Rattle.std.proofs.Common.{◌≡◌, ℕ, Bool, true, false, cond, List, [], ◌∷◌, ◌++◌, length, get_or, set, map, Option, Some, None, refl, sym, ◌∙◌, ap, subst, arith, inl, inr, ◌⊎◌, ◌≢◌, ◌<◌, append-nil}
-use Rattle.std.specs.Prelude.{if◌then◌else◌, is_some, Result, Ok, Err, OnOk, OnErr}
+use Rattle.std.proofs.Common.{◌≡◌, ℕ, true, false, cond, List, [], ◌∷◌, ◌++◌, length, get_or, set, Option, Some, None, refl, sym, ◌∙◌, ap, subst, arith, inl, inr, ◌⊎◌, ◌≢◌, ◌<◌, append-nil}
+use Rattle.std.specs.Prelude.{if◌then◌else◌, is_some, Result, Ok, Err, OnOk}
 use Rattle.std.specs.Ordering.{is_eq}
-use Rattle.std.specs.Map.{lookup}
-use Rattle.std.specs.BTreeMap.{BTreeMap, get, Updates}
+use Rattle.std.specs.BTreeMap.{BTreeMap, Updates}
 use Rattle.std.proofs.lemmas.Bool.{false≢true, cases_eq}
 use Rattle.std.proofs.lemmas.List.{length-map, map-set, set-get_or}
 use Rattle.mx_keeper.specs.Places.{place_number}
@@ -15,7 +14,7 @@ use Rattle.mx_book.specs.Journal.{transaction_of, Hold, free, begun, kept, hold_
 use Rattle.mx_book.specs.View.{BookView}
 use Rattle.mx_book.specs.declared.transaction_keys.TransactionKey.{TransactionKey}
 use Rattle.mx_book.specs.declared.entries.BookEntry.{BookEntry}
-use Rattle.mx_book.specs.declared.entries.BookEntry.TheVariants.{Begun, Kept as KeptEntry, GivenUp}
+use Rattle.mx_book.specs.declared.entries.BookEntry.TheVariants.{Begun}
 use Rattle.mx_book.specs.declared.openings.Opening.TheVariants as opening
 use Rattle.mx_book.proofs.JournalLemmas.{same-self, same-eq, hold_of-here, hold_of-there}
 use Rattle.mx_world.specs.Replies.{Status, waiting, ended, body_of, open_reply, next_reply, close_reply}

@@ -1,6 +1,6 @@
 -- Refusals for want of storage, and what becomes of the shards and the books.
-use Rattle.std.proofs.Common.{◌≡◌, ◌≢◌, ◌⊎◌, ℕ, zero, suc, ◌+◌, ◌<◌, ◌≤◌, Bool, true, false, ◌||◌, IsTrue, List, [], ◌∷◌, length, get_or, set, take, Some, None, refl, sym, ◌∙◌, ap, subst, arith, inl, inr}
-use Rattle.std.specs.Prelude.{Result, Ok, Err, IsErrOf, ◌↔◌, min}
+use Rattle.std.proofs.Common.{◌≡◌, ◌⊎◌, ℕ, zero, suc, ◌+◌, ◌<◌, ◌≤◌, Bool, true, false, ◌||◌, IsTrue, List, [], ◌∷◌, length, get_or, set, take, Some, refl, sym, ◌∙◌, ap, subst, arith, inl, inr}
+use Rattle.std.specs.Prelude.{Result, Err, IsErrOf, ◌↔◌, min}
 use Rattle.std.specs.List.{list_any}
 use mathlib.Core.Path.{fun_ext}
 use Rattle.std.proofs.lemmas.Bool.{cases_eq}
@@ -11,7 +11,6 @@ use Rattle.mx_keeper.specs.declared.refusals.CallError.{CallError}
 use Rattle.mx_keeper.specs.declared.refusals.CallError.TheVariants.{Storage}
 use Rattle.mx_room.specs.Offer.{Offered}
 use Rattle.mx_shard.specs.View.{ShardView}
-use Rattle.mx_book.specs.View.{BookView}
 use Rattle.mx_book.specs.declared.transaction_keys.TransactionKey.{TransactionKey}
 use Rattle.mx_pdu.specs.Event.{room_of}
 use Rattle.mx_world.specs.Replies.{Status, status_after}

@@ -1,5 +1,6 @@
 -- The reply to each step, by the steps before it (our own), with the texts of Server-Server API, transactions.
-use Rattle.std.specs.Prelude.{ℕ, ◌≡◌, if◌then◌else◌, List, [], ◌∷◌, ◌++◌, codes, length, fold, Option, Some, None}
+use Rattle.std.specs.Prelude.{ℕ, ◌≡◌, if◌then◌else◌, List, [], ◌∷◌, ◌++◌, bytes_eq, codes, length, fold, Option, Some, None}
+use Rattle.std.specs.Option.{option_or}
 use Rattle.serde_json.specs.Data.{Data, string, object, no_members, member, put}
 use Rattle.mx_canon.specs.Canonical.{canonical_text}
 use Rattle.mx_pdu.specs.Event.{room_of}
@@ -51,6 +52,11 @@ text_of _ = error_text (codes "unknown room")
 -- each id's text; of an id that is told twice the last text stands
 abbrev pub texts_of : List Told → Data
 texts_of told = object (fold (λ ms t. put t.id (text_of t.answer) ms) no_members told)
+
+-- the answer of the last that was told with an id
+abbrev pub last_told : List ℕ → List Told → Option Answer
+last_told id [] = None
+last_told id (t ∷ told) = option_or (last_told id told) (if bytes_eq t.id id then Some t.answer else None)
 
 -- the body of a transaction's reply
 unfoldable pub body_of : List Told → List ℕ

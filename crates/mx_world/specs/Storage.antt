@@ -108,3 +108,8 @@ abbrev pub IsUnfit : {K Row : Type 0} → (K → Type 0) → (K → Type 0) → 
 IsUnfit {K = K} honest open_ rows failed keeper =
     (after : K) × (honest after → honest keeper)
     × (Rose (failed keeper) (failed after) ⊎ (honest after → open_ keeper → rows keeper ≢ Some []))
+
+-- some keeper of these is
+abbrev pub SomeUnfit : {K Row : Type 0} → (K → Type 0) → (K → Type 0) → (K → Option (List Row)) → (K → ℕ) → List K → Type 0
+SomeUnfit {K = K} honest open_ rows failed keepers =
+    (n : ℕ) × (n < length keepers) × ((d : K) → IsUnfit honest open_ rows failed (get_or keepers n d))

@@ -1,10 +1,14 @@
 // Reply bodies.
-ghost use Rattle.std.specs.Prelude.{◌≡◌, IfOk};
-ghost use Rattle.serde_json.specs.Data.{object};
+ghost use Rattle.std.specs.Prelude.{◌≡◌, ℕ, List, [], codes, option_map, IfOk};
+ghost use Rattle.serde_json.specs.Data.{object, member, no_members};
+ghost use Rattle.serde_json.specs.Find.{get};
+ghost use Rattle.mx_canon.specs.Canonical.{canonical_text};
+ghost use Rattle.mx_world.specs.declared.answers.Told.{Told};
 ghost use Rattle.serde_json.specs.View.{view, members_view};
-ghost use Rattle.mx_world.specs.Replies.{error_text, verdict_text, text_of, texts_of, body_of};
+ghost use Rattle.mx_world.specs.Replies.{error_text, verdict_text, text_of, texts_of, last_told, body_of, waiting, close_reply};
 
 use crate::answers::Told;
+use crate::steps::StepReply;
 use mx_canon::CanonError;
 use mx_keeper::Reply;
 use mx_receipt::Verdict;
@@ -55,6 +59,16 @@ pub fn processing_result(alloc: Global, answer: &Answer) -> Result<Value, AllocE
         _ => error_result(alloc, "unknown room"),
     }
 }
+
+/// The text of an event in a transaction's reply is that of the last answer told for its id, and there is none for an id
+/// of which nothing was told. The reply that closes a transaction is the canonical text of these texts under `pdus`.
+///
+/// Source: the Matrix specification, Server-Server API, "Transactions".
+pub fn last_answers_are_told()
+    ensures texts { (told : List Told) (id : List ℕ) → get id (texts_of told) ≡ option_map text_of (last_told id told) }
+    ensures body { (told : List Told) → close_reply (waiting [] told)
+        ≡ StepReply.Closed (canonical_text (object (member (codes "pdus") (texts_of told) no_members))) }
+{}
 
 fn verdict_result(alloc: Global, verdict: Verdict) -> Result<Value, AllocError>
     ensures { IfOk result (λ value. view value ≡ verdict_text verdict) }

@@ -15,7 +15,7 @@ mod transactions;
 mod worlds;
 
 pub use answers::Told;
-pub use bodies::processing_result;
+pub use bodies::{last_answers_are_told, processing_result};
 pub use callers::SOLE_CALLER;
 pub use mx_book::TransactionKey;
 pub use mx_keeper::{BookRow, CallError, Keeper, Reply, ShardRow};

@@ -1,6 +1,7 @@
 // Shards and books over keepers.
 ghost use Rattle.std.specs.Prelude.{◌≡◌, ◌≤◌, length, replicate, [], IfOk};
 ghost use Rattle.mx_world.specs.Worlds.{shard_journals, book_journals};
+ghost use Rattle.mx_world.specs.Storage.{SomeUnfit};
 ghost use Rattle.mx_world.specs.Inside.{shard_places, book_places, ArePlaced};
 
 use mx_book::Book;
@@ -17,6 +18,7 @@ pub(crate) fn shards_over<K: Keeper<Row = ShardRow>>(
     requires few { length keepers.items ≤ MOST_PLACES }
     ensures placed { IfOk result (λ shards. ArePlaced (shard_places shards.items)) }
     ensures journals { IfOk result (λ shards. shard_journals shards.items ≡ replicate (length keepers.items) []) }
+    ensures storage { result ≡ Err CallError.Storage → SomeUnfit K.is_honest K.is_open K.rows K.failed keepers.items }
 {
     let count = keepers.len();
     let mut shards = Vec::new(alloc);
@@ -37,6 +39,7 @@ pub(crate) fn books_over<L: Keeper<Row = BookRow>>(
     requires few { length keepers.items ≤ MOST_PLACES }
     ensures placed { IfOk result (λ books. ArePlaced (book_places books.items)) }
     ensures journals { IfOk result (λ books. book_journals books.items ≡ replicate (length keepers.items) []) }
+    ensures storage { result ≡ Err CallError.Storage → SomeUnfit L.is_honest L.is_open L.rows L.failed keepers.items }
 {
     let count = keepers.len();
     let mut books = Vec::new(alloc);

@@ -1,5 +1,5 @@
 // The server.
-ghost use Rattle.std.specs.Prelude.{◌≡◌, ◌++◌, ◌∷◌, ◌≤◌, ℕ, List, [], length, IfOk, OnOk, OnErr, IsTrue};
+ghost use Rattle.std.specs.Prelude.{◌≡◌, ◌++◌, ◌∷◌, ◌≤◌, ◌⊎◌, ℕ, List, [], length, IfOk, OnOk, OnErr, IsTrue};
 ghost use Rattle.mx_shard.specs.LoneRoom.{to_ask, call_room};
 ghost use Rattle.mx_shard.specs.Shown.{IsAnswer};
 ghost use Rattle.mx_book.specs.declared.transaction_keys.TransactionKey.{TransactionKey};
@@ -7,7 +7,7 @@ ghost use Rattle.mx_world.specs.Calls.{Start, record_after};
 ghost use Rattle.mx_world.specs.Replies.{unopened, status_after, IsReply};
 ghost use Rattle.mx_world.specs.Moves.{RecordsMove, StatusesMove};
 ghost use Rattle.mx_world.specs.Worlds.{shard_journals, book_journals, records_of, statuses_of, records_in, status_in, none_open, is_refused, Stays, Moves, IsAfter};
-ghost use Rattle.mx_world.specs.Storage.{IsStorageFailure, ChangesOwn};
+ghost use Rattle.mx_world.specs.Storage.{IsStorageFailure, ChangesOwn, SomeUnfit};
 ghost use Rattle.mx_world.specs.Inside.{IsSound};
 
 use crate::making::{books_over, shards_over};
@@ -51,7 +51,7 @@ impl<K: Keeper<Row = ShardRow>, L: Keeper<Row = BookRow>> World<K, L> {
     /// A server that hosts no room and knows of no transaction, with a shard over each of the first keepers and a book
     /// over each of the others.
     ///
-    /// `Memory` where no memory is left. `Storage` where a keeper failed, or has rows. A refused call drops the keepers.
+    /// `Memory` where no memory is left. `Storage` where a keeper failed, or has rows or what does not read as rows. A refused call drops the keepers.
     pub fn new(
         alloc: Global,
         shard_keepers: Vec<K>,
@@ -66,6 +66,10 @@ impl<K: Keeper<Row = ShardRow>, L: Keeper<Row = BookRow>> World<K, L> {
         ensures none_open { IfOk result (λ world. IsTrue (none_open world)) }
         ensures shards { IfOk result (λ world. length world.shards ≡ length shard_keepers.items) }
         ensures books { IfOk result (λ world. length world.books ≡ length book_keepers.items) }
+
+        // What became of one of the keepers tells why.
+        ensures storage { result ≡ Err CallError.Storage → SomeUnfit K.is_honest K.is_open K.rows K.failed shard_keepers.items
+            ⊎ SomeUnfit L.is_honest L.is_open L.rows L.failed book_keepers.items }
     {
         let shards = shards_over(alloc, shard_keepers)?;
         let books = books_over(alloc, book_keepers)?;

@@ -1,10 +1,8 @@
-use Rattle.std.proofs.Common.{◌≡◌, ◌∙◌, sym, ap, refl, length, get_or, Err}
+use Rattle.std.proofs.Common.{◌∙◌, ap, length, get_or, Err}
 use Rattle.mx_keeper.specs.Places.{place_number}
-use Rattle.mx_book.specs.Journal.{free, begun, kept}
-use Rattle.mx_book.specs.declared.entries.BookEntry.TheVariants.{Kept, GivenUp}
 use Rattle.mx_world.proofs.PlaceLemmas.{placed-is_at, places-set, journals-set}
-use Rattle.mx_world.proofs.StorageLemmas.{lasts-called, lasts-same, all-set, only-set, fails-set}
-use Rattle.mx_world.proofs.StatusLemmas.{book-begun, book-entry, state-get}
+use Rattle.mx_world.proofs.StorageLemmas.{lasts-same, all-set, only-set, fails-set}
+use Rattle.mx_world.proofs.StatusLemmas.{book-begun}
 use Rattle.mx_world.proofs.RefusalLemmas.{is-storage, on_err}
 use Rattle.mx_world.proofs.books.begin_in.Goals as goal
 

@@ -1,9 +1,8 @@
-use Rattle.std.proofs.Common.{◌≡◌, ◌<◌, ◌≤◌, ◌+◌, ◌∙◌, ◌++◌, ◌∷◌, [], List, length, refl, sym, ap, subst, arith}
-use Rattle.std.specs.Vec.Iter.{into_iter_len}
-use Rattle.mx_book.specs.View.{BookView}
-use Rattle.mx_world.specs.Worlds.{book_journals}
+use Rattle.std.proofs.Common.{◌≡◌, ◌+◌, ◌∙◌, ◌++◌, ◌∷◌, [], length, drop, Err, refl, sym, ap, subst, arith}
 use Rattle.std.proofs.lemmas.List.{length_push}
-use Rattle.mx_world.proofs.MakingLemmas.{numbered-none, numbered-more, journals-more, placed-all}
+use Rattle.mx_world.proofs.MakingLemmas.{numbered-none, numbered-more, journals-more, placed-all, taken_first, taken_more}
+use Rattle.mx_world.specs.Storage.{IsUnfit}
+use Rattle.mx_world.proofs.RefusalLemmas.{is-storage}
 use Rattle.mx_world.proofs.making.books_over.Goals as goal
 
 pub loop-keeper-init : goal.loop-keeper-init
@@ -13,6 +12,7 @@ loop-keeper-init g c =
       each = numbered-none c.new-books.result.items (λ view. view.place) c.len-count.result none;
       journals = rw c.new-books.ensures.items refl;
       long = omega (arith, c.into_iter-keeper-iterator.ensures.into_iter_gives.1, c.len-count.ensures);
+      left = c.into_iter-keeper-iterator.ensures.into_iter_gives.0 ∙ ap (λ k. drop k c.args.keepers.items) (sym none);
       all = c.len-count.ensures ∙ c.args.keepers.ok.0;
     }
 
@@ -29,13 +29,25 @@ loop-keeper-preserved g c =
           (c.in_ok-book.ensures.place ∙ (λ i. record { number = (c.new-place.ensures.number ∙ number) i; count = c.new-place.ensures.count i })));
       journals = rw more (journals-more c.loop-keeper.books.items (λ view. view.journal) c.in_ok-book.book c.loop-keeper.invariant.journals c.in_ok-book.ensures.journal);
       long = omega (arith, longer, c.in-Some.ensures.steps.1, c.loop-keeper.invariant.long);
+      left = taken_more c.args.keepers.items _ (length c.loop-keeper.books.items) (length c.push.new.self.items) c.in-Some.keeper longer (sym c.loop-keeper.invariant.left ∙ c.in-Some.ensures.steps.0);
       all = c.loop-keeper.invariant.all;
     }
 
-pub returns : goal.returns
-returns g c =
+pub returns-clause-placed : goal.returns-clause-placed
+returns-clause-placed g c =
     let all : length c.loop-keeper.books.items ≡ c.len-count.result = omega (arith, c.in-None.ensures.steps.0, c.loop-keeper.invariant.long) in
-    record {
-      placed = placed-all c.loop-keeper.books.items (λ view. view.place) c.len-count.result all (omega (arith, c.loop-keeper.invariant.all)) (omega (arith, c.loop-keeper.invariant.all)) c.loop-keeper.invariant.each;
-      journals = rw (sym c.loop-keeper.invariant.all, sym all) c.loop-keeper.invariant.journals;
-    }
+    placed-all c.loop-keeper.books.items (λ view. view.place) c.len-count.result all (omega (arith, c.loop-keeper.invariant.all)) (omega (arith, c.loop-keeper.invariant.all)) c.loop-keeper.invariant.each
+
+pub returns-clause-journals : goal.returns-clause-journals
+returns-clause-journals g c =
+    let all : length c.loop-keeper.books.items ≡ c.len-count.result = omega (arith, c.in-None.ensures.steps.0, c.loop-keeper.invariant.long) in
+    rw (sym c.loop-keeper.invariant.all, sym all) c.loop-keeper.invariant.journals
+
+pub returns-in_err-book-clause-storage : goal.returns-in_err-book-clause-storage
+returns-in_err-book-clause-storage g c = λ is.
+    let taken = taken_first c.args.keepers.items _ (length c.loop-keeper.books.items) c.in-Some.keeper (sym c.loop-keeper.invariant.left ∙ c.in-Some.ensures.steps.0) in (
+      length c.loop-keeper.books.items,
+      taken.0,
+      λ d. subst (IsUnfit g.L.Keeper.is_honest g.L.Keeper.is_open g.L.Keeper.rows g.L.Keeper.failed) (sym (taken.1 d))
+          (c.in_err-book.ensures.storage (ap (λ e. Err e) (is-storage c.from_residual.result c.in_err-book.field-0.0 c.from_residual.ensures.1 is))),
+    )

@@ -1,5 +1,5 @@
-use Rattle.std.proofs.Common.{◌≡◌, ℕ, ◌+◌, ◌<◌, [], length, get_or, replicate}
-use Rattle.std.specs.Vec.Iter.{into_iter_len}
+use Rattle.std.proofs.Common.{◌≡◌, ℕ, ◌+◌, ◌<◌, [], length, drop, get_or, replicate}
+use Rattle.std.specs.Vec.Iter.{into_iter_items, into_iter_len}
 use Rattle.mx_keeper.specs.Places.{PlaceView}
 use Rattle.mx_world.specs.Worlds.{book_journals}
 use Rattle.mx_world.specs.Inside.{book_places}
@@ -11,5 +11,6 @@ invariant-loop-keeper g l = record {
   each : (n : ℕ) (d : PlaceView) → n < length l.books.items → get_or (book_places l.books.items) n d ≡ record { number = n; count = l.count };
   journals : book_journals l.books.items ≡ replicate (length l.books.items) [];
   long : length l.books.items + into_iter_len l.keeper-iterator ≡ l.count;
+  left : into_iter_items l.keeper-iterator ≡ drop (length l.books.items) l.fn.keepers.items;
   all : l.count ≡ length l.fn.keepers.items;
 }

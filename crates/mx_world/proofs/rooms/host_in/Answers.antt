@@ -1,12 +1,7 @@
-use Rattle.std.proofs.Common.{◌≡◌, ◌∙◌, ℕ, List, Some, Err, get_or, set, sym, ap, refl, subst, length, ◌<◌}
-use Rattle.std.specs.Prelude.{OnErr}
+use Rattle.std.proofs.Common.{◌≡◌, ◌∙◌, Err, get_or, ap, refl, length}
 use Rattle.mx_keeper.specs.Places.{place_number}
 use Rattle.mx_pdu.specs.Event.{room_of}
-use Rattle.mx_shard.specs.LoneRoom.{to_host, record_alone}
-use Rattle.mx_shard.specs.Journal.{Entry, journal_after}
-use Rattle.mx_keeper.specs.declared.refusals.CallError.{CallError}
-use Rattle.mx_world.specs.Calls.{if_put_to}
-use Rattle.mx_world.specs.Worlds.{journal_at, shard_journals, records_of}
+use Rattle.mx_shard.specs.LoneRoom.{to_host}
 use Rattle.mx_world.proofs.PlaceLemmas.{placed-is_at, places-set, journals-set, room-called}
 use Rattle.mx_world.proofs.StorageLemmas.{lasts-called, all-set, only-set, fails-set}
 use Rattle.mx_world.proofs.RefusalLemmas.{is-storage, on_err}

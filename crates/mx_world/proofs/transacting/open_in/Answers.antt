@@ -1,10 +1,8 @@
-use Rattle.std.proofs.Common.{◌≡◌, ◌∙◌, [], sym, ap, refl, None}
-use Rattle.mx_book.specs.Journal.{free, kept}
+use Rattle.std.proofs.Common.{◌∙◌, [], sym, ap, refl, None}
 use Rattle.mx_world.specs.Replies.{open_reply}
 use Rattle.mx_world.specs.Moves.{after_open}
 use Rattle.mx_world.specs.Worlds.{book_journals, holds_of, found, status_found, statuses_of}
 use Rattle.mx_world.proofs.StatusLemmas.{at_same, open-busy, stays-busy, none-found, state-kept, state-fresh, never-busy, replayed, opened-all, refused-all, taken-back, found-update}
-use Rattle.mx_world.proofs.RefusalLemmas.{on_err}
 use Rattle.mx_world.proofs.transacting.open_in.Goals as goal
 
 pub returns-then-contains_key-clause-reply : goal.returns-then-contains_key-clause-reply
