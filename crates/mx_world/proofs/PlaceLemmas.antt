@@ -1,7 +1,6 @@
 -- What stands at the place of a name.
-use Rattle.std.proofs.Common.{◌≡◌, ◌≢◌, ◌⊎◌, ℕ, zero, suc, ◌<◌, Bool, true, false, cond, ◌||◌, IsTrue, List, [], ◌∷◌, length, get_or, set, map, Some, refl, sym, ◌∙◌, ap, subst, arith, inl, inr}
+use Rattle.std.proofs.Common.{◌≡◌, ◌≢◌, ◌⊎◌, ℕ, ◌<◌, true, false, cond, IsTrue, List, [], ◌∷◌, length, get_or, set, map, Some, refl, sym, ◌∙◌, ap, subst, arith, inl, inr}
 use Rattle.std.specs.Prelude.{bytes_eq, if◌then◌else◌}
-use Rattle.std.specs.List.{list_any}
 use Rattle.std.proofs.lemmas.Bool.{eq-eqb, cases_eq}
 use Rattle.std.proofs.lemmas.Slice.Eq.{bytes_eq-Decides}
 use Rattle.std.proofs.lemmas.List.{get_or-map, get_or-set_same, get_or-set_other, length-map, length-set, map-set, set-get_or}
@@ -50,16 +49,6 @@ places-set views place n d v l same =
 pub journals-set : {V A : Type 0} (views : List V) (journal : V → List A) (n : ℕ) (d v : V) → n < length views → journal v ≡ journal (get_or views n d) → map journal (set views n v) ≡ map journal views
 journals-set views journal n d v l same =
     map-set journal views n v ∙ ap (set (map journal views) n) (same ∙ sym (get_or-map journal views n d [] l)) ∙ set-get_or (map journal views) n []
-
--- a view that is refused is one of the views
-pub any-set : {V : Type 0} (views : List V) (test : V → Bool) (n : ℕ) (v : V) → n < length views → test v ≡ true → IsTrue (list_any test (set views n v))
-any-set [] test n v l h = absurd (omega arith)
-any-set (w ∷ views) test zero v l h = ap (λ b. b || list_any test views) h
-any-set (w ∷ views) test (suc n) v l h = later (test w) (list_any test (set views n v)) (any-set views test n v (omega arith) h)
-  where
-    later : (a b : Bool) → b ≡ true → (a || b) ≡ true
-    later true b k = refl
-    later false b k = k
 
 -- ---- a call of a room at its shard
 

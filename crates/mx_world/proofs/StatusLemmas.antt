@@ -143,10 +143,6 @@ found-update old new key q w is updates = λ p.
           | false ↦ λ k. refl
         ] refl
 
--- what nothing changes is found as before
-pub found-same : (old new : List (TransactionKey × Progress)) → new ≡ old → (p : TransactionKey) → found new p ≡ found old p
-found-same old new h p = ap (λ es. found es p) h
-
 -- ---- openings
 
 pub open-busy : (progress : Option Progress) (state : Hold) (events : List Offered) → is_some progress ≡ true → Busy ≡ open_reply events (status_found progress state)
@@ -178,10 +174,6 @@ never-busy (Some progress) state agree h is = false≢true (sym h)
 never-busy None free agree h is = cc is
 never-busy None (begun caller) agree h is = agree
 never-busy None (kept reply) agree h is = cc is
-
--- at the key itself
-pub at-self : {A : Type 0} (a a' : TransactionKey → A) (q : TransactionKey) (change : A → A) → AtTransaction a a' q change → a' q ≡ change (a q)
-at-self a a' q change h = h q ∙ ap (λ b. if b then change (a q) else a q) (same-self q)
 
 -- what was added and taken out again is as before
 pub taken-back : {A : Type 0} (a a' a'' : TransactionKey → Option A) (q : TransactionKey) (x : A) → a q ≡ None → AtTransaction a a' q (λ _. Some x) → AtTransaction a' a'' q (λ _. None) → (p : TransactionKey) → a'' p ≡ a p
