@@ -1,3 +1,4 @@
+-- For proofs and private clauses alone.
 -- A code for the rule that rejects an event, by its label.
 use Rattle.std.specs.Prelude.{◌≡◌, ℕ, List, [], ◌∷◌, bytes_eq, find, unwrap_or, refl}
 use Rattle.std.specs.Coded.{Coded, code_by, coded_ℕ, coded_list}

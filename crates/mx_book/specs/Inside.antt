@@ -1,3 +1,4 @@
+-- For proofs and private clauses alone.
 -- How a book finds what its journal says of a transaction.
 use Rattle.std.specs.Prelude.{◌≡◌, ℕ, ◌+◌, ◌<◌, ◌≤◌, Bool, IsTrue, true, false, List, length, All, slice_get, Option, Some, None}
 use Rattle.std.specs.BTreeMap.{BTreeMap, get}

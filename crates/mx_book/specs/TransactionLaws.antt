@@ -1,4 +1,5 @@
--- The order of pairs is a total order, and its ties are equal pairs.
+-- For proofs and private clauses alone.
+-- The order of transactions' keys is a total order, and its ties are equal keys.
 use Rattle.std.specs.Prelude.{◌≡◌, ◌&&◌, bytes_eq, Some}
 use Rattle.std.specs.Cmp.{IsEquivalence, IsTotalOrder, IsPartialOrder, then_total, po, tied_then}
 use Rattle.std.specs.Cmp.Lexicographic.{slice_cmp, on_texts, on_texts_equal, texts_ties}

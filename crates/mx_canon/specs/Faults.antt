@@ -1,4 +1,4 @@
--- The fault of a list of numbers, for private clauses.
+-- The fault of a list of numbers.
 use Rattle.std.specs.Prelude.{List, if◌then◌else◌, Option, Some, None}
 use Rattle.std.specs.List.{list_all, list_any}
 use Rattle.serde_json.specs.Data.{Num}

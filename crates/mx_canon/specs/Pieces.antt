@@ -1,4 +1,4 @@
--- The comma that stands before a later piece, for private clauses.
+-- The comma that stands before a later piece.
 use Rattle.std.specs.Prelude.{ℕ, List, [], ◌∷◌, Bool, if◌then◌else◌}
 
 abbrev pub comma_if : Bool → List ℕ

@@ -1,3 +1,4 @@
+-- For proofs and private clauses alone.
 -- What the refusals of a reading are to `check`.
 use Rattle.mx_canon.specs.declared.reading.ReadError.{ReadError}
 use Rattle.mx_canon.specs.declared.reading.ReadError.TheVariants as read

@@ -1,3 +1,4 @@
+-- For proofs and private clauses alone.
 -- What went wrong, to the program.
 use Rattle.mx_federd.specs.declared.input.InputError.{InputError}
 use Rattle.mx_federd.specs.declared.input.InputError.TheVariants as input

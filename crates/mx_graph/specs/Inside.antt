@@ -1,3 +1,4 @@
+-- For proofs and private clauses alone.
 -- What the parts of a `Graph` are.
 use Rattle.std.specs.Prelude.{◌≡◌, ℕ, ◌<◌, ◌≤◌, List, length, true, Some, Vec}
 use Rattle.std.specs.List.{list_all}

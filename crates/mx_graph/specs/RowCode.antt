@@ -1,3 +1,4 @@
+-- For proofs and private clauses alone.
 -- Codes for rows.
 use Rattle.std.specs.Prelude.{ℕ, Bool, List, refl}
 use Rattle.std.specs.Coded.{Coded, code_by, coded×, coded_ℕ, coded_bool, coded_list}

@@ -1,3 +1,4 @@
+-- For proofs and private clauses alone.
 -- What the parts of a `Pdu` are.
 use Rattle.std.specs.Prelude.{◌≡◌, IsTrue, option_map, string_bytes}
 use Rattle.serde_json.specs.Data.{Data, object}

@@ -1,3 +1,4 @@
+-- For proofs and private clauses alone.
 -- Codes for what is kept of a room, so that a model's value can hold it.
 use Rattle.std.specs.Prelude.{◌≡◌, ℕ, zero, suc, List, refl}
 use Rattle.std.specs.Coded.{Coded, code_by, coded×, coded_ℕ, coded_list}

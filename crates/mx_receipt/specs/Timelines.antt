@@ -1,3 +1,4 @@
+-- For proofs and private clauses alone.
 -- What the parts of a timeline are, for its type.
 use Rattle.std.specs.Prelude.{◌≡◌, ◌-◌, ◌++◌, ◌∷◌, ℕ, List, [], take, length, slice_get, Option, None, Some, option_to_list}
 use Rattle.std.specs.Arc.{arc_value}

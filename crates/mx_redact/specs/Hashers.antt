@@ -1,3 +1,4 @@
+-- For proofs and private clauses alone.
 -- The text that a hasher has taken.
 use Rattle.std.specs.Prelude.{◌≡◌, ℕ, List, ◌++◌}
 use Rattle.sha2.specs.Hashers.{Holds256}

@@ -1,3 +1,4 @@
+-- For proofs and private clauses alone.
 -- Codes for states.
 use Rattle.std.specs.Prelude.{ℕ, List}
 use Rattle.std.specs.Coded.{Coded, coded×, coded_ℕ, coded_list}

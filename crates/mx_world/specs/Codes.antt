@@ -1,3 +1,4 @@
+-- For proofs and private clauses alone.
 -- Codes, so that a model's value can hold events.
 use Rattle.std.specs.Prelude.{◌≡◌, ℕ, ◌==◌, Bool, cond, List, [], Ok, Err, refl}
 use Rattle.std.specs.Coded.{Coded, code_by, coded×, coded_ℕ, coded_bool, coded_list}

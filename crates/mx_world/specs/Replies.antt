@@ -122,7 +122,7 @@ abbrev pub IsAnswered : (List ℕ → List Kept) → Call → StepReply → Type
 IsAnswered rows call (OfRoom a) = IsAnswer rows call (call_room call) a
 IsAnswered rows call other = ⊥
 
--- the reply to a step, where the rooms have these records and the pairs this status
+-- the reply to a step, where the rooms have these records and the transactions this status
 abbrev pub IsReply : (List ℕ → List Kept) → (TransactionKey → Status) → Step → StepReply → Type 0
 IsReply rows status (Host o) reply = IsAnswered rows (to_host o) reply
 IsReply rows status (Open p events) reply = reply ≡ open_reply events.items (status p)

@@ -11,7 +11,7 @@ pub record Progress : Type 0 where
   pub rest : List Offered
   pub told : List Told
 
--- its shards and its books by their places, and the transactions that are open, in the order of pairs
+-- its shards and its books by their places, and the transactions that are open, in the order of their keys
 pub record WorldView (K L : Type 0) : Type 0 where
   pub shards : List (ShardView K)
   pub books : List (BookView L)

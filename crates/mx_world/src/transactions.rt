@@ -88,11 +88,7 @@ fn copies_of(alloc: Global, events: &[Offered]) -> Result<Vec<Offered>, AllocErr
 {
     let mut copies = Vec::new(alloc);
     for offered in events {
-        let copy = Offered {
-            pdu: offered.pdu.clone()?,
-            id: offered.id.clone()?,
-            signed: offered.signed,
-        };
+        let copy = offered.clone()?;
         copies.push(copy)?;
     }
     Ok(copies)
