@@ -6,7 +6,7 @@ use Rattle.serde_json.specs.Data.{Data, null}
 use Rattle.mx_pdu.specs.DataCode.{data_code}
 use Rattle.mx_auth.specs.declared.refusals.Rule.{Rule}
 use Rattle.mx_auth.specs.declared.refusals.Rule.TheVariants.{StateWithoutCreate}
-use Rattle.mx_receipt.specs.KeptCode.{line_code}
+use Rattle.mx_auth.specs.RuleCode.{rule_code}
 use Rattle.mx_receipt.specs.declared.verdicts.Verdict.TheVariants.{Accepted, SoftFailed, Rejected}
 use Rattle.mx_room.specs.Offer.{Offered}
 use Rattle.mx_room.specs.declared.outcomes.Outcome.TheVariants.{Kept, Known, Refused}
@@ -101,7 +101,7 @@ answer_of-parts (ToAsked (Err NotFound)) = refl
 answer_of-parts (ToAsked (Ok (Event e))) = refl
 
 abbrev pub answer_code : Coded Answer
-answer_code = code_by Parts (coded× coded_ℕ (coded× text_code (coded× data_code line_code))) parts_of answer_of answer_of-parts
+answer_code = code_by Parts (coded× coded_ℕ (coded× text_code (coded× data_code rule_code))) parts_of answer_of answer_of-parts
 
 abbrev pub told_code : Coded Told
 told_code = code_by (List ℕ × Answer) (coded× text_code answer_code) (λ t. (t.id, t.answer)) (λ p. record { id = p.0; answer = p.1 }) (λ _. refl)
