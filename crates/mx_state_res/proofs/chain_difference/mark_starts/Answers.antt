@@ -1,0 +1,11 @@
+use Rattle.std.proofs.Common.{[], ◌∷◌, ◌++◌, sym, ap, ◌∙◌, eq-eqb, refl}
+use Rattle.mx_graph.specs.Record.{is_in}
+use Rattle.mx_graph.proofs.Closure.{or_left, or_right}
+use Rattle.mx_state_res.proofs.SetLemmas.{is_in-append}
+use Rattle.mx_state_res.proofs.WalkStartLemmas.{last-in}
+use Rattle.mx_state_res.proofs.chain_difference.mark_starts.Goals as goal
+
+pub auth_events-requires : goal.auth_events-requires
+auth_events-requires c =
+    let start = c.in-Some.start in
+    c.requires.known start (c.loop-start.invariant.fewer start (last-in start c.loop-start.walk.starts.keys c.next_start.new.self.starts.keys c.in-Some.ensures.some))
