@@ -1,5 +1,5 @@
 -- Chains of joined sets, and where the chains of several sets differ.
-use Rattle.std.proofs.Common.{◌≡◌, ℕ, Bool, true, false, not, ◌&&◌, ◌||◌, ◌⊎◌, inl, inr, List, [], ◌∷◌, map, refl, sym, ap, ap₂, subst, ◌∙◌}
+use Rattle.std.proofs.Common.{◌≡◌, ℕ, Bool, true, false, not, ◌&&◌, ◌||◌, ◌⊎◌, inl, inr, List, [], ◌∷◌, map, refl, sym, ap, ap₂, ◌∙◌}
 use Rattle.std.specs.List.{list_any, list_all, AllZip}
 use Rattle.mx_graph.specs.Record.{Row, is_in, places}
 use Rattle.mx_graph.specs.Graph.{auth_chain, IsClosed, IsLeastClosed, IsSound}

@@ -1,5 +1,5 @@
 -- What some events cite.
-use Rattle.std.proofs.Common.{◌≡◌, ℕ, ◌==◌, ◌<◌, Bool, true, false, ◌||◌, ◌⊎◌, inl, inr, List, [], ◌∷◌, length, refl, sym, ap, ◌∙◌, eq-eqb, eqb-true}
+use Rattle.std.proofs.Common.{◌≡◌, ℕ, ◌==◌, ◌<◌, Bool, true, ◌⊎◌, inl, inr, List, [], ◌∷◌, length, refl, sym, ap, ◌∙◌, eq-eqb, eqb-true}
 use Rattle.mx_graph.specs.Record.{Row, is_in}
 use Rattle.mx_graph.specs.Edges.{IsAllFrom}
 use Rattle.mx_graph.specs.Graph.{IsLeastClosed, IsSound}

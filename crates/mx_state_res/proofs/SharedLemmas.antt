@@ -1,5 +1,5 @@
 -- The events of a state are those of the entries that all states share, and those of its others.
-use Rattle.std.proofs.Common.{◌≡◌, ℕ, ◌==◌, ◌<◌, Bool, true, false, not, cond, ◌||◌, ◌⊎◌, inl, inr, List, [], ◌∷◌, length, filter, flat_map, map, Some, refl, sym, ap, subst, ◌∙◌, Bor, Vec}
+use Rattle.std.proofs.Common.{◌≡◌, ℕ, ◌==◌, ◌<◌, Bool, true, false, not, cond, ◌||◌, ◌⊎◌, inl, inr, List, [], ◌∷◌, filter, flat_map, map, Some, refl, sym, ap, subst, ◌∙◌, Bor, Vec}
 use Rattle.std.specs.List.{All, AllZip}
 use Rattle.std.specs.Ordering.{is_eq}
 use Rattle.std.specs.FinMap.Entries.{find}

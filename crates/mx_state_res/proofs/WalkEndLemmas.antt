@@ -1,11 +1,10 @@
 -- What the walk found is the difference of the chains.
-use Rattle.std.proofs.Common.{◌≡◌, ℕ, zero, suc, ◌==◌, ◌<◌, nat_lt, Bool, true, false, not, ◌&&◌, ◌||◌, ◌⊎◌, inl, inr, List, [], ◌∷◌, ◌++◌, length, map, get_or, refl, sym, ap, ap₂, subst, ◌∙◌, arith, eq-eqb, eqb-true}
-use Rattle.std.proofs.lemmas.Bool.Decides.{nat_tests}
+use Rattle.std.proofs.Common.{◌≡◌, ℕ, zero, suc, ◌<◌, nat_lt, Bool, true, false, not, ◌&&◌, ◌||◌, ◌⊎◌, inl, inr, List, [], ◌∷◌, ◌++◌, length, map, get_or, sym, ap, ap₂, subst, ◌∙◌, arith}
 use Rattle.std.proofs.lemmas.List.Folds.{list_any-append, list_any_at, list_all_at}
 use Rattle.std.specs.List.{list_any, list_all, AllZip}
 use Rattle.mx_graph.specs.Record.{Row, is_in}
 use Rattle.mx_graph.specs.Edges.{Rises, IsAllFrom}
-use Rattle.mx_graph.specs.Graph.{auth_chain, IsLeastClosed, IsSound}
+use Rattle.mx_graph.specs.Graph.{auth_chain, IsSound}
 use Rattle.mx_graph.proofs.Closure.{or_cases}
 use Rattle.mx_state_res.proofs.SetLemmas.{is_in-append, list_any-map, list_all-map, rising-is}
 use Rattle.mx_state_res.specs.ChainDifference.{chain_difference, cites, is_cited}

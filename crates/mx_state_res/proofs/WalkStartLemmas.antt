@@ -1,5 +1,5 @@
 -- What waits before the walk, and what the starts add.
-use Rattle.std.proofs.Common.{◌≡◌, ℕ, ◌<◌, ◌≤◌, Bool, true, false, ◌&&◌, ◌||◌, ◌⊎◌, inl, inr, IsTrue, List, [], ◌∷◌, ◌++◌, length, get_or, refl, sym, ap, ap₂, subst, ◌∙◌, ◌+◌, ◌==◌, eq-eqb, arith}
+use Rattle.std.proofs.Common.{◌≡◌, ℕ, ◌<◌, Bool, true, false, ◌&&◌, ◌||◌, ◌⊎◌, inl, inr, IsTrue, List, [], ◌∷◌, ◌++◌, length, get_or, refl, sym, ap, ap₂, subst, ◌∙◌, ◌+◌, ◌==◌, eq-eqb, arith}
 use Rattle.std.proofs.lemmas.List.Folds.{list_any-append}
 use Rattle.std.proofs.lemmas.List.{length-append}
 use Rattle.std.specs.List.{All}
@@ -7,7 +7,7 @@ use Rattle.std.specs.Ordering.{nat_cmp}
 use Rattle.std.specs.BTreeSet.{BTreeSet, contains}
 use Rattle.mx_graph.specs.Record.{Row, is_in}
 use Rattle.mx_state_res.specs.ChainDifference.{is_cited}
-use Rattle.mx_state_res.specs.Masks.{Masks, has, waits, is_cited_by, is_due, is_there}
+use Rattle.mx_state_res.specs.Masks.{Masks, waits, is_cited_by, is_there}
 use Rattle.mx_graph.proofs.Closure.{or_left, or_right, is_in-to}
 use Rattle.mx_state_res.proofs.SetLemmas.{is_in-append, all-at, contains-is}
 use Rattle.mx_state_res.proofs.MaskLemmas.{waits-there}

@@ -10,7 +10,7 @@ use Rattle.mx_graph.specs.Record.{is_in}
 use Rattle.mx_graph.specs.Edges.{LeadDown, Rises, IsAllFrom}
 use Rattle.mx_graph.proofs.Closure.{or_cases, or_left, or_right}
 use Rattle.mx_graph.proofs.WalkLemmas.{above, above-member, above-bound}
-use Rattle.mx_state_res.specs.Masks.{Masks, has, mask_in, waits, is_cited_by, is_due, is_there, AreLow, AreSettled, IsTaken, IsApart, ArePart}
+use Rattle.mx_state_res.specs.Masks.{Masks, has, mask_in, waits, is_cited_by, is_due, is_there, AreLow, AreSettled, IsTaken, IsApart}
 use Rattle.mx_state_res.proofs.TestLemmas.{and-first, and-second, and-make, or-false, lt-from, lt-to, order, unequal}
 use Rattle.mx_state_res.proofs.CitedLemmas.{cited-to}
 use Rattle.mx_state_res.proofs.MaskLemmas.{waits-there}

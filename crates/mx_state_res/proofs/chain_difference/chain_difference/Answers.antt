@@ -1,9 +1,8 @@
-use Rattle.std.proofs.Common.{◌≡◌, ◌<◌, ◌||◌, ℕ, List, Vec, true, length, map, reverse, sym, ap, ap₂, subst, ◌∙◌, arith}
+use Rattle.std.proofs.Common.{◌≡◌, ◌<◌, ℕ, Vec, length, map, reverse, sym, ap, subst, ◌∙◌, arith}
 use Rattle.std.proofs.lemmas.List.{length-map}
 use Rattle.std.specs.declared.alloc.Global.{Global}
 use Rattle.mx_graph.specs.Record.{is_in}
 use Rattle.mx_state_res.specs.ChainDifference.{cites, is_cited}
-use Rattle.mx_state_res.specs.Masks.{waits, is_there}
 use Rattle.mx_state_res.proofs.SetLemmas.{contains-is}
 use Rattle.mx_state_res.proofs.CitedLemmas.{cited-same}
 use Rattle.mx_state_res.proofs.WalkStartLemmas.{starts-known, start-known, start-waits}

@@ -1,4 +1,4 @@
-use Rattle.std.proofs.Common.{◌≡◌, ◌<◌, ◌==◌, [], IsTrue, List, ℕ, Vec, length, map, get_or, sym, ap, ◌∙◌, arith}
+use Rattle.std.proofs.Common.{◌≡◌, ◌<◌, ◌==◌, [], IsTrue, ℕ, Vec, length, map, get_or, sym, ap, ◌∙◌, arith}
 use Rattle.std.proofs.lemmas.List.{get_or-map}
 use Rattle.std.specs.declared.alloc.Global.{Global}
 use Rattle.mx_state_res.specs.Masks.{has, waits, is_there}

@@ -1,7 +1,3 @@
-use Rattle.std.proofs.Common.{[], ◌∷◌, ◌++◌, sym, ap, ◌∙◌, eq-eqb, refl}
-use Rattle.mx_graph.specs.Record.{is_in}
-use Rattle.mx_graph.proofs.Closure.{or_left, or_right}
-use Rattle.mx_state_res.proofs.SetLemmas.{is_in-append}
 use Rattle.mx_state_res.proofs.WalkStartLemmas.{last-in}
 use Rattle.mx_state_res.proofs.chain_difference.mark_starts.Goals as goal
 

@@ -1,8 +1,6 @@
-use Rattle.std.proofs.Common.{◌≡◌, ◌<◌, ◌++◌, length, sym, ap, ap₂, subst, ◌∙◌, flat_map, map, ℕ, List, Vec, rules}
+use Rattle.std.proofs.Common.{◌≡◌, ◌<◌, ◌++◌, length, sym, ap, ap₂, subst, ◌∙◌, flat_map, map, ℕ, Vec, rules}
 use Rattle.std.specs.List.{All}
 use Rattle.std.specs.declared.alloc.Global.{Global}
-use Rattle.mx_graph.specs.Record.{is_in}
-use Rattle.mx_orders.specs.StateMap.{events_of}
 use Rattle.mx_state_res.specs.ChainDifference.{chain_difference}
 use Rattle.mx_state_res.specs.Resolution.{auth_difference}
 use Rattle.mx_state_res.proofs.SetLemmas.{shown}

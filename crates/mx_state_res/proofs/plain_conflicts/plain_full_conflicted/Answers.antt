@@ -1,7 +1,5 @@
-use Rattle.std.proofs.Common.{◌≡◌, ◌++◌, ap, ap₂, ◌∙◌, flat_map, ℕ, List, Vec, rules}
+use Rattle.std.proofs.Common.{◌≡◌, ◌++◌, ap, ap₂, ◌∙◌, flat_map, ℕ, Vec, rules}
 use Rattle.std.specs.declared.alloc.Global.{Global}
-use Rattle.mx_state_res.specs.Resolution.{auth_difference}
-use Rattle.mx_state_res.proofs.SetLemmas.{shown}
 use Rattle.mx_state_res.proofs.ConflictLemmas.{gathered, full-is}
 use Rattle.mx_state_res.proofs.SharedLemmas.{gathered-joined}
 use Rattle.mx_state_res.proofs.plain_conflicts.plain_full_conflicted.Goals as goal

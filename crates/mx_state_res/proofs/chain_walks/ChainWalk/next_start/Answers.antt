@@ -1,4 +1,3 @@
-use Rattle.std.proofs.Common.{◌≡◌}
 use Rattle.mx_state_res.proofs.MaskLemmas.{low-from}
 use Rattle.mx_state_res.proofs.chain_walks.ChainWalk.next_start.Goals as goal
 
