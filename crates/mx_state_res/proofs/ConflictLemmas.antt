@@ -35,7 +35,7 @@ gathered-is agreed (b ∷ bs) h =
     flat_map-map (λ (s : Bor State). s.now) (λ s. events_of (filter (lacks agreed) s)) (b ∷ bs) ∙ events-flat (lacks agreed) (shown (b ∷ bs))
     ∙ (λ i. events_of (flat_map (filter (λ e. not (h e i))) (shown (b ∷ bs))))
 
-gathered-known : (n : ℕ) (agreed : State) (bs : List (Bor State)) → All (λ (s : Bor State). All (λ e. e.1 < n) s.now) bs → (p : ℕ) → is_in (gathered agreed bs) p ≡ true → p < n
+pub gathered-known : (n : ℕ) (agreed : State) (bs : List (Bor State)) → All (λ (s : Bor State). All (λ e. e.1 < n) s.now) bs → (p : ℕ) → is_in (gathered agreed bs) p ≡ true → p < n
 gathered-known n agreed bs h p e =
     let a = in_flat_map-from (λ (s : Bor State). events_of (filter (lacks agreed) s.now)) p bs (is_in-to p (gathered agreed bs) e) in
     let b = in_map-from (λ (e : Key × ℕ). e.1) p (filter (lacks agreed) a.0.now) a.2 in

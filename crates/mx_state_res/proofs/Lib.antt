@@ -1,3 +1,4 @@
+pub mod TestLemmas
 pub mod KeyLemmas
 pub mod PlaceLemmas
 pub mod SetLemmas
@@ -9,3 +10,12 @@ pub mod EqualStateLemmas
 pub mod ResolutionOnExamples
 pub mod ResolutionRows
 pub mod MoreResolutionRows
+pub mod CitedLemmas
+pub mod ChainLemmas
+pub mod SharedLemmas
+pub mod MaskLemmas
+pub mod DifferenceWalk
+pub mod ApartLemmas
+pub mod WalkStepLemmas
+pub mod WalkStartLemmas
+pub mod WalkEndLemmas

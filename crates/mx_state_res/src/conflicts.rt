@@ -9,10 +9,11 @@ ghost use Rattle.mx_orders.specs.StateMap.{events_of as events_in, key_cmp};
 ghost use Rattle.mx_state_res.specs.Agreed.{IsAgreed};
 ghost use Rattle.mx_state_res.specs.Resolution as definition;
 
+use crate::chain_difference::chain_difference;
 use crate::entries::StateEntry;
-use crate::event_sets::{rising, stands_in};
+use crate::event_sets::rising;
 use crate::state_maps::StateMap;
-use mx_graph::{EventNo, Graph};
+use mx_graph::{EventNo, Graph, graph_is_sound};
 use std::alloc::{AllocError, Global};
 
 /// The unconflicted state: the entries that every state has.
@@ -57,18 +58,20 @@ fn has_entry(state: &StateMap, entry: &StateEntry) -> bool
     }
 }
 
-// The events of the entries that are not in the unconflicted state.
-fn conflicted_events(
+/// For each state, the events of its entries that are not in the unconflicted state.
+pub(crate) fn conflicted_events(
     alloc: Global,
     agreed: &StateMap,
     states: &[&StateMap],
-) -> Result<Vec<EventNo>, AllocError>
-    ensures { IfOk result (λ found. found.items ≡ flat_map
+) -> Result<Vec<Vec<EventNo>>, AllocError>
+    ensures { IfOk result (λ found. map (λ events. events.items) found.items ≡ map
         (λ s. events_in (filter (λ e. not (definition.has_entry e agreed.now)) s.now)) states.now) }
 {
     let mut found = Vec::new(alloc);
     for state in states {
-        push_conflicted(&mut found, agreed, state)?;
+        let mut events = Vec::new(alloc);
+        push_conflicted(&mut events, agreed, state)?;
+        found.push(events)?;
     }
     Ok(found)
 }
@@ -92,41 +95,8 @@ fn push_conflicted(
     Ok(())
 }
 
-// The auth difference, rising: the events in the auth chains of some states that are not in those of all. The time is
-// that of the chains, times a logarithm: an event is looked for in no more chains than have it, and one.
-fn auth_difference(
-    alloc: Global,
-    graph: &Graph,
-    states: &[&StateMap],
-) -> Result<Vec<EventNo>, AllocError>
-    ensures { IfOk result (λ events. events.items ≡ definition.auth_difference graph.now (map (λ s. s.now) states.now)) }
-{
-    let chains = auth_chains(alloc, graph, states)?;
-    let all = events_of_all(alloc, &chains)?;
-    let events = unshared(alloc, &all, &chains)?;
-    Ok(events)
-}
-
-// The auth chains of the events of each state.
-fn auth_chains(
-    alloc: Global,
-    graph: &Graph,
-    states: &[&StateMap],
-) -> Result<Vec<Vec<EventNo>>, AllocError>
-    ensures chains { IfOk result (λ chains. map (λ c. c.items) chains.items
-        ≡ map (λ s. auth_chain graph.now (events_in s.now)) states.now) }
-    ensures rises { IfOk result (λ chains. All (λ c. Rises c.items) chains.items) }
-{
-    let mut chains = Vec::new(alloc);
-    for state in states {
-        let events = events_of(alloc, state)?;
-        let chain = graph.auth_chain(alloc, &events)?;
-        chains.push(chain)?;
-    }
-    Ok(chains)
-}
-
-fn events_of(alloc: Global, state: &StateMap) -> Result<Vec<EventNo>, AllocError>
+/// The events of the entries of a state.
+pub(crate) fn events_of(alloc: Global, state: &StateMap) -> Result<Vec<EventNo>, AllocError>
     ensures { IfOk result (λ events. events.items ≡ events_in state.now) }
 {
     state
@@ -136,52 +106,19 @@ fn events_of(alloc: Global, state: &StateMap) -> Result<Vec<EventNo>, AllocError
         .collect(alloc)
 }
 
-// The events of all chains, rising.
-fn events_of_all(alloc: Global, chains: &[Vec<EventNo>]) -> Result<Vec<EventNo>, AllocError>
-    ensures rises { IfOk result (λ all. Rises all.items) }
-    ensures same { IfOk result (λ all. (p : ℕ) → is_in all.items p ≡ list_any (λ c. is_in c.items p) chains.now) }
-{
-    let joined = joined(alloc, chains)?;
-    let all = rising(alloc, &joined)?;
-    Ok(all)
-}
-
-fn joined(alloc: Global, chains: &[Vec<EventNo>]) -> Result<Vec<EventNo>, AllocError>
-    ensures { IfOk result (λ all. all.items ≡ flat_map (λ c. c.items) chains.now) }
+/// The events of some lists, one list after another.
+pub(crate) fn joined(alloc: Global, lists: &[Vec<EventNo>]) -> Result<Vec<EventNo>, AllocError>
+    ensures { IfOk result (λ all. all.items ≡ flat_map (λ c. c.items) lists.now) }
 {
     let mut all = Vec::new(alloc);
-    for chain in chains {
-        all.extend_from_slice(chain)?;
+    for events in lists {
+        all.extend_from_slice(events)?;
     }
     Ok(all)
 }
 
-// Those of the events that are not in all of the chains.
-fn unshared(
-    alloc: Global,
-    events: &[EventNo],
-    chains: &[Vec<EventNo>],
-) -> Result<Vec<EventNo>, AllocError>
-    requires { All (λ c. Rises c.items) chains.now }
-    ensures { IfOk result (λ found. found.items
-        ≡ filter (λ p. not (list_all (λ c. is_in c.items p) chains.now)) events.now) }
-{
-    events
-        .iter()
-        .copied()
-        .filter(|event| !is_shared(chains, *event))
-        .collect(alloc)
-}
-
-fn is_shared(chains: &[Vec<EventNo>], event: EventNo) -> bool
-    requires { All (λ c. Rises c.items) chains.now }
-    ensures { result ≡ list_all (λ c. is_in c.items event) chains.now }
-{
-    chains.iter().all(|chain| stands_in(chain, event))
-}
-
 /// The full conflicted set, rising: the events of the entries that are not in the unconflicted state, and the auth
-/// difference.
+/// difference. Where the auth chains differ is found from these events and from those that all states share.
 pub(crate) fn full_conflicted(
     alloc: Global,
     graph: &Graph,
@@ -189,13 +126,17 @@ pub(crate) fn full_conflicted(
     states: &[&StateMap],
 ) -> Result<Vec<EventNo>, AllocError>
     requires known { All (λ s. All (λ e. e.1 < length graph.now) s.now) states.now }
+    requires unconflicted { agreed.now ≡ definition.unconflicted (map (λ s. s.now) states.now) }
     requires agreed { IsAgreed agreed.now (map (λ s. s.now) states.now) }
     ensures set { IfOk result (λ events. events.items ≡ definition.full_conflicted graph.now (map (λ s. s.now) states.now)) }
     ensures rises { IfOk result (λ events. Rises events.items) }
     ensures known { IfOk result (λ events. All (λ event. event < length graph.now) events.items) }
 {
-    let mut found = conflicted_events(alloc, agreed, states)?;
-    let difference = auth_difference(alloc, graph, states)?;
+    graph_is_sound(graph);
+    let apart = conflicted_events(alloc, agreed, states)?;
+    let shared = events_of(alloc, agreed)?;
+    let difference = chain_difference(alloc, graph, &shared, &apart)?;
+    let mut found = joined(alloc, &apart)?;
     found.extend_from_slice(&difference)?;
     let events = rising(alloc, &found)?;
     Ok(events)

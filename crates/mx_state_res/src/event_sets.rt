@@ -20,7 +20,8 @@ pub fn rising(alloc: Global, events: &[EventNo]) -> Result<Vec<EventNo>, AllocEr
     Ok(found)
 }
 
-fn set_of(alloc: Global, events: &[EventNo]) -> Result<BTreeSet<EventNo>, AllocError>
+/// The set of these events. The time is that of the list, times a logarithm.
+pub(crate) fn set_of(alloc: Global, events: &[EventNo]) -> Result<BTreeSet<EventNo>, AllocError>
     ensures { IfOk result (λ set. (p : ℕ) → contains nat_cmp set p ≡ is_in events.now p) }
 {
     let mut set = BTreeSet::new(alloc);

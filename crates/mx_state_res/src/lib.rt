@@ -3,11 +3,15 @@
 #![tactic(auto)]
 
 mod auth_checks;
+mod chain_difference;
+mod chain_walks;
 mod conflicts;
 mod entries;
 mod event_sets;
 mod judged_states;
 mod laws;
+mod masks;
+mod plain_conflicts;
 mod powers;
 mod resolving;
 mod state_maps;
@@ -17,3 +21,6 @@ pub use event_sets::rising;
 pub use laws::{equal_states_resolve_to_themselves, one_state_resolves_to_itself};
 pub use resolving::resolve;
 pub use state_maps::StateMap;
+
+#[cfg(test)]
+mod conflict_tests;

@@ -3,7 +3,7 @@ use Rattle.std.specs.List.{All}
 use Rattle.mx_graph.specs.Edges.{Rises}
 use Rattle.mx_graph.specs.Graph.{auth_chain}
 use Rattle.mx_orders.specs.StateMap.{events_of}
-use Rattle.mx_state_res.proofs.conflicts.auth_chains.Given as goal
+use Rattle.mx_state_res.proofs.plain_conflicts.auth_chains.Given as goal
 
 -- the chains so far
 abbrev pub invariant-loop-state : goal.invariant-loop-state

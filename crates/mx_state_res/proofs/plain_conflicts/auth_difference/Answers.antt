@@ -1,5 +1,5 @@
 use Rattle.mx_state_res.proofs.ConflictLemmas.{difference-found}
-use Rattle.mx_state_res.proofs.conflicts.auth_difference.Goals as goal
+use Rattle.mx_state_res.proofs.plain_conflicts.auth_difference.Goals as goal
 
 pub returns : goal.returns
 returns c =
