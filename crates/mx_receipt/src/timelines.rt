@@ -245,7 +245,23 @@ impl Timeline {
     {
         self.discard();
         self.check(&event, &id)?;
-        let made = prepare_in(
+        let verdict = self.prepare_checked(event, id)?;
+        Ok(verdict)
+    }
+
+    /// [`prepare`](Timeline::prepare) for an event that [`check`](Timeline::check) lets pass, which it does not ask
+    /// again. `AllocError` where no memory is left.
+    pub fn prepare_checked(&mut self, event: Pdu, id: EventId) -> Result<Verdict, AllocError>
+        requires { definition.offer_error (definition.rows_of self.old.kept) id event ≡ None }
+        ensures verdict { IfOk result (λ verdict. verdict ≡ definition.verdict self.old.kept event) }
+        ensures prepared { OnOk result (self.new ≡ record {
+          kept = self.old.kept;
+          prepared = Some (definition.judged self.old.kept id event);
+        }) }
+        ensures err { OnErr result (self.new ≡ record { kept = self.old.kept; prepared = None }) }
+    {
+        self.discard();
+        let (verdict, prepared) = prepare_in(
             self.alloc,
             &mut self.graph,
             &mut self.judgements,
@@ -253,14 +269,9 @@ impl Timeline {
             &self.current,
             event,
             id,
-        );
-        match made {
-            Ok((verdict, prepared)) => {
-                self.prepared = Some(prepared);
-                Ok(verdict)
-            }
-            Err(AllocError) => Err(OfferError::Memory),
-        }
+        )?;
+        self.prepared = Some(prepared);
+        Ok(verdict)
     }
 
     /// Adds the event that is prepared. It takes no memory.
