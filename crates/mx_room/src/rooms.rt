@@ -1,9 +1,9 @@
 // One room.
-ghost use Rattle.std.specs.Prelude.{◌≡◌, ◌↔◌, IfOk, IsErrOf, IsTrue, None, OnErr, OnOk, Option, Some, codes, is_ok, length, option_copied};
+ghost use Rattle.std.specs.Prelude.{◌≡◌, ◌↔◌, IfOk, IsErrOf, IsTrue, None, OnErr, OnOk, Option, Some, codes, is_ok, length, option_copied, option_map};
 ghost use Rattle.mx_pdu.specs.Event.{has_kind, room_of};
 ghost use Rattle.mx_graph.specs.Record.{place_of};
 ghost use Rattle.mx_receipt.specs.Receipt as receipt;
-ghost use Rattle.mx_receipt.specs.Receipt.{rows_of};
+ghost use Rattle.mx_receipt.specs.Receipt.{Kept, rows_of};
 ghost use Rattle.mx_room.specs.Asking.{event_shown, query_answer};
 ghost use Rattle.mx_room.specs.Hosting.{host_error};
 ghost use Rattle.mx_room.specs.Offer.{is_kept, offer_outcome, refusal_by, refusal_error, row_by};
@@ -113,6 +113,14 @@ impl Room {
         ensures { self.new ≡ record { id = self.old.id; kept = self.old.kept; prepared = None } }
     {
         self.timeline.discard();
+    }
+
+    /// The event that is prepared, in the form in which it would be kept; none where none is prepared. It takes no
+    /// memory.
+    pub fn prepared_event(&self) -> Option<&Pdu>
+        ensures { option_copied result ≡ option_map (λ (kept : Kept). kept.event) self.now.prepared }
+    {
+        self.timeline.prepared_event()
     }
 
     /// Its id.
