@@ -17,7 +17,7 @@ use crate::queries::{Denied, Query, QueryReply};
 use mx_graph::EventNo;
 use mx_ident::{EventId, RoomId};
 use mx_pdu::{Offered, Pdu};
-use mx_receipt::{NotReceived, OfferError, Timeline};
+use mx_receipt::{NotReceived, Timeline};
 use std::alloc::{AllocError, Global};
 use std::marker::Model;
 
@@ -233,11 +233,8 @@ fn keep_in(alloc: Global, timeline: &mut Timeline, offered: &Offered) -> Result<
 {
     let event = kept_form(alloc, offered)?;
     let id = offered.id.clone()?;
-    match timeline.prepare(event, id) {
-        Ok(verdict) => Ok(Outcome::Kept(verdict)),
-        Err(OfferError::Memory) => Err(AllocError),
-        Err(OfferError::NotReceived(_)) => unreachable!(),
-    }
+    let verdict = timeline.prepare_checked(event, id)?;
+    Ok(Outcome::Kept(verdict))
 }
 
 #[tactic(auto, unfolding(crate::specs::Asking::query_answer))]
