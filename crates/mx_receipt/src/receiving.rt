@@ -168,6 +168,14 @@ fn add(
     }
 }
 
+/// The event of the last row.
+pub(crate) fn last_event(graph: &Graph) -> &Pdu
+    requires { 0 < length graph.now }
+    ensures { (rows : List Row) (row : Row) → graph.now ≡ rows ++ row ∷ [] → result.now ≡ row.event }
+{
+    &graph.row(EventNo::at(graph.len() as u32 - 1)).event
+}
+
 /// Removes the last event. It takes no memory.
 pub(crate) fn remove_last(graph: &mut Graph, judgements: &mut Vec<Judgement>)
     ensures rows { (rows : List Row) (row : Row) → graph.old ≡ rows ++ row ∷ [] → graph.new ≡ rows }

@@ -1,16 +1,17 @@
 // A room's events under their verdicts.
-ghost use Rattle.std.specs.Prelude.{◌≡◌, ◌<◌, ◌≤◌, ◌↔◌, ◌++◌, ◌∷◌, All, IfOk, IfSome, IsErrOf, None, OnErr, OnOk, Option, Some, [], is_none, length};
+ghost use Rattle.std.specs.Prelude.{◌≡◌, ◌<◌, ◌≤◌, ◌↔◌, ◌++◌, ◌∷◌, All, IfOk, IfSome, IsErrOf, None, OnErr, OnOk, Option, Some, [], is_none, length, option_copied, option_map};
 ghost use Rattle.std.specs.Arc.{arc_value};
 ghost use Rattle.std.specs.List.{list_any};
 ghost use Rattle.std.specs.Result.{result_err};
 ghost use Rattle.mx_graph.specs.Record.{place_of, row as row_at};
 ghost use Rattle.mx_receipt.specs.Judgements.{IsKept, kept_of};
 ghost use Rattle.mx_receipt.specs.Receipt as definition;
+ghost use Rattle.mx_receipt.specs.Receipt.{Kept};
 ghost use Rattle.mx_receipt.specs.TimelineView.{IsSoundCreate};
 ghost use Rattle.mx_receipt.specs.Timelines.{IsTimeline};
 ghost use Rattle.mx_receipt.specs.declared.refusals.NotReceived.{NotReceived as Cause};
 
-use crate::receiving::{begin_in, prepare_in, remove_last};
+use crate::receiving::{begin_in, last_event, prepare_in, remove_last};
 use crate::refusals::{NotReceived, OfferError};
 use crate::snapshots::Judgement;
 use crate::verdicts::Verdict;
@@ -117,6 +118,17 @@ impl Timeline {
         ensures { result.now ≡ row_at (definition.rows_of self.now.kept) number }
     {
         self.graph.row(number)
+    }
+
+    /// The event that is prepared, in the form in which it would be kept; none where none is prepared. It takes no
+    /// memory.
+    pub fn prepared_event(&self) -> Option<&Pdu>
+        ensures { option_copied result ≡ option_map (λ (kept : Kept). kept.event) self.now.prepared }
+    {
+        match &self.prepared {
+            Some(_) => Some(last_event(&self.graph)),
+            None => None,
+        }
     }
 
     /// The verdict on the event with this number.
@@ -233,7 +245,23 @@ impl Timeline {
     {
         self.discard();
         self.check(&event, &id)?;
-        let made = prepare_in(
+        let verdict = self.prepare_checked(event, id)?;
+        Ok(verdict)
+    }
+
+    /// [`prepare`](Timeline::prepare) for an event that [`check`](Timeline::check) lets pass, which it does not ask
+    /// again. `AllocError` where no memory is left.
+    pub fn prepare_checked(&mut self, event: Pdu, id: EventId) -> Result<Verdict, AllocError>
+        requires { definition.offer_error (definition.rows_of self.old.kept) id event ≡ None }
+        ensures verdict { IfOk result (λ verdict. verdict ≡ definition.verdict self.old.kept event) }
+        ensures prepared { OnOk result (self.new ≡ record {
+          kept = self.old.kept;
+          prepared = Some (definition.judged self.old.kept id event);
+        }) }
+        ensures err { OnErr result (self.new ≡ record { kept = self.old.kept; prepared = None }) }
+    {
+        self.discard();
+        let (verdict, prepared) = prepare_in(
             self.alloc,
             &mut self.graph,
             &mut self.judgements,
@@ -241,14 +269,9 @@ impl Timeline {
             &self.current,
             event,
             id,
-        );
-        match made {
-            Ok((verdict, prepared)) => {
-                self.prepared = Some(prepared);
-                Ok(verdict)
-            }
-            Err(AllocError) => Err(OfferError::Memory),
-        }
+        )?;
+        self.prepared = Some(prepared);
+        Ok(verdict)
     }
 
     /// Adds the event that is prepared. It takes no memory.

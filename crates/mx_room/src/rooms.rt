@@ -1,9 +1,9 @@
 // One room.
-ghost use Rattle.std.specs.Prelude.{◌≡◌, ◌↔◌, IfOk, IsErrOf, IsTrue, None, OnErr, OnOk, Option, Some, codes, is_ok, length, option_copied};
+ghost use Rattle.std.specs.Prelude.{◌≡◌, ◌↔◌, IfOk, IsErrOf, IsTrue, None, OnErr, OnOk, Option, Some, codes, is_ok, length, option_copied, option_map};
 ghost use Rattle.mx_pdu.specs.Event.{has_kind, room_of};
 ghost use Rattle.mx_graph.specs.Record.{place_of};
 ghost use Rattle.mx_receipt.specs.Receipt as receipt;
-ghost use Rattle.mx_receipt.specs.Receipt.{rows_of};
+ghost use Rattle.mx_receipt.specs.Receipt.{Kept, rows_of};
 ghost use Rattle.mx_room.specs.Asking.{event_shown, query_answer};
 ghost use Rattle.mx_room.specs.Hosting.{host_error};
 ghost use Rattle.mx_room.specs.Offer.{is_kept, offer_outcome, refusal_by, refusal_error, row_by};
@@ -17,7 +17,7 @@ use crate::queries::{Denied, Query, QueryReply};
 use mx_graph::EventNo;
 use mx_ident::{EventId, RoomId};
 use mx_pdu::{Offered, Pdu};
-use mx_receipt::{NotReceived, OfferError, Timeline};
+use mx_receipt::{NotReceived, Timeline};
 use std::alloc::{AllocError, Global};
 use std::marker::Model;
 
@@ -113,6 +113,14 @@ impl Room {
         ensures { self.new ≡ record { id = self.old.id; kept = self.old.kept; prepared = None } }
     {
         self.timeline.discard();
+    }
+
+    /// The event that is prepared, in the form in which it would be kept; none where none is prepared. It takes no
+    /// memory.
+    pub fn prepared_event(&self) -> Option<&Pdu>
+        ensures { option_copied result ≡ option_map (λ (kept : Kept). kept.event) self.now.prepared }
+    {
+        self.timeline.prepared_event()
     }
 
     /// Its id.
@@ -225,11 +233,8 @@ fn keep_in(alloc: Global, timeline: &mut Timeline, offered: &Offered) -> Result<
 {
     let event = kept_form(alloc, offered)?;
     let id = offered.id.clone()?;
-    match timeline.prepare(event, id) {
-        Ok(verdict) => Ok(Outcome::Kept(verdict)),
-        Err(OfferError::Memory) => Err(AllocError),
-        Err(OfferError::NotReceived(_)) => unreachable!(),
-    }
+    let verdict = timeline.prepare_checked(event, id)?;
+    Ok(Outcome::Kept(verdict))
 }
 
 #[tactic(auto, unfolding(crate::specs::Asking::query_answer))]

@@ -1,7 +1,7 @@
 // Events that are offered.
-ghost use Rattle.std.specs.Prelude.{◌≡◌, ◌<◌, ◌++◌, ◌∷◌, ℕ, List, [], None, All, IfOk, OnOk, OnErr, IsTrue, length, option_map, slice_set, vec_len, vec_capacity};
+ghost use Rattle.std.specs.Prelude.{◌≡◌, ◌<◌, ◌++◌, ◌∷◌, ℕ, List, [], None, All, IfOk, OnOk, OnErr, IsTrue, is_some, length, option_map, slice_set, vec_len, vec_capacity};
 ghost use Rattle.mx_pdu.specs.Event.{room_of};
-ghost use Rattle.mx_room.specs.Offer.{as_kept, is_kept, offer_outcome, row_by};
+ghost use Rattle.mx_room.specs.Offer.{is_kept, offer_outcome, row_by};
 ghost use Rattle.mx_shard.specs.Inside.{IsNumbered, IsReady, room_at, rows_in, with_prepared, with_kept};
 ghost use Rattle.mx_shard.specs.LoneRoom.{to_offer, answer};
 ghost use Rattle.mx_shard.specs.Told.{tells_kept};
@@ -13,7 +13,7 @@ use crate::storing::row_for;
 use mx_ident::RoomId;
 use mx_keeper::ShardRow;
 use mx_pdu::Offered;
-use mx_room::{Outcome, Room, kept_form};
+use mx_room::{Outcome, Room};
 use std::alloc::{AllocError, Global};
 use std::collections::BTreeMap;
 
@@ -75,24 +75,27 @@ fn prepare_in(
     ensures err { OnErr result (room.new ≡ with_prepared room.old None) }
 {
     let outcome = room.prepare(alloc, offered)?;
-    match outcome {
-        Outcome::Kept(_) => match row_in(alloc, caller, offered) {
-            Ok(row) => Ok((outcome, Some(row))),
-            Err(error) => {
-                room.discard();
-                Err(error)
-            }
-        },
-        Outcome::Known(_) | Outcome::Refused(_) => Ok((outcome, None)),
+    match row_in(room, caller, offered) {
+        Ok(row) => Ok((outcome, row)),
+        Err(error) => {
+            room.discard();
+            Err(error)
+        }
     }
 }
 
-// The row that is stored of the event, in the form in which it is kept.
-fn row_in(alloc: Global, caller: u64, offered: &Offered) -> Result<ShardRow, AllocError>
-    ensures { IfOk result (λ row. row ≡ record { room = room_of offered.now.pdu; event = as_kept offered.now; caller = caller }) }
+// The row that is stored of the event that the room is prepared to keep. The row and the room share the event.
+fn row_in(room: &Room, caller: u64, offered: &Offered) -> Result<Option<ShardRow>, AllocError>
+    ensures row { IfOk result (λ row. row ≡ option_map (row_of (room_of offered.now.pdu) caller) room.now.prepared) }
+    ensures memory { OnErr result (IsTrue (is_some room.now.prepared)) }
 {
-    let event = kept_form(alloc, offered)?;
-    row_for(offered, event, caller)
+    match room.prepared_event() {
+        Some(event) => {
+            let row = row_for(offered, event.clone()?, caller)?;
+            Ok(Some(row))
+        }
+        None => Ok(None),
+    }
 }
 
 /// Adds the event that its room is prepared to keep, and its entry, and gives the answer. It takes no memory.
