@@ -34,7 +34,7 @@ fn numbers_of(alloc: Global, graph: &Graph, ids: &[EventId]) -> Result<Vec<Event
     ensures numbers { IfOk result (λ numbers. numbers.items ≡ filter_map (place_of graph.now) ids.now) }
     ensures known { IfOk result (λ numbers. All (λ number. number < length graph.now) numbers.items) }
 {
-    let mut numbers = Vec::new(alloc);
+    let mut numbers = Vec::with_capacity(alloc, ids.len())?;
     for id in ids {
         if let Some(number) = graph.find(id) {
             numbers.push(number)?;
