@@ -98,7 +98,7 @@ impl Graph {
         self.check(&row)?;
         let prev_events = self.numbers_of(row.event.prev_events())?;
         let auth_events = self.numbers_of(row.event.auth_events())?;
-        let number = self.store(row, prev_events, auth_events)?;
+        let number = self.add_checked(row, prev_events, auth_events)?;
         Ok(number)
     }
 
@@ -141,8 +141,9 @@ impl Graph {
             .collect(self.alloc)
     }
 
-    // What can fail goes first, so that an error leaves the rows as they were.
-    fn store(
+    /// [`add`](Graph::add) for a row that [`check`](Graph::check) lets pass, with the numbers of the events that it
+    /// cites, so that none is looked up again. `AllocError` where no memory is left; the rows stay.
+    pub fn add_checked(
         &mut self,
         row: GraphRow,
         prev_events: Vec<EventNo>,
@@ -154,6 +155,7 @@ impl Graph {
         ensures ok { IfOk result (λ number. (self.new ≡ self.old ++ row ∷ []) × (number ≡ length self.old)) }
         ensures err { OnErr result (self.new ≡ self.old) }
     {
+        // What can fail goes first, so that an error leaves the rows as they were.
         let number = EventNo::at(self.rows.len() as u32);
         let id = row.id.clone()?;
         self.rows.reserve(1)?;

@@ -9,7 +9,6 @@ ghost use Rattle.mx_receipt.specs.Receipt as definition;
 ghost use Rattle.mx_receipt.specs.Citing.{cited_in};
 ghost use Rattle.mx_receipt.specs.declared.verdicts.Verdict.TheVariants.{Accepted, SoftFailed as soft_failed, Rejected as rejected};
 
-use crate::citing::numbers_of;
 use crate::room_states::{failure_in, state_of};
 use crate::verdicts::Verdict;
 use mx_auth::{CitedEvent, Rule, judge_auth_events};
@@ -18,16 +17,20 @@ use mx_pdu::Pdu;
 use mx_state_res::StateMap;
 use std::alloc::{AllocError, Global};
 
-/// The verdict on an event, by its auth events, by the state before it, and by the room's current state.
+/// The verdict on an event, by its auth events, by the state before it, and by the room's current state. The numbers are
+/// those of its auth events.
 ///
 /// Source: the Matrix specification, Server-Server API, "Checks performed on receipt of a PDU", checks 4, 5 and 6.
 pub(crate) fn judged(
     alloc: Global,
     graph: &Graph,
     event: &Pdu,
+    auth_events: &[EventNo],
     before: &StateMap,
     current: &StateMap,
 ) -> Result<Verdict, AllocError>
+    requires auth { auth_events.now ≡ record_of.auth_events graph.now event.now }
+    requires known { All (λ number. number < length graph.now) auth_events.now }
     requires before { All (λ e. e.1 < length graph.now) before.now }
     requires current { All (λ e. e.1 < length graph.now) current.now }
     ensures { IfOk result (λ verdict. verdict
@@ -35,7 +38,7 @@ pub(crate) fn judged(
         (definition.accept_or rejected (rules event.now (view graph.now before.now))
         (definition.accept_or soft_failed (rules event.now (view graph.now current.now)) Accepted))) }
 {
-    if let Some(rule) = auth_failure(alloc, graph, event)? {
+    if let Some(rule) = auth_failure(alloc, graph, event, auth_events)? {
         return Ok(Verdict::Rejected(rule));
     }
     if let Some(rule) = failure_in(graph, before, event) {
@@ -49,15 +52,21 @@ pub(crate) fn judged(
 
 // The line that does not allow an event by its auth events, or in the state that these make.
 #[tactic(auto, unfolding(crate::specs::Receipt::auth_failure))]
-fn auth_failure(alloc: Global, graph: &Graph, event: &Pdu) -> Result<Option<Rule>, AllocError>
+fn auth_failure(
+    alloc: Global,
+    graph: &Graph,
+    event: &Pdu,
+    auth_events: &[EventNo],
+) -> Result<Option<Rule>, AllocError>
+    requires auth { auth_events.now ≡ record_of.auth_events graph.now event.now }
+    requires known { All (λ number. number < length graph.now) auth_events.now }
     ensures { IfOk result (λ rule. rule ≡ definition.auth_failure graph.now event.now) }
 {
-    let numbers = numbers_of(alloc, graph, event.auth_events())?;
-    let cited = cited_events(alloc, graph, &numbers)?;
+    let cited = cited_events(alloc, graph, auth_events)?;
     if let Err(rule) = judge_auth_events(event, &cited) {
         return Ok(Some(rule));
     }
-    let state = state_of(alloc, graph, &numbers)?;
+    let state = state_of(alloc, graph, auth_events)?;
     Ok(failure_in(graph, &state, event))
 }
 

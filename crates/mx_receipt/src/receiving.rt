@@ -12,7 +12,7 @@ ghost use Rattle.mx_graph.specs.Record.{Row};
 ghost use Rattle.mx_receipt.specs.TimelineView.{IsSoundCreate};
 ghost use Rattle.mx_receipt.specs.declared.snapshots.Judgement.{Judgement as Judged};
 
-use crate::citing::numbers_of;
+use crate::citing::{Cited, cited_by};
 use crate::covering::next_extremities;
 use crate::judging::judged;
 use crate::snapshots::{Judgement, resolved_after, state_after};
@@ -72,7 +72,8 @@ struct JudgedEvent {
     extremities: Vec<EventNo>,
 }
 
-// Judges an event, and finds the states before and after it and the forward extremities after it.
+// Judges an event that cites these events, and finds the states before and after it and the forward extremities after
+// it.
 fn judged_event(
     alloc: Global,
     graph: &Graph,
@@ -80,22 +81,26 @@ fn judged_event(
     extremities: &[EventNo],
     current: &StateMap,
     event: &Pdu,
+    cited: &Cited,
 ) -> Result<JudgedEvent, AllocError>
     requires kept { IsKept graph.now judgements.now extremities.now current.now }
+    requires prev { cited.now.prev_events.items ≡ record_of.prev_events graph.now event.now }
+    requires auth { cited.now.auth_events.items ≡ record_of.auth_events graph.now event.now }
+    requires known_prev { All (λ number. number < length graph.now) cited.now.prev_events.items }
+    requires known_auth { All (λ number. number < length graph.now) cited.now.auth_events.items }
     ensures verdict { IfOk result (λ judged. judged.judgement.verdict ≡ definition.verdict (kept_of graph.now judgements.now) event.now) }
     ensures judged { IfOk result (λ judged. (id : List ℕ) → IsJudged graph.now judgements.now extremities.now
         (record { id = id; event = event.now; rejected = definition.is_rejected judged.judgement.verdict }) judged.judgement judged.extremities.items) }
 {
-    let prev_events = numbers_of(alloc, graph, event.prev_events())?;
-    let before = state_before(alloc, graph, judgements, &prev_events)?;
-    let verdict = judged(alloc, graph, event, &before, current)?;
+    let before = state_before(alloc, graph, judgements, &cited.prev_events)?;
+    let verdict = judged(alloc, graph, event, &cited.auth_events, &before, current)?;
     let number = next_number(graph);
     let after = state_after(alloc, &before, event, number, verdict)?;
     let extremities = extremities_after(
         alloc,
         graph,
         judgements,
-        &prev_events,
+        &cited.prev_events,
         extremities,
         number,
         verdict,
@@ -117,27 +122,18 @@ fn next_number(graph: &Graph) -> EventNo
     EventNo::at(graph.len() as u32)
 }
 
-// Adds a row that a graph takes.
-fn store(graph: &mut Graph, row: GraphRow) -> Result<(), AllocError>
-    requires { add_error graph.old row ≡ None }
-    ensures ok { OnOk result (graph.new ≡ graph.old ++ row ∷ []) }
-    ensures err { OnErr result (graph.new ≡ graph.old) }
-{
-    match graph.add(row) {
-        Ok(_) => Ok(()),
-        Err(_) => Err(AllocError),
-    }
-}
-
 // Adds an event that is judged. It gives the forward extremities and the current state with it.
 fn add(
     alloc: Global,
     graph: &mut Graph,
     judgements: &mut Vec<Judgement>,
     row: GraphRow,
+    cited: Cited,
     event: JudgedEvent,
 ) -> Result<Prepared, AllocError>
     requires free { add_error graph.old row ≡ None }
+    requires prev { cited.prev_events.items ≡ record_of.prev_events graph.old row.event }
+    requires auth { cited.auth_events.items ≡ record_of.auth_events graph.old row.event }
     requires known { KnowsAll (graph.old ++ row ∷ []) (judgements.old.items ++ event.judgement ∷ []) }
     requires below { All (λ p. p < length (judgements.old.items ++ event.judgement ∷ [])) event.extremities.items }
     ensures rows { OnOk result (graph.new ≡ graph.old ++ row ∷ []) }
@@ -154,7 +150,7 @@ fn add(
         extremities,
     } = event;
     judgements.reserve(1)?;
-    store(graph, row)?;
+    graph.add_checked(row, cited.prev_events, cited.auth_events)?;
     judgements.push_reserved(judgement);
     match resolved_after(alloc, graph, judgements, &extremities) {
         Ok(current) => Ok(Prepared {
@@ -204,14 +200,23 @@ pub(crate) fn prepare_in(
     ensures err_judgements { OnErr result (judgements.new.items ≡ judgements.old.items) }
 {
     graph_is_sound(graph);
-    let judged = judged_event(alloc, graph, judgements, extremities, current, &event)?;
+    let cited = cited_by(alloc, graph, &event)?;
+    let judged = judged_event(
+        alloc,
+        graph,
+        judgements,
+        extremities,
+        current,
+        &event,
+        &cited,
+    )?;
     let verdict = judged.judgement.verdict;
     let row = GraphRow {
         id,
         event,
         rejected: verdict.is_rejected(),
     };
-    let prepared = add(alloc, graph, judgements, row, judged)?;
+    let prepared = add(alloc, graph, judgements, row, cited, judged)?;
     graph_is_sound(graph);
     Ok((verdict, prepared))
 }
@@ -231,6 +236,7 @@ pub(crate) fn begin_in(
     ensures begun { OnOk result (kept_of graph.new judgements.new.items ≡ definition.begun id event) }
 {
     graph_is_sound(graph);
+    let cited = cited_by(alloc, graph, &event)?;
     let before = Arc::new(alloc, StateMap::new(alloc))?;
     let first = EventNo::at(0);
     let after = state_after(alloc, &before, &event, first, Verdict::Accepted)?;
@@ -249,7 +255,7 @@ pub(crate) fn begin_in(
         event,
         rejected: false,
     };
-    let prepared = add(alloc, graph, judgements, row, judged)?;
+    let prepared = add(alloc, graph, judgements, row, cited, judged)?;
     graph_is_sound(graph);
     Ok(prepared)
 }

@@ -1,7 +1,7 @@
-use Rattle.std.proofs.Common.{◌≡◌, filter_map, refl, ap, subst, ◌∙◌}
+use Rattle.std.proofs.Common.{◌≡◌, refl, ap, subst, ◌∙◌}
 use Rattle.std.specs.Arc.{arc_value}
 use Rattle.std.specs.Prelude.{if◌then◌else◌}
-use Rattle.mx_graph.specs.Record.{place_of, is_in, events_where, prev_events}
+use Rattle.mx_graph.specs.Record.{is_in, events_where, prev_events}
 use Rattle.mx_orders.specs.StateMap.{with_event}
 use Rattle.mx_state_res.specs.Resolution.{resolve}
 use Rattle.mx_receipt.specs.Judgements.{kept_of, afters, verdicts_of, AreAfter}
@@ -11,16 +11,16 @@ use Rattle.mx_receipt.proofs.receiving.judged_event.Goals as goal
 
 pub returns-clause-verdict : goal.returns-clause-verdict
 returns-clause-verdict c =
-    let prevs : c.deref.result.now ≡ prev_events c.args.graph.now c.args.event.now = c.deref.ensures.value ∙ c.in_ok-prev_events.ensures.numbers ∙ ap (filter_map (place_of c.args.graph.now)) c.prev_events.ensures.ids in
+    let prevs : c.deref.result.now ≡ prev_events c.args.graph.now c.args.event.now = c.deref.ensures.value ∙ c.requires.prev in
     let before : arc_value c.in_ok-before.before ≡ state_before_next (kept_of c.args.graph.now c.args.judgements.now) c.args.event.now =
     c.in_ok-before.ensures.resolved ∙ ap (λ xs. resolve c.args.graph.now (states_at (afters c.args.judgements.now) (events_where c.args.graph.now (is_in xs)))) prevs
     ∙ before-is c.args.graph.now c.args.judgements.now c.args.extremities.now c.args.current.now c.requires.kept c.args.event.now in
-    c.in_ok-verdict.ensures ∙ verdict-is c.args.graph.now c.args.judgements.now c.args.extremities.now c.args.current.now c.requires.kept c.args.event.now c.deref-2.result.now (c.deref-2.ensures ∙ before)
+    c.in_ok-verdict.ensures ∙ verdict-is c.args.graph.now c.args.judgements.now c.args.extremities.now c.args.current.now c.requires.kept c.args.event.now c.deref-3.result.now (c.deref-3.ensures ∙ before)
 
 pub returns-clause-judged : goal.returns-clause-judged
 returns-clause-judged c = λ id.
-    let prevs : c.deref.result.now ≡ prev_events c.args.graph.now c.args.event.now = c.deref.ensures.value ∙ c.in_ok-prev_events.ensures.numbers ∙ ap (filter_map (place_of c.args.graph.now)) c.prev_events.ensures.ids in
-    let prevs-3 : c.deref-3.result.now ≡ prev_events c.args.graph.now c.args.event.now = c.deref-3.ensures.value ∙ c.in_ok-prev_events.ensures.numbers ∙ ap (filter_map (place_of c.args.graph.now)) c.prev_events.ensures.ids in
+    let prevs : c.deref.result.now ≡ prev_events c.args.graph.now c.args.event.now = c.deref.ensures.value ∙ c.requires.prev in
+    let prevs-4 : c.deref-4.result.now ≡ prev_events c.args.graph.now c.args.event.now = c.deref-4.ensures.value ∙ c.requires.prev in
     record {
       flag = refl;
       before =
@@ -30,5 +30,5 @@ returns-clause-judged c = λ id.
       knows_before = c.in_ok-before.ensures.known;
       are_next =
           subst (λ n. AreAfter c.args.graph.now (verdicts_of c.args.judgements.now) (prev_events c.args.graph.now c.args.event.now) c.args.extremities.now n c.in_ok-verdict.verdict c.in_ok-extremities.extremities.items) c.next_number-number.ensures
-          (subst (λ xs. AreAfter c.args.graph.now (verdicts_of c.args.judgements.now) xs c.args.extremities.now c.next_number-number.result c.in_ok-verdict.verdict c.in_ok-extremities.extremities.items) prevs-3 c.in_ok-extremities.ensures);
+          (subst (λ xs. AreAfter c.args.graph.now (verdicts_of c.args.judgements.now) xs c.args.extremities.now c.next_number-number.result c.in_ok-verdict.verdict c.in_ok-extremities.extremities.items) prevs-4 c.in_ok-extremities.ensures);
     }

@@ -3,7 +3,7 @@ use Rattle.std.specs.Cmp.Lexicographic.{slice_cmp}
 use Rattle.std.specs.Map.{lookup}
 use Rattle.std.specs.Ordering.{nat_cmp, is_eq}
 use Rattle.mx_graph.proofs.IndexLemmas.{indexed-push}
-use Rattle.mx_graph.proofs.graphs.Graph.store.Goals as goal
+use Rattle.mx_graph.proofs.graphs.Graph.add_checked.Goals as goal
 
 pub invariant_of-self-2 : goal.invariant_of-self-2
 invariant_of-self-2 c =
