@@ -126,7 +126,9 @@ fn has_unselected(keys: &NeededKeys<'_>, entries: &[CitedEvent<'_>]) -> bool
     ensures { result ≡ list_any (λ cited. not (is_some_and (λ key. list_any (same_key key) keys.now) (key_of cited.event.now)))
         entries.now }
 {
-    entries.iter().any(|cited| !has_key_among(keys, cited.event))
+    entries
+        .iter()
+        .any(|cited| !has_key_among(keys, cited.event))
 }
 
 fn has_key_among(keys: &NeededKeys<'_>, event: &Pdu) -> bool
