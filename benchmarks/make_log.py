@@ -1,0 +1,221 @@
+#!/usr/bin/env python3
+"""Makes logs for `mx_federd replay`, for measuring, with true ids and hashes, and signatures of the presence form.
+
+    make_log.py --shape linear|fork|conflict|joins|wide|soft --events N [--members 50] [--batch 50]
+                 [--seed 1] [--body BYTES] > log
+    make_log.py --check-power BYTES > event       (one power levels event for `check`)
+
+linear    a base room, then N messages, each after the one before.
+fork      of every ten events the eighth (a topic) and the ninth (a message) stand on the seventh,
+          and the tenth merges them.
+conflict  rounds of eight: two power levels, a ban and two topics, all on the last event; a message
+          that merges the five; the unban and the new join of the banned member.
+joins     N new members join, one after the other: each event changes the state.
+wide      N messages that all follow the same event: N forward extremities.
+soft      A moderator is demoted; N topics of hers follow one another on the other side of a fork.
+
+In `soft` the topics are soft failed; every other event is accepted. Each transaction is an open line, its next lines
+and a close line. The base room isn't counted in N.
+"""
+
+import argparse
+import base64
+import hashlib
+import json
+import random
+import sys
+
+ROOM = "!room:s0.example"
+KEPT = {
+    "event_id", "type", "room_id", "sender", "state_key", "content", "hashes", "signatures", "depth",
+    "prev_events", "prev_state", "auth_events", "origin", "origin_server_ts", "membership",
+}
+KEPT_CONTENT = {
+    "m.room.member": {"membership"},
+    "m.room.create": {"creator"},
+    "m.room.join_rules": {"join_rule"},
+    "m.room.power_levels": {
+        "ban", "events", "events_default", "kick", "redact", "state_default", "users", "users_default",
+    },
+    "m.room.history_visibility": {"history_visibility"},
+}
+
+
+def canonical(value):
+    return json.dumps(value, sort_keys=True, separators=(",", ":"), ensure_ascii=False).encode()
+
+
+def seal(event):
+    """Adds hash and signature; the event's id."""
+    digest = hashlib.sha256(canonical(event)).digest()
+    event["hashes"] = {"sha256": base64.b64encode(digest).decode().rstrip("=")}
+    kept = {key: value for key, value in event.items() if key in KEPT}
+    allowed = KEPT_CONTENT.get(event["type"], set())
+    kept["content"] = {key: value for key, value in event["content"].items() if key in allowed}
+    digest = hashlib.sha256(canonical(kept)).digest()
+    server = event["sender"].partition(":")[2]
+    signature = base64.b64encode(digest * 2).decode().rstrip("=")
+    event["signatures"] = {server: {"ed25519:auto": signature}}
+    return "$" + base64.urlsafe_b64encode(digest).decode().rstrip("=")
+
+
+class Room:
+    def __init__(self, options):
+        self.random = random.Random(options.seed)
+        self.options = options
+        self.now = 1_600_000_000_000
+        self.events = []
+        self.depths = {}
+        self.users = ["@u%d:s%d.example" % (n, n % 10) for n in range(options.members)]
+        self.admin, *self.mods = self.users[:4]
+        self.member = {}
+        self.create = self.add("m.room.create", self.admin, [], [],
+                               {"creator": self.admin, "room_version": "6"}, "")
+        self.join(self.admin, [self.create], rules=False)
+        self.power = self.add("m.room.power_levels", self.admin, [self.member[self.admin]],
+                              [self.create, self.member[self.admin]], self.levels(0), "")
+        self.rules = self.add("m.room.join_rules", self.admin, [self.power],
+                              self.auth(self.admin), {"join_rule": "public"}, "")
+        self.tip = self.rules
+        for user in self.users[1:]:
+            self.tip = self.join(user, [self.tip])
+        self.base = len(self.events)
+
+    def levels(self, number):
+        users = {self.admin: 100, **{mod: 50 for mod in self.mods}}
+        return {"users": users, "ban": 50, "kick": 50, "state_default": 50,
+                "events": {"m.x": number % 50, "m.y": 7}}
+
+    def add(self, kind, sender, prev, auth, content, key=None):
+        self.now += 1000
+        event = {
+            "auth_events": auth,
+            "content": content,
+            "depth": 1 + max((self.depths[other] for other in prev), default=0),
+            "origin": sender.partition(":")[2],
+            "origin_server_ts": self.now,
+            "prev_events": prev,
+            "room_id": ROOM,
+            "sender": sender,
+            "type": kind,
+        }
+        if key is not None:
+            event["state_key"] = key
+        id_ = seal(event)
+        event["unsigned"] = {"age_ts": self.now + 7}
+        self.depths[id_] = event["depth"]
+        self.events.append(event)
+        return id_
+
+    def auth(self, sender, *more):
+        return [self.create, self.power, self.member[sender], *more]
+
+    def join(self, user, prev, rules=True):
+        auth = [self.create, self.power, self.rules] if rules else [self.create]
+        if user in self.member:
+            auth.append(self.member[user])
+        self.member[user] = self.add("m.room.member", user, prev, auth,
+                                     {"displayname": user[1:4], "membership": "join"}, user)
+        return self.member[user]
+
+    def message(self, sender, prev):
+        body = "".join(self.random.choices("etaoin shrdlu", k=self.options.body))
+        return self.add("m.room.message", sender, prev, self.auth(sender),
+                        {"body": body, "msgtype": "m.text"})
+
+    def topic(self, sender, prev):
+        return self.add("m.room.topic", sender, prev, self.auth(sender),
+                        {"topic": "topic %d" % len(self.events)}, "")
+
+    def linear(self):
+        self.tip = self.message(self.random.choice(self.users), [self.tip])
+
+    def fork(self):
+        for _ in range(7):
+            self.linear()
+        left = self.topic(self.admin, [self.tip])
+        right = self.message(self.random.choice(self.users), [self.tip])
+        self.tip = self.message(self.random.choice(self.users), [left, right])
+
+    def conflict(self):
+        number = len(self.events)
+        target = self.random.choice(self.users[4:])
+        first, second, third = self.mods
+        tips = []
+        change = [("m.room.power_levels", self.admin, number), ("m.room.power_levels", first, number + 1)]
+        for kind, sender, level in change:
+            tips.append(self.add(kind, sender, [self.tip], self.auth(sender), self.levels(level), ""))
+        ban = self.add("m.room.member", second, [self.tip], self.auth(second, self.member[target]),
+                       {"membership": "ban"}, target)
+        tips += [ban, self.topic(second, [self.tip]), self.topic(third, [self.tip])]
+        # By power order the admin's change comes first, and the other one is allowed on it.
+        self.power, self.member[target] = tips[1], ban
+        self.tip = self.message(self.admin, tips)
+        self.tip = self.add("m.room.member", self.admin, [self.tip],
+                            self.auth(self.admin, ban), {"membership": "leave"}, target)
+        self.member[target] = self.tip
+        self.tip = self.join(target, [self.tip])
+
+    def joins(self):
+        self.users.append("@u%d:s%d.example" % (len(self.users), len(self.users) % 10))
+        self.tip = self.join(self.users[-1], [self.tip])
+
+    def wide(self):
+        self.message(self.random.choice(self.users), [self.tip])
+
+    def soft(self):
+        if len(self.events) == self.base:
+            bare = dict(self.levels(0), users={self.admin: 100})
+            self.tip = self.add("m.room.power_levels", self.admin, [self.tip], self.auth(self.admin), bare, "")
+            self.last = self.events[self.base]["prev_events"][0]
+        self.last = self.topic(self.mods[0], [self.last])
+
+    def lines(self):
+        step = getattr(self, self.options.shape)
+        while len(self.events) < self.base + self.options.events:
+            step()
+        del self.events[self.base + self.options.events:]
+        yield {"step": "host", "event": self.events[0]}
+        origin, batch = "s0.example", self.options.batch
+        for start in range(1, len(self.events), batch):
+            pdus = self.events[start:start + batch]
+            txn = "t%d" % start
+            number = {"origin": origin, "txn": txn}
+            yield {"step": "open", **number, "pdus": pdus}
+            for _ in pdus:
+                yield {"step": "next", **number}
+            yield {"step": "close", **number}
+
+
+def power_event(size):
+    """A power levels event whose canonical text is just below `size` bytes."""
+    users = {}
+    event = {
+        "auth_events": [], "content": {"users": users}, "depth": 4, "origin_server_ts": 40,
+        "prev_events": [], "room_id": ROOM, "sender": "@u0:s0.example", "state_key": "",
+        "type": "m.room.power_levels",
+    }
+    while len(canonical(event)) < size - 250:
+        users["@user%06d:s%d.example" % (len(users), len(users) % 97)] = len(users) % 100
+    seal(event)
+    return event
+
+
+def main():
+    parser = argparse.ArgumentParser()
+    parser.add_argument("--shape", choices=["linear", "fork", "conflict", "joins", "wide", "soft"], default="linear")
+    parser.add_argument("--events", type=int, default=1000)
+    parser.add_argument("--members", type=int, default=50)
+    parser.add_argument("--batch", type=int, default=50)
+    parser.add_argument("--seed", type=int, default=1)
+    parser.add_argument("--body", type=int, default=60)
+    parser.add_argument("--check-power", type=int)
+    options = parser.parse_args()
+    if options.check_power:
+        sys.stdout.buffer.write(canonical(power_event(options.check_power)))
+        return
+    for line in Room(options).lines():
+        sys.stdout.buffer.write(canonical(line) + b"\n")
+
+
+main()
