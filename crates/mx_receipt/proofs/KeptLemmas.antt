@@ -171,6 +171,13 @@ module _ (rows : List Row) (js : List Judgement) (exts : List ℕ) (cur : State)
             below = below-push;
           }
 
+-- the current state that is kept is the resolution of the states after the forward extremities
+pub current-is : (rows : List Row) (js : List Judgement) (exts : List ℕ) (cur : State) → IsKept rows js exts cur → cur ≡ resolve rows (states_at (afters js) exts)
+unfolding current_state
+current-is rows js exts cur kept =
+    let same : afters js ≡ states_after (kept_of rows js) (length (kept_of rows js)) = kept.afters ∙ ap (states_after (kept_of rows js)) (sym (kept_of-length rows js kept.count)) in
+    kept.is_current ∙ sym (λ i. resolve (kept.are_kept i) (states_at (same i) (kept.are_extremities i)))
+
 -- ---- the verdict and the state before, from what is kept
 
 module _ (rows : List Row) (js : List Judgement) (exts : List ℕ) (cur : State) (kept : IsKept rows js exts cur) (e : Event) where

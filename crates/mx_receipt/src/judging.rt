@@ -1,5 +1,5 @@
 // The verdict on an event.
-ghost use Rattle.std.specs.Prelude.{◌≡◌, ◌<◌, All, IfOk, length, map};
+ghost use Rattle.std.specs.Prelude.{◌≡◌, ◌<◌, All, IfOk, IsTrue, length, map};
 ghost use Rattle.std.specs.Result.{result_err};
 ghost use Rattle.mx_auth.specs.Keys.{cited_shown};
 ghost use Rattle.mx_auth.specs.Rules.{Cited, auth_rules, rules};
@@ -18,7 +18,7 @@ use mx_state_res::StateMap;
 use std::alloc::{AllocError, Global};
 
 /// The verdict on an event, by its auth events, by the state before it, and by the room's current state. The numbers are
-/// those of its auth events.
+/// those of its auth events. One judgement serves both states where the state before it is the current one.
 ///
 /// Source: the Matrix specification, Server-Server API, "Checks performed on receipt of a PDU", checks 4, 5 and 6.
 pub(crate) fn judged(
@@ -27,12 +27,14 @@ pub(crate) fn judged(
     event: &Pdu,
     auth_events: &[EventNo],
     before: &StateMap,
+    is_current: bool,
     current: &StateMap,
 ) -> Result<Verdict, AllocError>
     requires auth { auth_events.now ≡ record_of.auth_events graph.now event.now }
     requires known { All (λ number. number < length graph.now) auth_events.now }
     requires before { All (λ e. e.1 < length graph.now) before.now }
     requires current { All (λ e. e.1 < length graph.now) current.now }
+    requires same { IsTrue is_current → before.now ≡ current.now }
     ensures { IfOk result (λ verdict. verdict
         ≡ definition.accept_or rejected (definition.auth_failure graph.now event.now)
         (definition.accept_or rejected (rules event.now (view graph.now before.now))
@@ -43,6 +45,9 @@ pub(crate) fn judged(
     }
     if let Some(rule) = failure_in(graph, before, event) {
         return Ok(Verdict::Rejected(rule));
+    }
+    if is_current {
+        return Ok(Verdict::Accepted);
     }
     if let Some(rule) = failure_in(graph, current, event) {
         return Ok(Verdict::SoftFailed(rule));

@@ -1,5 +1,5 @@
 // The receipt of an event.
-ghost use Rattle.std.specs.Prelude.{◌≡◌, ◌<◌, ◌++◌, ◌∷◌, All, IfOk, None, OnErr, OnOk, [], ℕ, List, length};
+ghost use Rattle.std.specs.Prelude.{◌≡◌, ◌<◌, ◌++◌, ◌∷◌, All, IfOk, None, OnErr, OnOk, [], ℕ, List, length, IsTrue};
 ghost use Rattle.std.specs.Arc.{arc_value};
 ghost use Rattle.mx_graph.specs.Adding.{add_error};
 ghost use Rattle.mx_graph.specs.Graph.{IsSound};
@@ -25,22 +25,46 @@ use mx_state_res::{StateMap, rising};
 use std::alloc::{AllocError, Global};
 use std::sync::Arc;
 
-// The state before an event that comes next: the resolution of the states after its prev events, each once.
+// The state before an event, and whether it is known to be the current state.
+#[derive(Debug, Drop)]
+struct StateBefore {
+    state: Arc<StateMap>,
+    is_current: bool,
+}
+
+// The state before an event that comes next: the resolution of the states after its prev events, each once. Where these
+// are the forward extremities it is the current state, and nothing is resolved.
 fn state_before(
     alloc: Global,
     graph: &Graph,
     judgements: &[Judgement],
     prev_events: &[EventNo],
-) -> Result<Arc<StateMap>, AllocError>
+    extremities: &[EventNo],
+    current: &Arc<StateMap>,
+) -> Result<StateBefore, AllocError>
     requires rows { length graph.now ≡ length judgements.now }
     requires prev { All (λ prev. prev < length graph.now) prev_events.now }
     requires known { KnowsAll graph.now judgements.now }
-    ensures resolved { IfOk result (λ state. arc_value state ≡ resolution.resolve graph.now
+    requires current { arc_value current.now ≡ resolution.resolve graph.now (definition.states_at (afters judgements.now) extremities.now) }
+    requires known_current { Knows graph.now (arc_value current.now) }
+    ensures resolved { IfOk result (λ before. arc_value before.state ≡ resolution.resolve graph.now
         (definition.states_at (afters judgements.now) (record_of.events_where graph.now (record_of.is_in prev_events.now)))) }
-    ensures known { IfOk result (λ state. Knows graph.now (arc_value state)) }
+    ensures known { IfOk result (λ before. Knows graph.now (arc_value before.state)) }
+    ensures same { IfOk result (λ before. IsTrue before.is_current → arc_value before.state ≡ arc_value current.now) }
 {
     let prev_events = rising(alloc, prev_events)?;
-    resolved_after(alloc, graph, judgements, &prev_events)
+    if prev_events.as_slice() == extremities {
+        let state = Arc::try_clone(current)?;
+        return Ok(StateBefore {
+            state,
+            is_current: true,
+        });
+    }
+    let state = resolved_after(alloc, graph, judgements, &prev_events)?;
+    Ok(StateBefore {
+        state,
+        is_current: false,
+    })
 }
 
 // The forward extremities after an event.
@@ -79,11 +103,11 @@ fn judged_event(
     graph: &Graph,
     judgements: &[Judgement],
     extremities: &[EventNo],
-    current: &StateMap,
+    current: &Arc<StateMap>,
     event: &Pdu,
     cited: &Cited,
 ) -> Result<JudgedEvent, AllocError>
-    requires kept { IsKept graph.now judgements.now extremities.now current.now }
+    requires kept { IsKept graph.now judgements.now extremities.now (arc_value current.now) }
     requires prev { cited.now.prev_events.items ≡ record_of.prev_events graph.now event.now }
     requires auth { cited.now.auth_events.items ≡ record_of.auth_events graph.now event.now }
     requires known_prev { All (λ number. number < length graph.now) cited.now.prev_events.items }
@@ -92,10 +116,25 @@ fn judged_event(
     ensures judged { IfOk result (λ judged. (id : List ℕ) → IsJudged graph.now judgements.now extremities.now
         (record { id = id; event = event.now; rejected = definition.is_rejected judged.judgement.verdict }) judged.judgement judged.extremities.items) }
 {
-    let before = state_before(alloc, graph, judgements, &cited.prev_events)?;
-    let verdict = judged(alloc, graph, event, &cited.auth_events, &before, current)?;
+    let before = state_before(
+        alloc,
+        graph,
+        judgements,
+        &cited.prev_events,
+        extremities,
+        current,
+    )?;
+    let verdict = judged(
+        alloc,
+        graph,
+        event,
+        &cited.auth_events,
+        &before.state,
+        before.is_current,
+        current,
+    )?;
     let number = next_number(graph);
-    let after = state_after(alloc, &before, event, number, verdict)?;
+    let after = state_after(alloc, &before.state, event, number, verdict)?;
     let extremities = extremities_after(
         alloc,
         graph,
@@ -108,7 +147,7 @@ fn judged_event(
     Ok(JudgedEvent {
         judgement: Judgement {
             verdict,
-            before,
+            before: before.state,
             after,
         },
         extremities,
@@ -187,11 +226,11 @@ pub(crate) fn prepare_in(
     graph: &mut Graph,
     judgements: &mut Vec<Judgement>,
     extremities: &[EventNo],
-    current: &StateMap,
+    current: &Arc<StateMap>,
     event: Pdu,
     id: EventId,
 ) -> Result<(Verdict, Prepared), AllocError>
-    requires kept { IsKept graph.old judgements.old.items extremities.now current.now }
+    requires kept { IsKept graph.old judgements.old.items extremities.now (arc_value current.now) }
     requires free { definition.offer_error graph.old id event ≡ None }
     ensures verdict { IfOk result (λ made. made.0 ≡ definition.verdict (kept_of graph.old judgements.old.items) event) }
     ensures added { IfOk result (λ made. IsAdded graph.old judgements.old.items id event

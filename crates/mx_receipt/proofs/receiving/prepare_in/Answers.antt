@@ -14,7 +14,7 @@ add-requires-clause-free c = taken-free c.args.graph.now c.args.id c.args.event 
 
 pub add-requires-clause-known : goal.add-requires-clause-known
 add-requires-clause-known c =
-    knows-push c.args.graph.now c.args.judgements.now.items c.args.extremities.now c.args.current.now c.requires.kept
+    knows-push c.args.graph.now c.args.judgements.now.items c.args.extremities.now (arc_value c.args.current.now) c.requires.kept
     (record { id = c.args.id; event = c.args.event; rejected = c.is_rejected.result }) c.in_ok-judged.judged.judgement c.in_ok-judged.judged.extremities.items
     (subst (λ b. IsJudged c.args.graph.now c.args.judgements.now.items c.args.extremities.now (record { id = c.args.id; event = c.args.event; rejected = b }) c.in_ok-judged.judged.judgement c.in_ok-judged.judged.extremities.items)
     (sym c.is_rejected.ensures)
@@ -23,7 +23,7 @@ add-requires-clause-known c =
 
 pub add-requires-clause-below : goal.add-requires-clause-below
 add-requires-clause-below c =
-    below-push c.args.graph.now c.args.judgements.now.items c.args.extremities.now c.args.current.now c.requires.kept
+    below-push c.args.graph.now c.args.judgements.now.items c.args.extremities.now (arc_value c.args.current.now) c.requires.kept
     (record { id = c.args.id; event = c.args.event; rejected = c.is_rejected.result }) c.in_ok-judged.judged.judgement c.in_ok-judged.judged.extremities.items
     (subst (λ b. IsJudged c.args.graph.now c.args.judgements.now.items c.args.extremities.now (record { id = c.args.id; event = c.args.event; rejected = b }) c.in_ok-judged.judged.judgement c.in_ok-judged.judged.extremities.items)
     (sym c.is_rejected.ensures)
@@ -41,7 +41,7 @@ returns-clause-added c =
     (subst (λ js. IsJudged c.args.graph.now js c.args.extremities.now (record { id = c.args.id; event = c.args.event; rejected = is_rejected c.in_ok-judged.judged.judgement.verdict }) c.in_ok-judged.judged.judgement c.in_ok-judged.judged.extremities.items)
     c.deref.ensures.value (c.in_ok-judged.ensures.judged c.args.id)) in
     let base : IsKept (c.args.graph.now ++ row ∷ []) (c.args.judgements.now.items ++ c.in_ok-judged.judged.judgement ∷ []) c.in_ok-judged.judged.extremities.items (arc_value c.in_ok-prepared.prepared.current) =
-    kept-push c.args.graph.now c.args.judgements.now.items c.args.extremities.now c.args.current.now c.requires.kept row c.in_ok-judged.judged.judgement c.in_ok-judged.judged.extremities.items is_judged
+    kept-push c.args.graph.now c.args.judgements.now.items c.args.extremities.now (arc_value c.args.current.now) c.requires.kept row c.in_ok-judged.judged.judgement c.in_ok-judged.judged.extremities.items is_judged
     c.graph_is_sound.ensures (subst IsSound rows c.graph_is_sound-2.ensures) (arc_value c.in_ok-prepared.prepared.current)
     (c.in_ok-prepared.ensures.current ∙ λ i. resolve (rows i) (states_at (afters (judgements i)) c.in_ok-judged.judged.extremities.items))
     (subst (λ rs. Knows rs (arc_value c.in_ok-prepared.prepared.current)) rows c.in_ok-prepared.ensures.known) in

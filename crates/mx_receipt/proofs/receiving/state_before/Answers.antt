@@ -1,7 +1,8 @@
-use Rattle.std.proofs.Common.{◌≡◌, ◌<◌, length, sym, subst, ◌∙◌, IfOk}
-use Rattle.std.specs.Arc.{arc_value}
+use Rattle.std.proofs.Common.{◌≡◌, ◌<◌, true, length, refl, sym, ap, subst, ◌∙◌}
+use Rattle.std.proofs.lemmas.Bool.Decides.{Decides-eqb}
+use Rattle.std.proofs.lemmas.Slice.Eq.{slice_eq-Decides}
 use Rattle.std.specs.List.{All}
-use Rattle.mx_graph.specs.Record.{is_in}
+use Rattle.mx_graph.specs.Record.{is_in, events_where}
 use Rattle.mx_graph.proofs.Closure.{all-in}
 use Rattle.mx_state_res.proofs.SetLemmas.{rising-is}
 use Rattle.mx_state_res.specs.Resolution.{resolve}
@@ -9,6 +10,15 @@ use Rattle.mx_receipt.specs.Judgements.{afters}
 use Rattle.mx_receipt.specs.Receipt.{states_at}
 use Rattle.mx_receipt.proofs.CoverLemmas.{in-all}
 use Rattle.mx_receipt.proofs.receiving.state_before.Goals as goal
+
+pub returns-then-eq-clause-resolved : goal.returns-then-eq-clause-resolved
+returns-then-eq-clause-resolved c =
+    let rising_are : c.in_ok-prev_events.prev_events.items ≡ events_where c.args.graph.now (is_in c.args.prev_events.now) =
+    rising-is c.args.graph.now c.in_ok-prev_events.prev_events.items (is_in c.args.prev_events.now) c.in_ok-prev_events.ensures.rises
+    (λ p e. in-all (λ q. q < length c.args.graph.now) c.args.prev_events.now p c.requires.prev (sym (c.in_ok-prev_events.ensures.same p) ∙ e)) c.in_ok-prev_events.ensures.same in
+    let same : c.in_ok-prev_events.prev_events.items ≡ c.args.extremities.now =
+    sym c.as_slice.ensures.value ∙ (slice_eq-Decides Decides-eqb c.as_slice.result.now c.args.extremities.now true (sym c.if-eq.true ∙ c.eq.ensures)).0 refl in
+    c.in_ok-state.ensures ∙ c.requires.current ∙ ap (λ xs. resolve c.args.graph.now (states_at (afters c.args.judgements.now) xs)) (sym same ∙ rising_are)
 
 pub resolved_after-requires-clause-events : goal.resolved_after-requires-clause-events
 resolved_after-requires-clause-events c =
@@ -18,7 +28,7 @@ resolved_after-requires-clause-events c =
 
 pub returns-clause-resolved : goal.returns-clause-resolved
 returns-clause-resolved c =
-    subst (λ xs. IfOk c.resolved_after.result (λ state. arc_value state ≡ resolve c.args.graph.now (states_at (afters c.args.judgements.now) xs)))
+    c.in_ok-state-2.ensures.resolved
+    ∙ ap (λ xs. resolve c.args.graph.now (states_at (afters c.args.judgements.now) xs))
     (c.deref.ensures.value ∙ rising-is c.args.graph.now c.in_ok-prev_events.prev_events.items (is_in c.args.prev_events.now) c.in_ok-prev_events.ensures.rises
     (λ p e. in-all (λ q. q < length c.args.graph.now) c.args.prev_events.now p c.requires.prev (sym (c.in_ok-prev_events.ensures.same p) ∙ e)) c.in_ok-prev_events.ensures.same)
-    c.resolved_after.ensures.resolved
