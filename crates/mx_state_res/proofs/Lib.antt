@@ -19,3 +19,4 @@ pub mod ApartLemmas
 pub mod WalkStepLemmas
 pub mod WalkStartLemmas
 pub mod WalkEndLemmas
+pub mod NumberedLemmas

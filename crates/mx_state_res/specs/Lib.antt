@@ -4,3 +4,4 @@ pub mod StateCode
 pub mod Agreed
 pub mod Masks
 pub mod ChainDifference
+pub mod Numbered

@@ -11,3 +11,6 @@ state_code = coded_list (coded× (coded× (coded_list coded_ℕ) (coded_list cod
 
 abbrev pub judged_code : Coded (List Row × (State × ℕ))
 judged_code = coded× rows_code (coded× state_code coded_ℕ)
+
+abbrev pub states_code : Coded (List State)
+states_code = coded_list state_code

@@ -11,16 +11,24 @@ mod event_sets;
 mod judged_states;
 mod laws;
 mod masks;
+mod numbered_resolution;
 mod plain_conflicts;
 mod powers;
 mod resolving;
 mod state_maps;
+mod state_numbers;
+mod state_refs;
+mod states;
 
 pub use entries::StateEntry;
 pub use event_sets::rising;
 pub use laws::{equal_states_resolve_to_themselves, one_state_resolves_to_itself};
+pub use numbered_resolution::resolve_numbered;
 pub use resolving::resolve;
 pub use state_maps::StateMap;
+pub use state_numbers::StateNo;
+pub use state_refs::StateRef;
+pub use states::States;
 
 #[cfg(test)]
 mod conflict_tests;

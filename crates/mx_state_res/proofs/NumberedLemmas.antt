@@ -1,0 +1,12 @@
+-- States by their numbers.
+use Rattle.std.proofs.Common.{ℕ, ◌<◌, List, [], All, length, map}
+use Rattle.std.proofs.lemmas.List.Elements.{All-get_or, All-map}
+use Rattle.std.specs.Prelude.{get_or}
+use Rattle.mx_graph.specs.Record.{Row}
+use Rattle.mx_orders.specs.StateMap.{State}
+use Rattle.mx_state_res.specs.Numbered.{state_at, AreKnown}
+
+pub known-at : (rows : List Row) (states : List State) (numbers : List ℕ) → AreKnown rows states → All (λ n. n < length states) numbers → AreKnown rows (map (state_at states) numbers)
+known-at rows states numbers known below =
+    All-map (λ s. All (λ e. e.1 < length rows) s) (state_at states) numbers
+    (λ k d l. All-get_or (λ s. All (λ e. e.1 < length rows) s) states (get_or numbers k d) [] (below k d l) known)

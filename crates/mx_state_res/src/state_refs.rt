@@ -1,0 +1,59 @@
+// One of a room's states.
+ghost use Rattle.std.specs.Prelude.{◌≡◌, ◌<◌, IfOk, length};
+ghost use Rattle.mx_orders.specs.StateMap.{entry};
+ghost use Rattle.mx_state_res.specs.Numbered.{state_at};
+
+use crate::state_maps::StateMap;
+use crate::state_numbers::StateNo;
+use crate::states::States;
+use mx_graph::EventNo;
+use std::alloc::{AllocError, Global};
+use std::marker::Model;
+
+/// One of a room's states: at a type and a state key at most one event.
+///
+/// Source: the Matrix specification, Server-Server API, "PDUs".
+#[derive(Debug, Drop)]
+pub struct StateRef<'s> {
+    states: &'s States,
+    number: StateNo,
+}
+
+impl<'s> Model for StateRef<'s> {
+    ghost use Rattle.std.specs.Prelude.{◌<◌, length};
+    ghost use Rattle.mx_orders.specs.StateMap.{State};
+    ghost use Rattle.mx_state_res.specs.Numbered.{state_at};
+    ghost use Rattle.mx_state_res.specs.StateCode.{state_code};
+
+    ghost Value = { State };
+
+    ghost coded = { state_code };
+
+    ghost view = { λ state. state_at state.states.now state.number };
+
+    ghost invariant = { λ state. state.number < length state.states.now };
+}
+
+impl<'s> StateRef<'s> {
+    // The state with this number.
+    pub(crate) fn of(states: &'s States, number: StateNo) -> StateRef<'s>
+        requires { number < length states.now }
+        ensures { result ≡ state_at states.now number }
+    {
+        StateRef { states, number }
+    }
+
+    /// The event at a type and a state key. It takes no memory.
+    pub fn get(&self, kind: &str, state_key: &str) -> Option<EventNo>
+        ensures { result ≡ entry self.now (kind.now, state_key.now) }
+    {
+        self.states.get(self.number, kind, state_key)
+    }
+
+    /// The state as a map of its own, whose entries are in the order of their keys.
+    pub fn map(&self, alloc: Global) -> Result<StateMap, AllocError>
+        ensures { IfOk result (λ map. map ≡ self.now) }
+    {
+        self.states.map(alloc, self.number)
+    }
+}
