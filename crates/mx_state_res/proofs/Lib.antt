@@ -20,3 +20,6 @@ pub mod WalkStepLemmas
 pub mod WalkStartLemmas
 pub mod WalkEndLemmas
 pub mod NumberedLemmas
+pub mod SnapshotEntryLemmas
+pub mod SnapshotLemmas
+pub mod SnapshotDifferenceLemmas

@@ -5,3 +5,5 @@ pub mod Agreed
 pub mod Masks
 pub mod ChainDifference
 pub mod Numbered
+pub mod SnapshotEntries
+pub mod SnapshotChains
