@@ -23,3 +23,4 @@ pub mod NumberedLemmas
 pub mod SnapshotEntryLemmas
 pub mod SnapshotLemmas
 pub mod SnapshotDifferenceLemmas
+pub mod KeyNumberLemmas

@@ -7,3 +7,4 @@ pub mod ChainDifference
 pub mod Numbered
 pub mod SnapshotEntries
 pub mod SnapshotChains
+pub mod KeyNumbers

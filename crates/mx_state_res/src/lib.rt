@@ -19,6 +19,7 @@ mod snapshot_chains;
 mod snapshot_differences;
 mod snapshot_edits;
 mod snapshots;
+mod state_keys;
 mod state_maps;
 mod state_numbers;
 mod state_refs;
