@@ -20,3 +20,5 @@ pub mod WalkStepLemmas
 pub mod WalkStartLemmas
 pub mod WalkEndLemmas
 pub mod NumberedLemmas
+pub mod EntryLemmas
+pub mod DifferingLemmas

@@ -1,4 +1,4 @@
-use Rattle.std.proofs.Common.{◌≡◌, ℕ, map, take}
+use Rattle.std.proofs.Common.{◌≡◌, map, take}
 use Rattle.mx_state_res.specs.Numbered.{state_at}
 use Rattle.mx_state_res.proofs.numbered_resolution.maps_of.Given as goal
 
