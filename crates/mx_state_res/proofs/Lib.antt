@@ -24,3 +24,5 @@ pub mod SnapshotEntryLemmas
 pub mod SnapshotLemmas
 pub mod SnapshotDifferenceLemmas
 pub mod KeyNumberLemmas
+pub mod EntryLemmas
+pub mod DifferingLemmas

@@ -47,7 +47,8 @@ fn is_in_every(states: &[&StateMap], entry: &StateEntry) -> bool
     states.iter().all(|state| has_entry(state, entry))
 }
 
-fn has_entry(state: &StateMap, entry: &StateEntry) -> bool
+/// Whether a state has an entry.
+pub(crate) fn has_entry(state: &StateMap, entry: &StateEntry) -> bool
     ensures { result ≡ definition.has_entry entry.now state.now }
 {
     match state.get(entry.kind(), entry.state_key()) {

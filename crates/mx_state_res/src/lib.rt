@@ -6,6 +6,7 @@ mod auth_checks;
 mod chain_difference;
 mod chain_walks;
 mod conflicts;
+mod differing_keys;
 mod entries;
 mod event_sets;
 mod judged_states;

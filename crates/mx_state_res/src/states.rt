@@ -1,9 +1,14 @@
 // A room's states by number.
-ghost use Rattle.std.specs.Prelude.{◌≡◌, ◌<◌, ◌++◌, ◌∷◌, [], IfOk, OnErr, OnOk, length};
-ghost use Rattle.std.specs.FinMap.Entries.{put};
+ghost use Rattle.std.specs.Prelude.{◌≡◌, ◌<◌, ◌++◌, ◌∷◌, ◌↔◌, [], All, IfOk, None, OnErr, OnOk, T, ◌||◌, is_some, length, map};
+ghost use Rattle.std.specs.FinMap.Entries.{is_sorted, put};
+ghost use Rattle.mx_auth.specs.Rules.{Key};
 ghost use Rattle.mx_orders.specs.StateMap.{entry, key_cmp};
-ghost use Rattle.mx_state_res.specs.Numbered.{state_at};
+ghost use Rattle.mx_state_res.specs.Agreed.{has_missed};
+ghost use Rattle.mx_state_res.specs.Numbered.{AllAlike, state_at, without};
+ghost use Rattle.mx_state_res.specs.Resolution.{overwritten};
 
+use crate::auth_checks::overwrite;
+use crate::differing_keys::{put_differing, without_keys};
 use crate::state_maps::StateMap;
 use crate::state_numbers::StateNo;
 use crate::state_refs::StateRef;
@@ -118,5 +123,73 @@ impl States {
     {
         let _ = alloc;
         self.maps[number.index()].clone()
+    }
+
+    // The keys at which states are not all alike: it has an event at each of them, and none elsewhere.
+    pub(crate) fn differing(
+        &self,
+        alloc: Global,
+        numbers: &[StateNo],
+    ) -> Result<StateMap, AllocError>
+        requires { All (λ number. number < length self.now) numbers.now }
+        ensures { IfOk result (λ found. (key : Key)
+            → (entry found key ≡ None) ↔ AllAlike key (map (state_at self.now) numbers.now)) }
+    {
+        let mut found = StateMap::new(alloc);
+        if let Some((first, others)) = numbers.split_first() {
+            for other in others {
+                self.put_differing(&mut found, *first, *other)?;
+            }
+        }
+        Ok(found)
+    }
+
+    // Puts an event at each key at which two states differ. At an error some of them were put.
+    fn put_differing(
+        &self,
+        found: &mut StateMap,
+        first: StateNo,
+        other: StateNo,
+    ) -> Result<(), AllocError>
+        requires first { first < length self.now }
+        requires other { other < length self.now }
+        ensures sorted { OnOk result (T (is_sorted key_cmp (state_at self.now first))
+            × T (is_sorted key_cmp (state_at self.now other))) }
+        ensures found { OnOk result ((key : Key) → is_some (entry found.new key)
+            ≡ ((is_some (entry found.old key) || has_missed (state_at self.now other) (state_at self.now first) key)
+            || has_missed (state_at self.now first) (state_at self.now other) key)) }
+    {
+        let first = &self.maps[first.index()];
+        let other = &self.maps[other.index()];
+        put_differing(found, first, other)
+    }
+
+    // Adds the state that is another one without the keys of `taken`, with the entries of `puts` put over it. At an
+    // error the states stay.
+    pub(crate) fn apply(
+        &mut self,
+        parent: StateNo,
+        taken: &StateMap,
+        puts: &StateMap,
+    ) -> Result<StateNo, AllocError>
+        requires { parent < length self.old }
+        ensures number { IfOk result (λ number. number ≡ length self.old) }
+        ensures added { OnOk result (self.new
+            ≡ self.old ++ overwritten (without taken.now (state_at self.old parent)) puts.now ∷ []) }
+        ensures err { OnErr result (self.new ≡ self.old) }
+    {
+        let mut map = without_keys(self.alloc, taken, &self.maps[parent.index()])?;
+        overwrite(&mut map, puts)?;
+        let number = StateNo::at(self.maps.len());
+        self.maps.push(map)?;
+        Ok(number)
+    }
+
+    // The entries of a state are in the order of their keys, each key once. It changes nothing: this is what it ensures.
+    pub(crate) fn state_is_sorted(&self, number: StateNo)
+        requires { number < length self.now }
+        ensures { T (is_sorted key_cmp (state_at self.now number)) }
+    {
+        let _ = self.maps[number.index()].entries();
     }
 }
