@@ -1,6 +1,6 @@
 -- The numbers of keys, and a search in the order of the keys.
 use Rattle.std.proofs.Common.{◌≡◌, ℕ, zero, suc, ◌+◌, ◌<◌, ◌≤◌, Bool, true, false, cond, length, get_or, map, ◌++◌, List, [], ◌∷◌, Some, None, Result, Ok, Err, IfOk, IfErr, refl, sym, ap, subst, ◌∙◌, ◌⊎◌, inl, inr, arith}
-use Rattle.std.specs.Prelude.{Option, OnOk, All, is_some, slice_get, slice_index_or, option_map, unwrap_or}
+use Rattle.std.specs.Prelude.{Option, OnOk, All, is_some, unwrap_or}
 use Rattle.std.specs.List.{insert}
 use Rattle.std.specs.List.Sorted.{IsSearchInRange, IsBinarySearchResult, IsNonDecreasingBy}
 use Rattle.std.specs.declared.cmp.Ordering.{Ordering}
@@ -11,7 +11,7 @@ use Rattle.std.proofs.Math.Nat.{eq-or-lt_of_le}
 use Rattle.std.proofs.lemmas.List.{get_or-map, length-map}
 use Rattle.mx_auth.specs.Rules.{Key}
 use Rattle.mx_orders.specs.StateMap.{State, key_cmp}
-use Rattle.mx_state_res.specs.KeyNumbers.{key_at, numbered_from, number_of, with_key, AreDistinct, order_at, in_order, AreInOrder}
+use Rattle.mx_state_res.specs.KeyNumbers.{key_at, numbered_from, number_of, with_key, AreDistinct, order_at, in_order, AreInOrder, AreGrown}
 use Rattle.mx_state_res.specs.Places.{IsAt, IsGapFor}
 use Rattle.mx_state_res.proofs.KeyLemmas.{key_cmp-total, key_cmp-same, key_cmp-itself, Sorted}
 use Rattle.mx_state_res.proofs.PlaceLemmas.{searched, find-at, find-gap, put-gap, sorted-put}
@@ -108,11 +108,6 @@ distinct-push keys key h none n l = by (eq-or-lt_of_le (omega (arith, length_gro
     by (inr m) =
         ap (number_of (keys ++ key ∷ [])) (before_last keys key ([], []) n m) ∙ number-push keys key (key_at keys n) none
         ∙ old m (eq_by_cmp key_cmp (key_at keys n) key) refl
-
--- keys were added, and the others kept their numbers
-pub record AreGrown (old new : List Key) : Type 0 where
-  pub longer : length old ≤ length new
-  pub kept : (n : ℕ) → n < length old → key_at new n ≡ key_at old n
 
 pub grown-none : (keys : List Key) → AreGrown keys keys
 grown-none keys = record { longer = omega arith; kept = λ n l. refl }

@@ -26,3 +26,5 @@ pub mod SnapshotDifferenceLemmas
 pub mod KeyNumberLemmas
 pub mod EntryLemmas
 pub mod DifferingLemmas
+pub mod ShownLemmas
+pub mod ChangeLemmas

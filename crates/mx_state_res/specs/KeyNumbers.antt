@@ -1,11 +1,14 @@
 -- For proofs and private clauses alone.
 -- The numbers of a room's keys, and states by these numbers.
-use Rattle.std.specs.Prelude.{◌≡◌, ℕ, ◌+◌, ◌<◌, T, cond, List, [], ◌∷◌, ◌++◌, Option, Some, All, is_some, length, map, option_map, slice_get, slice_index_or, unwrap_or}
+use Rattle.std.specs.Prelude.{◌≡◌, ℕ, ◌+◌, ◌<◌, ◌≤◌, Bool, T, cond, List, [], ◌∷◌, ◌++◌, Option, Some, All, is_some, length, map, option_map, slice_get, slice_index_or, unwrap_or}
 use Rattle.std.specs.declared.cmp.Ordering.{Ordering}
 use Rattle.std.specs.declared.cmp.Ordering.TheVariants.{Less}
+use Rattle.std.specs.Option.{option_and_then, option_or}
+use Rattle.std.specs.List.{list_any}
+use Rattle.std.specs.Ordering.{eq_by_cmp, nat_cmp}
 use Rattle.std.specs.FinMap.Entries.{find, is_sorted, put}
 use Rattle.mx_auth.specs.Rules.{Key}
-use Rattle.mx_orders.specs.StateMap.{State, key_cmp}
+use Rattle.mx_orders.specs.StateMap.{State, entry, key_cmp}
 
 -- the key with this number
 abbrev pub key_at : List Key → ℕ → Key
@@ -27,6 +30,11 @@ with_key keys key = cond (is_some (number_of keys key)) keys (keys ++ key ∷ []
 -- each key is there once
 abbrev pub AreDistinct : List Key → Type 0
 AreDistinct keys = (number : ℕ) → number < length keys → number_of keys (key_at keys number) ≡ Some number
+
+-- keys were added, and the others kept their numbers
+pub record AreGrown (old new : List Key) : Type 0 where
+  pub longer : length old ≤ length new
+  pub kept : (n : ℕ) → n < length old → key_at new n ≡ key_at old n
 
 -- the key with a number beside another, where there is one
 abbrev pub order_at : List Key → Key → ℕ → Ordering
@@ -61,3 +69,18 @@ MapsBelow bound (m ∷ maps) = AllBelow bound m × MapsBelow bound maps
 pub record AreShown (keys : List Key) (maps : List (List (ℕ × ℕ))) : Type 0 where
   pub distinct : AreDistinct keys
   pub below : MapsBelow (length keys) maps
+
+-- what the changes at a key make of it, where there are some: an event that is put there, or none
+abbrev pub changes_at : List Key → List (ℕ × Option ℕ) → Key → Option (Option ℕ)
+changes_at keys changes key = option_and_then (λ n. find nat_cmp n changes) (number_of keys key)
+
+-- one of the numbers is that of the key
+abbrev pub has_number_in : List Key → List ℕ → Key → Bool
+has_number_in keys numbers key = list_any (λ n. eq_by_cmp key_cmp key (key_at keys n)) numbers
+
+-- what pushed changes keep: keys were added alone, and at each key there are the changes from before, or what f makes of the entry of a state
+pub record AreChanges (old new : List Key) (before changes : List (ℕ × Option ℕ)) (f : ℕ → Option ℕ) (s : State) : Type 0 where
+  pub grown : AreGrown old new
+  pub distinct : AreDistinct new
+  pub below : AllBelow (length new) changes
+  pub found : (key : Key) → changes_at new changes key ≡ option_or (changes_at old before key) (option_map f (entry s key))

@@ -12,6 +12,7 @@ mod event_sets;
 mod judged_states;
 mod laws;
 mod masks;
+mod numbered_entries;
 mod numbered_resolution;
 mod plain_conflicts;
 mod powers;

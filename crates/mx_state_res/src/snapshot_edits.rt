@@ -40,7 +40,7 @@ pub(crate) fn change_at(changes: &[(u32, Option<EventNo>)], key: u32) -> Option<
 }
 
 // Puts a value at a key, or takes the key out.
-fn change_entry(
+pub(crate) fn change_entry(
     entries: &mut Vec<(u32, EventNo)>,
     key: u32,
     value: Option<EventNo>,

@@ -7,8 +7,9 @@ ghost use Rattle.mx_state_res.specs.Agreed.{has_missed};
 ghost use Rattle.mx_state_res.specs.Numbered.{AllAlike, state_at, without};
 ghost use Rattle.mx_state_res.specs.Resolution.{overwritten};
 
-use crate::auth_checks::overwrite;
-use crate::differing_keys::{put_differing, without_keys};
+use crate::numbered_entries::{changes_of, entries_of, map_of, put_differing};
+use crate::snapshots::Snapshots;
+use crate::state_keys::Keys;
 use crate::state_maps::StateMap;
 use crate::state_numbers::StateNo;
 use crate::state_refs::StateRef;
@@ -22,19 +23,24 @@ use std::marker::Model;
 #[derive(Debug, Drop)]
 pub struct States {
     alloc: Global,
-    maps: Vec<StateMap>,
+    keys: Keys,
+    // Entries by the numbers of their keys.
+    snapshots: Snapshots,
 }
 
 impl Model for States {
-    ghost use Rattle.std.specs.Prelude.{List};
+    ghost use Rattle.std.specs.Prelude.{List, map};
     ghost use Rattle.mx_orders.specs.StateMap.{State};
+    ghost use Rattle.mx_state_res.specs.KeyNumbers.{AreShown, shown};
     ghost use Rattle.mx_state_res.specs.StateCode.{states_code};
 
     ghost Value = { List State };
 
     ghost coded = { states_code };
 
-    ghost view = { λ states. states.maps.items };
+    ghost view = { λ states. map (shown states.keys) states.snapshots };
+
+    ghost invariant = { λ states. AreShown states.keys states.snapshots };
 }
 
 impl States {
@@ -44,7 +50,8 @@ impl States {
     {
         States {
             alloc,
-            maps: Vec::new(alloc),
+            keys: Keys::new(alloc),
+            snapshots: Snapshots::new(alloc),
         }
     }
 
@@ -54,9 +61,7 @@ impl States {
         ensures added { OnOk result (self.new ≡ self.old ++ [] ∷ []) }
         ensures err { OnErr result (self.new ≡ self.old) }
     {
-        let number = StateNo::at(self.maps.len());
-        self.maps.push(StateMap::new(self.alloc))?;
-        Ok(number)
+        self.snapshots.add_whole(Vec::new(self.alloc))
     }
 
     // Adds a state with these entries. At an error the states stay.
@@ -65,10 +70,8 @@ impl States {
         ensures added { OnOk result (self.new ≡ self.old ++ map.now ∷ []) }
         ensures err { OnErr result (self.new ≡ self.old) }
     {
-        let map = map.clone()?;
-        let number = StateNo::at(self.maps.len());
-        self.maps.push(map)?;
-        Ok(number)
+        let entries = entries_of(self.alloc, &mut self.keys, map)?;
+        self.snapshots.add_whole(entries)
     }
 
     /// Adds the state that is another one with an event put at a type and a state key, in place of one that is there. At
@@ -86,18 +89,15 @@ impl States {
             ≡ self.old ++ put key_cmp (kind.now, state_key.now) event (state_at self.old parent) ∷ []) }
         ensures err { OnErr result (self.new ≡ self.old) }
     {
-        let mut map = self.maps[parent.index()].clone()?;
-        map.insert(kind, state_key, event)?;
-        let number = StateNo::at(self.maps.len());
-        self.maps.push(map)?;
-        Ok(number)
+        let key = self.keys.number_for(kind, state_key)?;
+        self.snapshots.with(parent, key, event)
     }
 
     /// How many states there are.
     pub fn len(&self) -> usize
         ensures { result ≡ length self.now }
     {
-        self.maps.len()
+        self.snapshots.len()
     }
 
     /// The state with this number.
@@ -113,7 +113,10 @@ impl States {
         requires { number < length self.now }
         ensures { result ≡ entry (state_at self.now number) (kind.now, state_key.now) }
     {
-        self.maps[number.index()].get(kind, state_key)
+        match self.keys.number_of(kind, state_key) {
+            Some(key) => self.snapshots.get(number, key),
+            None => None,
+        }
     }
 
     // A state as a map of its own.
@@ -121,8 +124,8 @@ impl States {
         requires { number < length self.now }
         ensures { IfOk result (λ map. map ≡ state_at self.now number) }
     {
-        let _ = alloc;
-        self.maps[number.index()].clone()
+        let entries = self.snapshots.entries(alloc, number)?;
+        map_of(alloc, &self.keys, &entries)
     }
 
     // The keys at which states are not all alike: it has an event at each of them, and none elsewhere.
@@ -159,9 +162,8 @@ impl States {
             ≡ ((is_some (entry found.old key) || has_missed (state_at self.now other) (state_at self.now first) key)
             || has_missed (state_at self.now first) (state_at self.now other) key)) }
     {
-        let first = &self.maps[first.index()];
-        let other = &self.maps[other.index()];
-        put_differing(found, first, other)
+        let differing = self.snapshots.differences(self.alloc, first, other)?;
+        put_differing(found, &self.keys, &self.snapshots, first, other, &differing)
     }
 
     // Adds the state that is another one without the keys of `taken`, with the entries of `puts` put over it. At an
@@ -178,11 +180,8 @@ impl States {
             ≡ self.old ++ overwritten (without taken.now (state_at self.old parent)) puts.now ∷ []) }
         ensures err { OnErr result (self.new ≡ self.old) }
     {
-        let mut map = without_keys(self.alloc, taken, &self.maps[parent.index()])?;
-        overwrite(&mut map, puts)?;
-        let number = StateNo::at(self.maps.len());
-        self.maps.push(map)?;
-        Ok(number)
+        let changes = changes_of(self.alloc, &mut self.keys, taken, puts)?;
+        self.snapshots.apply(parent, changes)
     }
 
     // The entries of a state are in the order of their keys, each key once. It changes nothing: this is what it ensures.
@@ -190,6 +189,6 @@ impl States {
         requires { number < length self.now }
         ensures { T (is_sorted key_cmp (state_at self.now number)) }
     {
-        let _ = self.maps[number.index()].entries();
+        let _ = &self.snapshots;
     }
 }

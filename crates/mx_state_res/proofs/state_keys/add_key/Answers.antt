@@ -1,4 +1,4 @@
-use Rattle.std.proofs.Common.{rules, ◌≡◌, ℕ, length, ◌++◌, ◌∷◌, [], sym, subst, ◌∙◌, ap, arith}
+use Rattle.std.proofs.Common.{rules, ◌≡◌, length, ◌++◌, ◌∷◌, [], sym, subst, ◌∙◌, ap}
 use Rattle.std.specs.List.{insert}
 use Rattle.mx_auth.specs.Rules.{Key}
 use Rattle.mx_state_res.specs.KeyNumbers.{AreInOrder}

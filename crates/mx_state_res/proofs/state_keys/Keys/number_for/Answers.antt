@@ -1,9 +1,9 @@
-use Rattle.std.proofs.Common.{◌≡◌, List, ◌++◌, ◌∷◌, [], Some, None, Result, Ok, Err, IfOk, ap, sym, subst, ◌∙◌}
+use Rattle.std.proofs.Common.{◌≡◌, Some, ap, sym, subst, ◌∙◌}
 use Rattle.std.specs.Prelude.{OnOk}
 use Rattle.mx_auth.specs.Rules.{Key}
 use Rattle.mx_state_res.specs.KeyNumbers.{number_of, in_order, with_key}
 use Rattle.mx_state_res.specs.Places.{IsAt, IsGapFor}
-use Rattle.mx_state_res.proofs.KeyNumberLemmas.{number-at, number-none, number-pushed, with_key-old, numbered, added}
+use Rattle.mx_state_res.proofs.KeyNumberLemmas.{number-at, number-none, with_key-old, numbered, added}
 use Rattle.mx_state_res.proofs.state_keys.Keys.number_for.Goals as goal
 
 pub returns-in-Ok-clause-number : goal.returns-in-Ok-clause-number

@@ -1,4 +1,4 @@
-use Rattle.std.proofs.Common.{◌≡◌, Some, ap, sym, ◌∙◌}
+use Rattle.std.proofs.Common.{Some, ap, sym, ◌∙◌}
 use Rattle.mx_auth.specs.Rules.{Key}
 use Rattle.mx_state_res.specs.KeyNumbers.{number_of, in_order}
 use Rattle.mx_state_res.specs.Places.{IsAt, IsGapFor}
