@@ -1,5 +1,5 @@
 // A room's states by number.
-ghost use Rattle.std.specs.Prelude.{◌≡◌, ◌<◌, ◌++◌, ◌∷◌, [], IfOk, OnErr, OnOk, length};
+ghost use Rattle.std.specs.Prelude.{◌≡◌, ◌<◌, ◌++◌, ◌∷◌, [], IfOk, OnErr, OnOk, length, take};
 ghost use Rattle.std.specs.FinMap.Entries.{put};
 ghost use Rattle.mx_orders.specs.StateMap.{entry, key_cmp};
 ghost use Rattle.mx_state_res.specs.Numbered.{state_at};
@@ -93,6 +93,13 @@ impl States {
         ensures { result ≡ length self.now }
     {
         self.maps.len()
+    }
+
+    /// Gives up all states but the first of them, so many. It takes no memory.
+    pub fn truncate(&mut self, count: usize)
+        ensures { self.new ≡ take count self.old }
+    {
+        self.maps.truncate(count);
     }
 
     /// The state with this number.
