@@ -1,5 +1,5 @@
 // The receipt of an event.
-ghost use Rattle.std.specs.Prelude.{◌≡◌, ◌<◌, ◌++◌, ◌∷◌, All, IfOk, None, OnErr, OnOk, [], ℕ, List, ◌×◌, length};
+ghost use Rattle.std.specs.Prelude.{◌≡◌, ◌<◌, ◌++◌, ◌∷◌, All, IfOk, None, OnErr, OnOk, [], ℕ, List, length};
 ghost use Rattle.mx_graph.specs.Adding.{add_error};
 ghost use Rattle.mx_graph.specs.Graph.{IsSound};
 ghost use Rattle.mx_graph.specs.Record as record_of;
@@ -51,7 +51,8 @@ fn state_before(
     if prev_events.as_slice() == extremities {
         return Ok(current);
     }
-    resolved_after(alloc, graph, states, judgements, &prev_events)
+    let before = resolved_after(alloc, graph, states, judgements, &prev_events)?;
+    Ok(before)
 }
 
 // The forward extremities after an event.
@@ -240,7 +241,7 @@ pub(crate) fn prepare_in(
         graph.new states.new judgements.new.items made.1.extremities.items made.1.current) }
     ensures count { IfOk result (λ made. made.1.states ≡ length states.old) }
     ensures err_rows { OnErr result (graph.new ≡ graph.old) }
-    ensures err_states { OnErr result ((more : List State) × (states.new ≡ states.old ++ more)) }
+    ensures grown { (more : List State) × (states.new ≡ states.old ++ more) }
     ensures err_judgements { OnErr result (judgements.new.items ≡ judgements.old.items) }
 {
     graph_is_sound(graph);

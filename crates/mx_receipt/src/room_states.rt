@@ -1,7 +1,8 @@
 // A state of a room, as the authorization rules look at it.
-ghost use Rattle.std.specs.Prelude.{◌≡◌, ◌<◌, All, length};
+ghost use Rattle.std.specs.Prelude.{◌≡◌, ◌<◌, All, IfSome, find, length};
 ghost use Rattle.mx_auth.specs.Rules.{key_of, rules, same_key};
 ghost use Rattle.mx_redact.specs.Fields.{is_some_and};
+ghost use Rattle.mx_graph.specs.Record as record_of;
 ghost use Rattle.mx_orders.specs.StateMap as state_of_events;
 ghost use Rattle.mx_state_res.specs.Numbered.{AreKnown, state_at};
 
@@ -124,7 +125,7 @@ impl<'a> RoomState for StateOfEvents<'a> {
 // The first of some events that has this type and this state key.
 fn first_at(graph: &Graph, events: &[EventNo], kind: &str, state_key: &str) -> Option<EventNo>
     requires { All (λ event. event < length graph.now) events.now }
-    ensures first { result ≡ state_of_events.entry (state_of_events.state_of graph.now events.now) (kind.now, state_key.now) }
+    ensures first { result ≡ find (λ p. is_some_and (same_key (kind.now, state_key.now)) (key_of (record_of.event graph.now p))) events.now }
     ensures known { IfSome result (λ event. event < length graph.now) }
 {
     for event in events {

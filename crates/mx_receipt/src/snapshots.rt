@@ -1,6 +1,6 @@
 // The states before and after the events of a room.
-ghost use Rattle.std.specs.Prelude.{◌≡◌, ◌<◌, List, slice_index_or, All, IfOk, if◌then◌else◌, length, map};
-ghost use Rattle.mx_orders.specs.StateMap.{with_event};
+ghost use Rattle.std.specs.Prelude.{◌≡◌, ◌<◌, ◌++◌, List, slice_index_or, All, IfOk, if◌then◌else◌, length, map};
+ghost use Rattle.mx_orders.specs.StateMap.{State, with_event};
 ghost use Rattle.mx_graph.specs.Record.{Row};
 ghost use Rattle.mx_state_res.specs.Numbered.{AreAdded, AreKnown, state_at};
 ghost use Rattle.mx_state_res.specs.Resolution as resolution;
@@ -38,7 +38,8 @@ pub(crate) fn resolved_after(
     ensures added { AreAdded graph.now states.old states.new }
 {
     let numbers = states_after(alloc, judgements, events)?;
-    resolve_numbered(alloc, graph, states, &numbers)
+    let state = resolve_numbered(alloc, graph, states, &numbers)?;
+    Ok(state)
 }
 
 // The numbers of the states after some events.
@@ -70,13 +71,17 @@ pub(crate) fn state_after(
     ensures after { IfOk result (λ state. state_at states.new state
         ≡ (if definition.is_rejected verdict then state_at states.old before else with_event (state_at states.old before) event.now number)) }
     ensures below { IfOk result (λ state. state < length states.new) }
+    ensures grown { (more : List State) × (states.new ≡ states.old ++ more) }
     ensures added { (rows : List Row) → number < length rows → AreKnown rows states.old → AreAdded rows states.old states.new }
 {
     if verdict.is_rejected() {
         return Ok(before);
     }
     match event.state_key() {
-        Some(state_key) => states.with(before, event.kind(), state_key, number),
+        Some(state_key) => {
+            let after = states.with(before, event.kind(), state_key, number)?;
+            Ok(after)
+        }
         None => Ok(before),
     }
 }

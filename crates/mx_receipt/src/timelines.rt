@@ -75,14 +75,7 @@ impl Timeline {
         let mut graph = Graph::new(alloc);
         let mut states = States::new(alloc);
         let mut judgements = Vec::new(alloc);
-        let first = begin_in(
-            alloc,
-            &mut graph,
-            &mut states,
-            &mut judgements,
-            event,
-            id,
-        )?;
+        let first = begin_in(alloc, &mut graph, &mut states, &mut judgements, event, id)?;
         Ok(Timeline {
             alloc,
             graph,
