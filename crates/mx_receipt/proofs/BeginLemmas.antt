@@ -1,7 +1,6 @@
 -- The record that a create event begins.
-use Rattle.std.proofs.Common.{◌≡◌, ◌++◌, ℕ, Bool, true, false, not, List, [], ◌∷◌, length, refl, sym, ap, subst, ◌∙◌, arith, None}
+use Rattle.std.proofs.Common.{◌≡◌, ◌++◌, ℕ, zero, suc, Bool, true, false, not, List, [], ◌∷◌, length, refl, sym, ap, subst, ◌∙◌, arith, None}
 use Rattle.std.proofs.lemmas.Bool.{lt-ltb}
-use Rattle.std.specs.Arc.{arc_value}
 use Rattle.std.specs.Prelude.{filter_map, nat_lt, nat_le, codes, if◌then◌else◌}
 use Rattle.std.specs.List.{list_all}
 use Rattle.mx_ident.specs.Identifier.{refuse_if}
@@ -15,13 +14,13 @@ use Rattle.mx_graph.specs.declared.refusals.NotAdded.{NotAdded}
 use Rattle.mx_graph.specs.Adding.{add_error, is_known, most_rows}
 use Rattle.mx_graph.specs.Record.{is_in, place_of}
 use Rattle.mx_orders.specs.StateMap.{State, with_event, view}
+use Rattle.mx_state_res.specs.Numbered.{AreKnown}
 use Rattle.mx_orders.specs.PowerOrder.{power_order}
 use Rattle.mx_orders.specs.Mainline.{mainline_order}
 use Rattle.mx_state_res.specs.Resolution.{resolve, unconflicted, full_conflicted, power_events}
 use Rattle.mx_receipt.specs.Receipt.{state_before_next, before_event, forward_extremities, current_state}
-use Rattle.mx_receipt.specs.Judgements.{IsKept, IsJudged, AreAfter, AreNext, leads_on, kept_row}
+use Rattle.mx_receipt.specs.Judgements.{Judged, IsHeld, IsKept, IsJudged, AreAfter, AreNext, leads_on, kept_row}
 use Rattle.mx_receipt.specs.TimelineView.{IsSoundCreate}
-use Rattle.mx_receipt.specs.declared.snapshots.Judgement.{Judgement}
 use Rattle.mx_receipt.specs.declared.verdicts.Verdict.TheVariants.{Accepted}
 
 none_known : (ids : List (List ℕ)) → filter_map (place_of []) ids ≡ []
@@ -72,16 +71,31 @@ kept-empty = record {
   below = λ k d l. absurd (omega arith);
 }
 
+pub held-empty : (states : List State) → states ≡ [] ∷ [] → IsHeld [] states [] [] 0
+held-empty states are = subst (λ (ss : List State). IsHeld [] ss [] [] 0) (sym are) only
+  where
+    none-known : AreKnown [] ([] ∷ [])
+    none-known zero d l = λ k e m. absurd (omega arith)
+    none-known (suc n) d l = absurd (omega arith)
+
+    only : IsHeld [] ([] ∷ []) [] [] 0
+    only = record {
+      is_kept = subst (λ (s : State). IsKept [] [] [] s) empty-current kept-empty;
+      below = λ k d l. absurd (omega arith);
+      below_current = omega arith;
+      known = none-known;
+    }
+
 empty-before : (e : Event) → state_before_next [] e ≡ []
 unfolding state_before_next before_event resolve unconflicted mainline_order full_conflicted power_order power_events
 empty-before e = refl
 
-pub begin-judged : (id : List ℕ) (e : Event) (j : Judgement) → j.verdict ≡ Accepted → arc_value j.before ≡ [] → arc_value j.after ≡ with_event (arc_value j.before) e 0
+pub begin-judged : (id : List ℕ) (e : Event) (j : Judged) → j.verdict ≡ Accepted → j.before ≡ [] → j.after ≡ with_event j.before e 0
     → IsJudged [] [] [] (record { id = id; event = e; rejected = false }) j (0 ∷ [])
 begin-judged id e j v b a = record {
   flag = ap Rattle.mx_receipt.specs.Receipt.is_rejected (sym v);
   before = b ∙ sym (empty-before e);
-  after = a ∙ ap (λ w. if Rattle.mx_receipt.specs.Receipt.is_rejected w then arc_value j.before else with_event (arc_value j.before) e 0) (sym v);
+  after = a ∙ ap (λ w. if Rattle.mx_receipt.specs.Receipt.is_rejected w then j.before else with_event j.before e 0) (sym v);
   knows_before = subst (λ (s : State). Rattle.mx_receipt.specs.Judgements.Knows [] s) (sym b) (λ k d l. absurd (omega arith));
   are_next = record {
     stay = λ f. absurd (cc (ap Rattle.mx_receipt.specs.Receipt.is_accepted (sym v) ∙ f));

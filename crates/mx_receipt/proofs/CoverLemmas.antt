@@ -10,7 +10,7 @@ use Rattle.mx_graph.specs.Record.{Row, event, is_in, prev_events}
 use Rattle.mx_graph.proofs.Closure.{or_cases}
 use Rattle.mx_graph.proofs.WalkLemmas.{IsWalk}
 use Rattle.mx_receipt.specs.Receipt.{is_accepted}
-use Rattle.mx_receipt.specs.Judgements.{leads_on}
+use Rattle.mx_receipt.specs.Judgements.{Judged, leads_on}
 use Rattle.mx_receipt.specs.declared.verdicts.Verdict.{Verdict}
 use Rattle.mx_receipt.specs.declared.verdicts.Verdict.TheVariants.{Accepted}
 

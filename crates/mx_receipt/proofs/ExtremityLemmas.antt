@@ -10,8 +10,7 @@ use Rattle.mx_graph.specs.Record.{Row, is_in, places, prev_events}
 use Rattle.mx_graph.proofs.Closure.{is_in-from, is_in-to, in_places, range-parts, same_tests}
 use Rattle.mx_graph.proofs.Members.{in_filter, in_filter-parts}
 use Rattle.mx_receipt.specs.Receipt.{Kept, is_accepted, is_rejected, rows_of, kept_at, forward_extremities}
-use Rattle.mx_receipt.specs.Judgements.{leads_on, kept_of, verdicts_of}
-use Rattle.mx_receipt.specs.declared.snapshots.Judgement.{Judgement}
+use Rattle.mx_receipt.specs.Judgements.{Judged, leads_on, kept_of, verdicts_of}
 use Rattle.mx_receipt.specs.declared.verdicts.Verdict.{Verdict}
 use Rattle.mx_receipt.specs.declared.verdicts.Verdict.TheVariants.{Accepted}
 use Rattle.mx_receipt.proofs.GrowthLemmas.{ancestors-below, ancestors-longer, ancestors-with, covered-below}
@@ -153,7 +152,7 @@ module _ (kept : List Kept) (k : Kept) where
 
 -- ---- verdicts beside rows
 
-pub verdict-at : (rows : List Row) (js : List Judgement) (x : ℕ) → length rows ≡ length js → (kept_at (kept_of rows js) x).verdict ≡ slice_index_or (verdicts_of js) x Accepted
+pub verdict-at : (rows : List Row) (js : List Judged) (x : ℕ) → length rows ≡ length js → (kept_at (kept_of rows js) x).verdict ≡ slice_index_or (verdicts_of js) x Accepted
 verdict-at [] [] x e = refl
 verdict-at [] (j ∷ js) x e = absurd (omega arith)
 verdict-at (r ∷ rows) [] x e = absurd (omega arith)

@@ -13,7 +13,7 @@ use Rattle.mx_graph.proofs.ReachedLemmas.{closures-least}
 use Rattle.mx_graph.proofs.RemovalLemmas.{lt-neq, places-before}
 use Rattle.mx_graph.proofs.RowLemmas.{row-new, row-other}
 use Rattle.mx_receipt.specs.Receipt.{is_accepted}
-use Rattle.mx_receipt.specs.Judgements.{leads_on}
+use Rattle.mx_receipt.specs.Judgements.{Judged, leads_on}
 use Rattle.mx_receipt.specs.declared.verdicts.Verdict.{Verdict}
 use Rattle.mx_receipt.specs.declared.verdicts.Verdict.TheVariants.{Accepted}
 

@@ -4,7 +4,6 @@ use Rattle.std.proofs.lemmas.Bool.{cases_lt}
 use Rattle.std.proofs.lemmas.List.{get_or_append_left, length-append, length-map, map-append}
 use Rattle.std.proofs.lemmas.List.Elements.{All-append}
 use Rattle.std.specs.Prelude.{get_or, slice_index_or, if◌then◌else◌}
-use Rattle.std.specs.Arc.{arc_value}
 use Rattle.std.specs.List.{All}
 use Rattle.mx_graph.specs.Edges.{IsAllFrom}
 use Rattle.mx_graph.specs.Graph.{IsSound}
@@ -15,9 +14,8 @@ use Rattle.mx_graph.specs.Record.{Row, is_in, events_where, prev_events}
 use Rattle.mx_orders.specs.StateMap.{State, with_event, view}
 use Rattle.mx_state_res.specs.Resolution.{resolve}
 use Rattle.mx_receipt.specs.Receipt.{Kept, verdict, accept_or, auth_failure, before_event, is_accepted, is_rejected, rows_of, states_at, with_kept, states_after, state_before, state_before_next, forward_extremities, current_state}
-use Rattle.mx_receipt.specs.Judgements.{kept_of, kept_row, verdicts_of, afters, befores, Knows, KnowsAll, IsKept, IsJudged, AreNext, leads_on}
+use Rattle.mx_receipt.specs.Judgements.{Judged, kept_of, kept_row, verdicts_of, afters, befores, Knows, KnowsAll, IsKept, IsJudged, AreNext, leads_on}
 use Rattle.mx_receipt.specs.declared.verdicts.Verdict.TheVariants.{Accepted, SoftFailed, Rejected}
-use Rattle.mx_receipt.specs.declared.snapshots.Judgement.{Judgement}
 use Rattle.mx_state_res.proofs.SetLemmas.{is_in-filter}
 use Rattle.mx_receipt.proofs.CoverLemmas.{in-all}
 use Rattle.mx_receipt.proofs.GrowthLemmas.{is_in-cases}
@@ -43,8 +41,8 @@ and_left : (a b : Bool) → (a && b) ≡ true → a ≡ true
 and_left true b e = refl
 and_left false b e = e
 
-module _ (rows : List Row) (js : List Judgement) (exts : List ℕ) (cur : State) (old : IsKept rows js exts cur)
-    (r : Row) (j : Judgement) (exts' : List ℕ) (next : IsJudged rows js exts r j exts') where
+module _ (rows : List Row) (js : List Judged) (exts : List ℕ) (cur : State) (old : IsKept rows js exts cur)
+    (r : Row) (j : Judged) (exts' : List ℕ) (next : IsJudged rows js exts r j exts') where
   abbrev K : List Kept
   K = kept_of rows js
 
@@ -66,26 +64,26 @@ module _ (rows : List Row) (js : List Judgement) (exts : List ℕ) (cur : State)
   befores-push : (p : ℕ) → p < length (js ++ j ∷ []) → slice_index_or (befores (js ++ j ∷ [])) p [] ≡ state_before (K ++ k ∷ []) p
   befores-push p l = by (cases_lt p (length js))
     where
-      are : befores (js ++ j ∷ []) ≡ befores js ++ arc_value j.before ∷ []
-      are = map-append (λ i. arc_value i.before) js (j ∷ [])
+      are : befores (js ++ j ∷ []) ≡ befores js ++ j.before ∷ []
+      are = map-append (λ i. i.before) js (j ∷ [])
 
       len : length (befores js) ≡ length js
-      len = length-map js (λ i. arc_value i.before)
+      len = length-map js (λ i. i.before)
 
       last : p ≡ length js → slice_index_or (befores (js ++ j ∷ [])) p [] ≡ state_before (K ++ k ∷ []) p
       last e =
-          ap (λ ss. slice_index_or ss p []) are ∙ ap (λ q. slice_index_or (befores js ++ arc_value j.before ∷ []) q []) (e ∙ sym len) ∙ at-seam (befores js) (arc_value j.before) []
+          ap (λ ss. slice_index_or ss p []) are ∙ ap (λ q. slice_index_or (befores js ++ j.before ∷ []) q []) (e ∙ sym len) ∙ at-seam (befores js) j.before []
           ∙ next.before ∙ sym (state_before-new K k) ∙ ap (state_before (K ++ k ∷ [])) (count ∙ sym e)
 
       by : (p < length js) ⊎ (length js ≤ p) → slice_index_or (befores (js ++ j ∷ [])) p [] ≡ state_before (K ++ k ∷ []) p
       by (inl m) =
-          ap (λ ss. slice_index_or ss p []) are ∙ get_or_append_left (befores js) (arc_value j.before ∷ []) [] p (let e : length (befores js) ≡ length js = len in omega arith)
+          ap (λ ss. slice_index_or ss p []) are ∙ get_or_append_left (befores js) (j.before ∷ []) [] p (let e : length (befores js) ≡ length js = len in omega arith)
           ∙ old.befores p m ∙ sym (state_before-old K k p (let e : length K ≡ length js = count in omega arith))
       by (inr m) = last (let e : length (js ++ j ∷ []) ≡ length js + 1 = length-append js (j ∷ []) in omega arith)
 
   afters-push : afters (js ++ j ∷ []) ≡ states_after (K ++ k ∷ []) (suc (length K))
   afters-push =
-      map-append (λ i. arc_value i.after) js (j ∷ [])
+      map-append (λ i. i.after) js (j ∷ [])
       ∙ (λ i. (old.afters ∙ ap (states_after K) (sym count)) i ++ (next.after ∙ λ i. with_kept (next.before i) k ((old.count ∙ sym count) i)) i ∷ [])
       ∙ sym (states_after-push K k)
 
@@ -119,15 +117,15 @@ module _ (rows : List Row) (js : List Judgement) (exts : List ℕ) (cur : State)
       by false f y e = old_below y (ap (λ ps. is_in ps y) (sym (next.are_next.stay f)) ∙ e)
 
   pub knows-push : KnowsAll (rows ++ r ∷ []) (js ++ j ∷ [])
-  knows-push = all-push (λ i. Knows (rows ++ r ∷ []) (arc_value i.after)) js j (λ i d l. knows-longer rows r (arc_value (get_or js i d).after) (old.knows i d l)) knows-after
+  knows-push = all-push (λ i. Knows (rows ++ r ∷ []) i.after) js j (λ i d l. knows-longer rows r ((get_or js i d).after) (old.knows i d l)) knows-after
     where
-      by_verdict : (b : Bool) → Knows (rows ++ r ∷ []) (if b then arc_value j.before else with_event (arc_value j.before) r.event (length rows))
-      by_verdict true = knows-longer rows r (arc_value j.before) next.knows_before
+      by_verdict : (b : Bool) → Knows (rows ++ r ∷ []) (if b then j.before else with_event j.before r.event (length rows))
+      by_verdict true = knows-longer rows r j.before next.knows_before
       by_verdict false =
-          with_event-known (length (rows ++ r ∷ [])) (length rows) (arc_value j.before) r.event (let e : length (rows ++ r ∷ []) ≡ length rows + 1 = length-append rows (r ∷ []) in omega arith)
-          (knows-longer rows r (arc_value j.before) next.knows_before)
+          with_event-known (length (rows ++ r ∷ [])) (length rows) j.before r.event (let e : length (rows ++ r ∷ []) ≡ length rows + 1 = length-append rows (r ∷ []) in omega arith)
+          (knows-longer rows r j.before next.knows_before)
 
-      knows-after : Knows (rows ++ r ∷ []) (arc_value j.after)
+      knows-after : Knows (rows ++ r ∷ []) j.after
       knows-after = subst (Knows (rows ++ r ∷ [])) (sym next.after) (by_verdict (is_rejected j.verdict))
 
   module _ (sound : IsSound rows) (after : IsSound (rows ++ r ∷ [])) where
@@ -166,13 +164,13 @@ module _ (rows : List Row) (js : List Judgement) (exts : List ℕ) (cur : State)
             are_extremities = extremities-push ∙ ap forward_extremities (sym is_push);
             is_current = current-push ∙ ap current_state (sym is_push);
             knows = knows-push;
-            knows_before = all-push (λ i. Knows (rows ++ r ∷ []) (arc_value i.before)) js j (λ i d l. knows-longer rows r (arc_value (get_or js i d).before) (old.knows_before i d l)) (knows-longer rows r (arc_value j.before) next.knows_before);
+            knows_before = all-push (λ i. Knows (rows ++ r ∷ []) i.before) js j (λ i d l. knows-longer rows r ((get_or js i d).before) (old.knows_before i d l)) (knows-longer rows r j.before next.knows_before);
             knows_current = knows_current;
             below = below-push;
           }
 
 -- the current state that is kept is the resolution of the states after the forward extremities
-pub current-is : (rows : List Row) (js : List Judgement) (exts : List ℕ) (cur : State) → IsKept rows js exts cur → cur ≡ resolve rows (states_at (afters js) exts)
+pub current-is : (rows : List Row) (js : List Judged) (exts : List ℕ) (cur : State) → IsKept rows js exts cur → cur ≡ resolve rows (states_at (afters js) exts)
 unfolding current_state
 current-is rows js exts cur kept =
     let same : afters js ≡ states_after (kept_of rows js) (length (kept_of rows js)) = kept.afters ∙ ap (states_after (kept_of rows js)) (sym (kept_of-length rows js kept.count)) in
@@ -180,7 +178,7 @@ current-is rows js exts cur kept =
 
 -- ---- the verdict and the state before, from what is kept
 
-module _ (rows : List Row) (js : List Judgement) (exts : List ℕ) (cur : State) (kept : IsKept rows js exts cur) (e : Event) where
+module _ (rows : List Row) (js : List Judged) (exts : List ℕ) (cur : State) (kept : IsKept rows js exts cur) (e : Event) where
   pub before-is : resolve rows (states_at (afters js) (events_where rows (is_in (prev_events rows e)))) ≡ state_before_next (kept_of rows js) e
   unfolding state_before_next before_event
   before-is =

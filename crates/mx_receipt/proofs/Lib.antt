@@ -10,3 +10,5 @@ pub mod TimelineLemmas
 pub mod ShownLemmas
 pub mod ReceiptOnExamples
 pub mod ReceiptRows
+pub mod HeldLemmas
+pub mod HeldGrowth

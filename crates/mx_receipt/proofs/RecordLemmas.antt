@@ -5,8 +5,7 @@ use Rattle.std.specs.Prelude.{slice_index_or}
 use Rattle.mx_graph.specs.Record.{Row}
 use Rattle.mx_orders.specs.StateMap.{State}
 use Rattle.mx_receipt.specs.Receipt.{Kept, rows_of, kept_at, before_event, with_kept, states_after, state_before, state_before_next}
-use Rattle.mx_receipt.specs.Judgements.{kept_of}
-use Rattle.mx_receipt.specs.declared.snapshots.Judgement.{Judgement}
+use Rattle.mx_receipt.specs.Judgements.{Judged, kept_of}
 
 -- ---- lists
 
@@ -25,19 +24,19 @@ at-seam (x ∷ xs) y d = at-seam xs y d
 
 -- ---- rows and verdicts
 
-pub kept_of-push : (rows : List Row) (js : List Judgement) (r : Row) (j : Judgement) → length rows ≡ length js → kept_of (rows ++ r ∷ []) (js ++ j ∷ []) ≡ kept_of rows js ++ record { id = r.id; event = r.event; verdict = j.verdict } ∷ []
+pub kept_of-push : (rows : List Row) (js : List Judged) (r : Row) (j : Judged) → length rows ≡ length js → kept_of (rows ++ r ∷ []) (js ++ j ∷ []) ≡ kept_of rows js ++ record { id = r.id; event = r.event; verdict = j.verdict } ∷ []
 kept_of-push [] [] r j e = refl
 kept_of-push [] (k ∷ js) r j e = absurd (omega arith)
 kept_of-push (s ∷ rows) [] r j e = absurd (omega arith)
 kept_of-push (s ∷ rows) (k ∷ js) r j e = ap (λ (ks : List Kept). record { id = s.id; event = s.event; verdict = k.verdict } ∷ ks) (kept_of-push rows js r j (omega arith))
 
-pub kept_of-longer : (rows : List Row) (js : List Judgement) (r : Row) → length rows ≡ length js → kept_of (rows ++ r ∷ []) js ≡ kept_of rows js
+pub kept_of-longer : (rows : List Row) (js : List Judged) (r : Row) → length rows ≡ length js → kept_of (rows ++ r ∷ []) js ≡ kept_of rows js
 kept_of-longer [] [] r e = refl
 kept_of-longer [] (k ∷ js) r e = absurd (omega arith)
 kept_of-longer (s ∷ rows) [] r e = absurd (omega arith)
 kept_of-longer (s ∷ rows) (k ∷ js) r e = ap (λ (ks : List Kept). record { id = s.id; event = s.event; verdict = k.verdict } ∷ ks) (kept_of-longer rows js r (omega arith))
 
-pub kept_of-length : (rows : List Row) (js : List Judgement) → length rows ≡ length js → length (kept_of rows js) ≡ length js
+pub kept_of-length : (rows : List Row) (js : List Judged) → length rows ≡ length js → length (kept_of rows js) ≡ length js
 kept_of-length [] [] e = refl
 kept_of-length [] (k ∷ js) e = absurd (omega arith)
 kept_of-length (s ∷ rows) [] e = absurd (omega arith)

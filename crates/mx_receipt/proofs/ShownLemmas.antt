@@ -1,27 +1,52 @@
 -- What a timeline hands out.
-use Rattle.std.proofs.Common.{◌≡◌, ◌<◌, ◌≤◌, ◌+◌, ◌++◌, ◌⊎◌, inl, inr, ℕ, zero, suc, Bool, true, false, List, [], ◌∷◌, length, refl, sym, ap, ◌∙◌, arith, Option, Some, None}
+use Rattle.std.proofs.Common.{◌≡◌, ◌<◌, ◌≤◌, ◌+◌, ◌++◌, ◌⊎◌, inl, inr, ℕ, zero, suc, Bool, true, false, List, [], ◌∷◌, length, refl, sym, ap, subst, ◌∙◌, arith, Option, Some, None}
 use Rattle.std.proofs.lemmas.Bool.{cases_lt}
 use Rattle.std.proofs.lemmas.List.{get_or_append_left, length-append, get_or-map, append-nil}
-use Rattle.std.specs.Arc.{arc_value}
 use Rattle.std.specs.Prelude.{slice_index_or, option_to_list, bytes_eq, cond}
 use Rattle.std.specs.Option.{option_or}
 use Rattle.mx_graph.proofs.RowLemmas.{place_of-push, place_of-below}
 use Rattle.mx_graph.specs.Record.{Row, no_row, row, place_of}
 use Rattle.mx_orders.specs.StateMap.{State}
 use Rattle.mx_receipt.specs.Receipt.{Kept, rows_of, kept_at, states_after, state_before, state_after, forward_extremities, current_state}
-use Rattle.mx_receipt.specs.Judgements.{kept_of}
+use Rattle.mx_state_res.specs.Numbered.{state_at}
+use Rattle.mx_receipt.specs.Judgements.{Judged, judged_by, judged_in, kept_of}
 use Rattle.mx_receipt.specs.Timelines.{kept_in, IsTimeline, HasKept}
 use Rattle.mx_receipt.specs.declared.verdicts.Verdict.TheVariants.{Accepted}
 use Rattle.mx_receipt.specs.declared.snapshots.Judgement.{Judgement}
 use Rattle.mx_receipt.specs.declared.timelines.Prepared.{Prepared}
 use Rattle.mx_receipt.proofs.ExtremityLemmas.{verdict-at}
+use Rattle.mx_receipt.proofs.HeldLemmas.{judged-length}
 use Rattle.mx_receipt.proofs.RecordLemmas.{at-seam, kept_of-length}
 use Rattle.mx_receipt.proofs.TimelineLemmas.{kept-shown}
 
 -- with or without an event that is prepared
-pub has-kept : (rows : List Row) (js : List Judgement) (exts : List ℕ) (cur : State) (o : Option Prepared) → IsTimeline rows js exts cur o → HasKept rows js exts cur (kept_in rows js o)
-has-kept rows js exts cur None h = record { kept_rows = rows; next_row = None; kept_judgements = js; more_judgements = []; are_rows = sym (append-nil rows); are_judgements = sym (append-nil js); is_kept = h; shown = refl }
-has-kept rows js exts cur (Some p) h = record { kept_rows = h.earlier; next_row = Some h.row; kept_judgements = h.judged; more_judgements = h.judgement ∷ []; are_rows = h.are_rows; are_judgements = h.are_judgements; is_kept = h.before; shown = kept-shown rows js exts cur p h }
+pub has-kept : (rows : List Row) (states : List State) (js : List Judgement) (exts : List ℕ) (cur : ℕ) (o : Option Prepared) → IsTimeline rows states js exts cur o → HasKept rows states js exts cur (kept_in rows (judged_in states js) o)
+has-kept rows states js exts cur None h = record {
+  kept_rows = rows;
+  next_row = None;
+  kept_states = states;
+  more_states = [];
+  kept_judgements = js;
+  more_judgements = [];
+  are_rows = sym (append-nil rows);
+  are_states = sym (append-nil states);
+  are_judgements = sym (append-nil js);
+  is_held = h;
+  shown = refl;
+}
+has-kept rows states js exts cur (Some p) h = record {
+  kept_rows = h.earlier;
+  next_row = Some h.row;
+  kept_states = h.earlier_states;
+  more_states = h.more_states;
+  kept_judgements = h.judged;
+  more_judgements = h.judgement ∷ [];
+  are_rows = h.are_rows;
+  are_states = h.are_states;
+  are_judgements = h.are_judgements;
+  is_held = h.before;
+  shown = kept-shown rows states js exts cur p h;
+}
 
 states_after-length : (kept : List Kept) (n : ℕ) → length (states_after kept n) ≡ n
 states_after-length kept zero = refl
@@ -67,50 +92,82 @@ found-after rows o id h = by (place_of rows id) refl
     by None e = e
     by (Some q) e = absurd (let low : q < length rows = place_of-below rows id q e in let high : length rows ≤ q = h q (longer o q e) in omega arith)
 
-module _ (rows : List Row) (js : List Judgement) (exts : List ℕ) (cur : State) (kept : List Kept) (h : HasKept rows js exts cur kept) where
+module _ (rows : List Row) (states : List State) (js : List Judgement) (exts : List ℕ) (cur : ℕ) (kept : List Kept) (h : HasKept rows states js exts cur kept) where
+  abbrev judged : List Judged
+  judged = judged_in h.kept_states h.kept_judgements
+
   pub shown-length : length kept ≡ length h.kept_judgements
-  shown-length = ap length h.shown ∙ kept_of-length h.kept_rows h.kept_judgements h.is_kept.count
+  shown-length = ap length h.shown ∙ kept_of-length h.kept_rows judged h.is_held.is_kept.count ∙ judged-length h.kept_states h.kept_judgements
 
   pub shown-rows : rows_of kept ≡ h.kept_rows
-  shown-rows = ap rows_of h.shown ∙ sym h.is_kept.are_kept
+  shown-rows = ap rows_of h.shown ∙ sym h.is_held.is_kept.are_kept
 
-  pub shown-current : cur ≡ current_state kept
-  shown-current = h.is_kept.is_current ∙ ap current_state (sym h.shown)
+  -- a state that is kept is the one with its number
+  state-here : (n : ℕ) → n < length h.kept_states → state_at states n ≡ state_at h.kept_states n
+  state-here n l = ap (λ ss. state_at ss n) h.are_states ∙ get_or_append_left h.kept_states h.more_states [] n l
+
+  more-states : (n : ℕ) → n < length h.kept_states → n < length states
+  more-states n l = let e : length states ≡ length h.kept_states + length h.more_states = ap length h.are_states ∙ length-append h.kept_states h.more_states in omega arith
+
+  pub current-below : cur < length states
+  current-below = more-states cur h.is_held.below_current
+
+  pub shown-current : state_at states cur ≡ current_state kept
+  shown-current = state-here cur h.is_held.below_current ∙ h.is_held.is_kept.is_current ∙ ap current_state (sym h.shown)
 
   pub shown-extremities : exts ≡ forward_extremities kept
-  shown-extremities = h.is_kept.are_extremities ∙ ap forward_extremities (sym h.shown)
+  shown-extremities = h.is_held.is_kept.are_extremities ∙ ap forward_extremities (sym h.shown)
 
-  shown-index : (p : ℕ) → p < length kept → p < length h.kept_judgements
+  pub shown-index : (p : ℕ) → p < length kept → p < length h.kept_judgements
   shown-index p l = let e : length kept ≡ length h.kept_judgements = shown-length in omega arith
+
+  judged-index : (p : ℕ) → p < length kept → p < length judged
+  judged-index p l = let e : length judged ≡ length h.kept_judgements = judged-length h.kept_states h.kept_judgements in let m : p < length h.kept_judgements = shown-index p l in omega arith
 
   -- what stands at the place of a kept event
   shown-at : (p : ℕ) (v : Judgement) → p < length kept → v ≡ slice_index_or js p v → v ≡ slice_index_or h.kept_judgements p v
   shown-at p v l e = e ∙ ap (λ is. slice_index_or is p v) h.are_judgements ∙ get_or_append_left h.kept_judgements h.more_judgements v p (shown-index p l)
 
+  is-below : (p : ℕ) (v : Judgement) → p < length kept → v ≡ slice_index_or js p v → (v.before < length h.kept_states) × (v.after < length h.kept_states)
+  is-below p v l e =
+      subst (λ (j : Judgement). (j.before < length h.kept_states) × (j.after < length h.kept_states)) (sym (shown-at p v l e))
+      (h.is_held.below p v (shown-index p l))
+
+  judged-at : (p : ℕ) (v : Judgement) → p < length kept → v ≡ slice_index_or js p v → judged_by h.kept_states v ≡ slice_index_or judged p (judged_by h.kept_states v)
+  judged-at p v l e = ap (judged_by h.kept_states) (shown-at p v l e) ∙ sym (get_or-map (judged_by h.kept_states) h.kept_judgements p v (judged_by h.kept_states v) (shown-index p l))
+
   pub shown-verdict : (p : ℕ) (v : Judgement) → p < length kept → v ≡ slice_index_or js p v → v.verdict ≡ (kept_at kept p).verdict
   shown-verdict p v l e =
-      ap (λ (j : Judgement). j.verdict) (shown-at p v l e) ∙ sym (get_or-map (λ (j : Judgement). j.verdict) h.kept_judgements p v Accepted (shown-index p l))
-      ∙ sym (verdict-at h.kept_rows h.kept_judgements p h.is_kept.count) ∙ ap (λ ks. (kept_at ks p).verdict) (sym h.shown)
+      ap (λ (j : Judged). j.verdict) (judged-at p v l e) ∙ sym (get_or-map (λ (j : Judged). j.verdict) judged p (judged_by h.kept_states v) Accepted (judged-index p l))
+      ∙ sym (verdict-at h.kept_rows judged p h.is_held.is_kept.count) ∙ ap (λ ks. (kept_at ks p).verdict) (sym h.shown)
 
-  pub shown-before : (p : ℕ) (v : Judgement) → p < length kept → v ≡ slice_index_or js p v → arc_value v.before ≡ state_before kept p
+  pub before-below : (p : ℕ) (v : Judgement) → p < length kept → v ≡ slice_index_or js p v → v.before < length states
+  before-below p v l e = more-states v.before (is-below p v l e).0
+
+  pub after-below : (p : ℕ) (v : Judgement) → p < length kept → v ≡ slice_index_or js p v → v.after < length states
+  after-below p v l e = more-states v.after (is-below p v l e).1
+
+  pub shown-before : (p : ℕ) (v : Judgement) → p < length kept → v ≡ slice_index_or js p v → state_at states v.before ≡ state_before kept p
   shown-before p v l e =
-      ap (λ (j : Judgement). arc_value j.before) (shown-at p v l e) ∙ sym (get_or-map (λ (j : Judgement). arc_value j.before) h.kept_judgements p v [] (shown-index p l))
-      ∙ h.is_kept.befores p (shown-index p l) ∙ ap (λ ks. state_before ks p) (sym h.shown)
+      state-here v.before (is-below p v l e).0
+      ∙ ap (λ (j : Judged). j.before) (judged-at p v l e) ∙ sym (get_or-map (λ (j : Judged). j.before) judged p (judged_by h.kept_states v) [] (judged-index p l))
+      ∙ h.is_held.is_kept.befores p (judged-index p l) ∙ ap (λ ks. state_before ks p) (sym h.shown)
 
-  pub shown-after : (p : ℕ) (v : Judgement) → p < length kept → v ≡ slice_index_or js p v → arc_value v.after ≡ state_after kept p
+  pub shown-after : (p : ℕ) (v : Judgement) → p < length kept → v ≡ slice_index_or js p v → state_at states v.after ≡ state_after kept p
   shown-after p v l e =
-      ap (λ (j : Judgement). arc_value j.after) (shown-at p v l e) ∙ sym (get_or-map (λ (j : Judgement). arc_value j.after) h.kept_judgements p v [] (shown-index p l))
-      ∙ ap (λ ss. slice_index_or ss p []) h.is_kept.afters ∙ states_after-at (kept_of h.kept_rows h.kept_judgements) (length h.kept_judgements) p (shown-index p l)
+      state-here v.after (is-below p v l e).1
+      ∙ ap (λ (j : Judged). j.after) (judged-at p v l e) ∙ sym (get_or-map (λ (j : Judged). j.after) judged p (judged_by h.kept_states v) [] (judged-index p l))
+      ∙ ap (λ ss. slice_index_or ss p []) h.is_held.is_kept.afters ∙ states_after-at (kept_of h.kept_rows judged) (length judged) p (judged-index p l)
       ∙ ap (λ ks. state_after ks p) (sym h.shown)
 
   pub shown-row : (p : ℕ) → p < length kept → row rows p ≡ row (rows_of kept) p
   shown-row p l =
       let e : length kept ≡ length h.kept_judgements = shown-length in
-      let f : length h.kept_rows ≡ length h.kept_judgements = h.is_kept.count in
+      let f : length h.kept_rows ≡ length h.kept_judgements = h.is_held.is_kept.count ∙ judged-length h.kept_states h.kept_judgements in
       ap (λ rs. row rs p) h.are_rows ∙ get_or_append_left h.kept_rows (option_to_list h.next_row) no_row p (omega arith) ∙ ap (λ rs. row rs p) (sym shown-rows)
 
   shown-count : length kept ≡ length h.kept_rows
-  shown-count = shown-length ∙ sym h.is_kept.count
+  shown-count = shown-length ∙ sym (h.is_held.is_kept.count ∙ judged-length h.kept_states h.kept_judgements)
 
   pub shown-found : (id : List ℕ) (p : ℕ) → place_of rows id ≡ Some p → p < length kept → Some p ≡ place_of (rows_of kept) id
   shown-found id p e l =

@@ -1,8 +1,7 @@
 -- What a timeline shows, and what its parts are.
-use Rattle.std.proofs.Common.{◌≡◌, ◌+◌, ◌-◌, ◌++◌, ℕ, Bool, true, false, not, ◌||◌, ◌&&◌, List, [], ◌∷◌, take, length, refl, sym, subst, ◌∙◌, arith, Option, Some, None}
+use Rattle.std.proofs.Common.{◌≡◌, ◌+◌, ◌-◌, ◌++◌, ℕ, Bool, true, false, not, ◌||◌, ◌&&◌, List, [], ◌∷◌, take, length, refl, sym, ap, subst, ◌∙◌, arith, Option, Some, None}
 use Rattle.std.proofs.lemmas.List.{length-append}
 use Rattle.std.proofs.lemmas.List.Folds.{list_any-append}
-use Rattle.std.specs.Arc.{arc_value}
 use Rattle.std.specs.Prelude.{slice_get, is_some, is_none, nat_le, codes}
 use Rattle.std.specs.List.{list_any, list_all}
 use Rattle.mx_ident.specs.Identifier.{refuse_if}
@@ -14,10 +13,11 @@ use Rattle.mx_graph.specs.Adding.{add_error, is_known, most_rows}
 use Rattle.mx_graph.specs.Record.{Row, place_of}
 use Rattle.mx_orders.specs.StateMap.{State}
 use Rattle.mx_receipt.specs.Receipt.{Kept, offer_error, lacks_cited, installed, judged}
-use Rattle.mx_receipt.specs.Judgements.{kept_of, kept_row, IsKept, IsAdded}
+use Rattle.mx_receipt.specs.Judgements.{Judged, judged_by, judged_in, kept_of, kept_row, IsHeld, IsAdded}
 use Rattle.mx_receipt.specs.Timelines.{kept_in, prepared_in, IsPrepared, IsTimeline}
 use Rattle.mx_receipt.specs.declared.snapshots.Judgement.{Judgement}
 use Rattle.mx_receipt.specs.declared.timelines.Prepared.{Prepared}
+use Rattle.mx_receipt.proofs.HeldLemmas.{judged-grows, judged-push}
 use Rattle.mx_receipt.proofs.RecordLemmas.{take-whole, kept_of-push, kept_of-length}
 
 get-seam : {A : Type 0} (xs : List A) (y : A) → slice_get (xs ++ y ∷ []) (length xs) ≡ Some y
@@ -26,7 +26,7 @@ get-seam (x ∷ xs) y = get-seam xs y
 
 -- ---- an event that is prepared
 
-module _ (earlier : List Row) (r : Row) (js : List Judgement) (j : Judgement) (count : length earlier ≡ length js) where
+module _ (earlier : List Row) (r : Row) (js : List Judged) (j : Judged) (count : length earlier ≡ length js) where
   one_less : length (js ++ j ∷ []) - 1 ≡ length (kept_of earlier js)
   one_less =
       let e : length (js ++ j ∷ []) ≡ length js + 1 = length-append js (j ∷ []) in
@@ -39,57 +39,74 @@ module _ (earlier : List Row) (r : Row) (js : List Judgement) (j : Judgement) (c
   shown-prepared : slice_get (kept_of (earlier ++ r ∷ []) (js ++ j ∷ [])) (length (js ++ j ∷ []) - 1) ≡ Some (kept_row r j)
   shown-prepared = (λ i. slice_get (kept_of-push earlier js r j count i) (one_less i)) ∙ get-seam (kept_of earlier js) (kept_row r j)
 
-module _ (rows : List Row) (js : List Judgement) (exts : List ℕ) (cur : State) (p : Prepared) (h : IsPrepared rows js exts cur p) where
-  pub kept-shown : kept_in rows js (Some p) ≡ kept_of h.earlier h.judged
-  kept-shown = (λ i. take (length (h.are_judgements i) - 1) (kept_of (h.are_rows i) (h.are_judgements i))) ∙ shown-kept h.earlier h.row h.judged h.judgement h.before.count
+module _ (rows : List Row) (states : List State) (js : List Judgement) (exts : List ℕ) (cur : ℕ) (p : Prepared) (h : IsPrepared rows states js exts cur p) where
+  abbrev earlier_judged : List Judged
+  earlier_judged = judged_in h.earlier_states h.judged
 
-  pub prepared-shown : prepared_in rows js (Some p) ≡ Some (kept_row h.row h.judgement)
-  prepared-shown = (λ i. slice_get (kept_of (h.are_rows i) (h.are_judgements i)) (length (h.are_judgements i) - 1)) ∙ shown-prepared h.earlier h.row h.judged h.judgement h.before.count
+  -- the states of the earlier ones are those that were there
+  are_judged : judged_in states js ≡ earlier_judged ++ judged_by states h.judgement ∷ []
+  are_judged =
+      ap (judged_in states) h.are_judgements ∙ judged-push states h.judged h.judgement
+      ∙ ap (λ is. is ++ judged_by states h.judgement ∷ []) (ap (λ ss. judged_in ss h.judged) h.are_states ∙ judged-grows h.earlier_states h.more_states h.judged h.before.below)
+
+  pub kept-shown : kept_in rows (judged_in states js) (Some p) ≡ kept_of h.earlier earlier_judged
+  kept-shown = (λ i. take (length (are_judged i) - 1) (kept_of (h.are_rows i) (are_judged i))) ∙ shown-kept h.earlier h.row earlier_judged (judged_by states h.judgement) h.before.is_kept.count
+
+  pub prepared-shown : prepared_in rows (judged_in states js) (Some p) ≡ Some (kept_row h.row (judged_by states h.judgement))
+  prepared-shown = (λ i. slice_get (kept_of (h.are_rows i) (are_judged i)) (length (are_judged i) - 1)) ∙ shown-prepared h.earlier h.row earlier_judged (judged_by states h.judgement) h.before.is_kept.count
 
   -- it is the next one
-  pub installed-shown : kept_of rows js ≡ installed (kept_in rows js (Some p)) (prepared_in rows js (Some p))
+  pub installed-shown : kept_of rows (judged_in states js) ≡ installed (kept_in rows (judged_in states js) (Some p)) (prepared_in rows (judged_in states js) (Some p))
   installed-shown =
-      (λ i. kept_of (h.are_rows i) (h.are_judgements i)) ∙ kept_of-push h.earlier h.judged h.row h.judgement h.before.count
+      (λ i. kept_of (h.are_rows i) (are_judged i)) ∙ kept_of-push h.earlier earlier_judged h.row (judged_by states h.judgement) h.before.is_kept.count
       ∙ λ i. installed (sym kept-shown i) (sym prepared-shown i)
 
-  -- without the last row and the last verdict
-  module _ (rows' : List Row) (js' : List Judgement) (less_rows : (es : List Row) (r : Row) → rows ≡ es ++ r ∷ [] → rows' ≡ es) (less_judgements : (is : List Judgement) (j : Judgement) → js ≡ is ++ j ∷ [] → js' ≡ is) where
-    pub discarded-kept : IsKept rows' js' exts cur
-    discarded-kept =
-        subst (λ rs. IsKept rs js' exts cur) (sym (less_rows h.earlier h.row h.are_rows))
-        (subst (λ is. IsKept h.earlier is exts cur) (sym (less_judgements h.judged h.judgement h.are_judgements)) h.before)
+  -- without the last row, the last verdict and the states that were added
+  module _ (rows' : List Row) (states' : List State) (js' : List Judgement) (less_rows : (es : List Row) (r : Row) → rows ≡ es ++ r ∷ [] → rows' ≡ es) (less_states : states' ≡ take p.states states) (less_judgements : (is : List Judgement) (j : Judgement) → js ≡ is ++ j ∷ [] → js' ≡ is) where
+    states-are : states' ≡ h.earlier_states
+    states-are = less_states ∙ (λ i. take (h.count i) (h.are_states i)) ∙ take-whole h.earlier_states h.more_states
 
-    pub discarded-shown : kept_of rows' js' ≡ kept_in rows js (Some p)
-    discarded-shown = (λ i. kept_of (less_rows h.earlier h.row h.are_rows i) (less_judgements h.judged h.judgement h.are_judgements i)) ∙ sym kept-shown
+    pub discarded-held : IsHeld rows' states' js' exts cur
+    discarded-held =
+        subst (λ rs. IsHeld rs states' js' exts cur) (sym (less_rows h.earlier h.row h.are_rows))
+        (subst (λ ss. IsHeld h.earlier ss js' exts cur) (sym states-are)
+        (subst (λ is. IsHeld h.earlier h.earlier_states is exts cur) (sym (less_judgements h.judged h.judgement h.are_judgements)) h.before))
+
+    pub discarded-shown : kept_of rows' (judged_in states' js') ≡ kept_in rows (judged_in states js) (Some p)
+    discarded-shown = (λ i. kept_of (less_rows h.earlier h.row h.are_rows i) (judged_in (states-are i) (less_judgements h.judged h.judgement h.are_judgements i))) ∙ sym kept-shown
 
 -- where no event is shown as prepared, none is
-pub none-prepared : (rows : List Row) (js : List Judgement) (exts : List ℕ) (cur : State) (o : Option Prepared) → IsTimeline rows js exts cur o → prepared_in rows js o ≡ None → o ≡ None
-none-prepared rows js exts cur None h e = refl
-none-prepared rows js exts cur (Some p) h e = absurd (cc (sym (prepared-shown rows js exts cur p h) ∙ e))
+pub none-prepared : (rows : List Row) (states : List State) (js : List Judgement) (exts : List ℕ) (cur : ℕ) (o : Option Prepared) → IsTimeline rows states js exts cur o → prepared_in rows (judged_in states js) o ≡ None → o ≡ None
+none-prepared rows states js exts cur None h e = refl
+none-prepared rows states js exts cur (Some p) h e = absurd (cc (sym (prepared-shown rows states js exts cur p h) ∙ e))
 
 -- ---- an event that was added
 
-module _ (rows : List Row) (js : List Judgement) (exts : List ℕ) (cur : State) (kept : IsKept rows js exts cur) (id : List ℕ) (e : Event) (rows' : List Row) (js' : List Judgement) (p : Prepared)
-    (added : IsAdded rows js id e rows' js' p.extremities.items (arc_value p.current)) where
-  pub is_prepared : IsPrepared rows' js' exts cur p
+module _ (rows : List Row) (states : List State) (js : List Judgement) (exts : List ℕ) (cur : ℕ) (held : IsHeld rows states js exts cur) (id : List ℕ) (e : Event) (rows' : List Row) (states' : List State) (js' : List Judgement) (p : Prepared)
+    (added : IsAdded rows states js id e rows' states' js' p.extremities.items p.current) (count : p.states ≡ length states) where
+  pub is_prepared : IsPrepared rows' states' js' exts cur p
   is_prepared = record {
     earlier = rows;
     row = record { id = id; event = e; rejected = Rattle.mx_receipt.specs.Receipt.is_rejected added.judgement.verdict };
+    earlier_states = states;
+    more_states = added.more;
     judged = js;
     judgement = added.judgement;
     are_rows = added.are_rows;
+    are_states = added.are_states;
+    count = count;
     are_judgements = added.are_judgements;
-    before = kept;
-    after = added.is_kept;
+    before = held;
+    after = added.is_held;
   }
 
-  pub added-kept : kept_in rows' js' (Some p) ≡ kept_of rows js
+  pub added-kept : kept_in rows' (judged_in states' js') (Some p) ≡ kept_of rows (judged_in states js)
   unfolding is_prepared
-  added-kept = kept-shown rows' js' exts cur p is_prepared
+  added-kept = kept-shown rows' states' js' exts cur p is_prepared
 
-  pub added-prepared : prepared_in rows' js' (Some p) ≡ Some (judged (kept_of rows js) id e)
+  pub added-prepared : prepared_in rows' (judged_in states' js') (Some p) ≡ Some (judged (kept_of rows (judged_in states js)) id e)
   unfolding is_prepared
-  added-prepared = prepared-shown rows' js' exts cur p is_prepared ∙ λ i. Some (record { id = id; event = e; verdict = added.is_verdict i })
+  added-prepared = prepared-shown rows' states' js' exts cur p is_prepared ∙ λ i. Some (record { id = id; event = e; verdict = added.is_verdict i })
 
 -- ---- an event that a record takes can be added
 

@@ -1,39 +1,63 @@
 -- What is kept beside the rows of a record, for private clauses.
 use Rattle.std.specs.Prelude.{◌≡◌, ℕ, ◌<◌, ◌++◌, ◌∷◌, Bool, true, false, not, List, [], All, length, map, filter, slice_index_or, if◌then◌else◌}
-use Rattle.std.specs.Arc.{arc_value}
 use Rattle.mx_redact.specs.Fields.{Event}
 use Rattle.mx_graph.specs.Edges.{IsAllFrom}
 use Rattle.mx_graph.specs.Record.{Row, event, is_in, prev_events}
 use Rattle.mx_orders.specs.StateMap.{State}
+use Rattle.mx_state_res.specs.Numbered.{AreKnown, state_at}
 use Rattle.mx_receipt.specs.Receipt.{Kept, verdict, is_accepted, is_rejected, rows_of, with_kept, states_after, state_before, state_before_next, forward_extremities, current_state}
 use Rattle.mx_receipt.specs.declared.verdicts.Verdict.{Verdict}
 use Rattle.mx_receipt.specs.declared.verdicts.Verdict.TheVariants.{Accepted}
 use Rattle.mx_receipt.specs.declared.snapshots.Judgement.{Judgement}
 
+-- what a room found of an event, with the states before and after it
+pub record Judged : Type 0 where
+  pub verdict : Verdict
+  pub before : State
+  pub after : State
+
+-- the same of judgements that have the numbers of states
+abbrev pub judged_by : List State → Judgement → Judged
+judged_by states j = record { verdict = j.verdict; before = state_at states j.before; after = state_at states j.after }
+
+abbrev pub judged_in : List State → List Judgement → List Judged
+judged_in states = map (judged_by states)
+
+-- their numbers are those of some first states
+abbrev pub AreBelow : ℕ → List Judgement → Type 0
+AreBelow count = All (λ j. (j.before < count) × (j.after < count))
+
+abbrev pub verdicts_in : List Judgement → List Verdict
+verdicts_in = map (λ j. j.verdict)
+
+-- the numbers of the states after the events
+abbrev pub numbers_after : List Judgement → List ℕ
+numbers_after = map (λ j. j.after)
+
 -- the events of the record under their verdicts; a row beyond the verdicts is not among them
-abbrev pub kept_of : List Row → List Judgement → List Kept
+abbrev pub kept_of : List Row → List Judged → List Kept
 kept_of [] judgements = []
 kept_of (row ∷ rows) [] = []
 kept_of (row ∷ rows) (j ∷ judgements) = record { id = row.id; event = row.event; verdict = j.verdict } ∷ kept_of rows judgements
 
-abbrev pub verdicts_of : List Judgement → List Verdict
+abbrev pub verdicts_of : List Judged → List Verdict
 verdicts_of = map (λ j. j.verdict)
 
-abbrev pub afters : List Judgement → List State
-afters = map (λ j. arc_value j.after)
+abbrev pub afters : List Judged → List State
+afters = map (λ j. j.after)
 
-abbrev pub befores : List Judgement → List State
-befores = map (λ j. arc_value j.before)
+abbrev pub befores : List Judged → List State
+befores = map (λ j. j.before)
 
 -- the state's events are rows
 abbrev pub Knows : List Row → State → Type 0
 Knows rows s = All (λ e. e.1 < length rows) s
 
-abbrev pub KnowsAll : List Row → List Judgement → Type 0
-KnowsAll rows = All (λ j. Knows rows (arc_value j.after))
+abbrev pub KnowsAll : List Row → List Judged → Type 0
+KnowsAll rows = All (λ j. Knows rows j.after)
 
 -- what is kept agrees with the definitions, which work it out of the record
-pub record IsKept (rows : List Row) (judgements : List Judgement) (extremities : List ℕ) (current : State) : Type 0 where
+pub record IsKept (rows : List Row) (judgements : List Judged) (extremities : List ℕ) (current : State) : Type 0 where
   pub are_kept : rows ≡ rows_of (kept_of rows judgements)
   pub count : length rows ≡ length judgements
   pub befores : (p : ℕ) → p < length judgements → slice_index_or (befores judgements) p [] ≡ state_before (kept_of rows judgements) p
@@ -41,7 +65,7 @@ pub record IsKept (rows : List Row) (judgements : List Judgement) (extremities :
   pub are_extremities : extremities ≡ forward_extremities (kept_of rows judgements)
   pub is_current : current ≡ current_state (kept_of rows judgements)
   pub knows : KnowsAll rows judgements
-  pub knows_before : All (λ j. Knows rows (arc_value j.before)) judgements
+  pub knows_before : All (λ j. Knows rows j.before) judgements
   pub knows_current : Knows rows current
   pub below : All (λ p. p < length judgements) extremities
 
@@ -68,21 +92,30 @@ pub record AreAfter (rows : List Row) (verdicts : List Verdict) (prev extremitie
 
 -- ---- what one more row makes of it
 
-abbrev pub kept_row : Row → Judgement → Kept
+abbrev pub kept_row : Row → Judged → Kept
 kept_row r j = record { id = r.id; event = r.event; verdict = j.verdict }
 
 -- an event's row and judgement, and the extremities after it
-pub record IsJudged (rows : List Row) (judgements : List Judgement) (extremities : List ℕ) (r : Row) (j : Judgement) (next : List ℕ) : Type 0 where
+pub record IsJudged (rows : List Row) (judgements : List Judged) (extremities : List ℕ) (r : Row) (j : Judged) (next : List ℕ) : Type 0 where
   pub flag : r.rejected ≡ is_rejected j.verdict
-  pub before : arc_value j.before ≡ state_before_next (kept_of rows judgements) r.event
-  pub after : arc_value j.after ≡ with_kept (arc_value j.before) (kept_row r j) (length rows)
-  pub knows_before : Knows rows (arc_value j.before)
+  pub before : j.before ≡ state_before_next (kept_of rows judgements) r.event
+  pub after : j.after ≡ with_kept j.before (kept_row r j) (length rows)
+  pub knows_before : Knows rows j.before
   pub are_next : AreAfter rows (verdicts_of judgements) (prev_events rows r.event) extremities (length rows) j.verdict next
 
+-- what is kept, where states have numbers
+pub record IsHeld (rows : List Row) (states : List State) (judgements : List Judgement) (extremities : List ℕ) (current : ℕ) : Type 0 where
+  pub is_kept : IsKept rows (judged_in states judgements) extremities (state_at states current)
+  pub below : AreBelow (length states) judgements
+  pub below_current : current < length states
+  pub known : AreKnown rows states
+
 -- an event was added under its verdict
-pub record IsAdded (rows : List Row) (judgements : List Judgement) (id : List ℕ) (e : Event) (rows' : List Row) (judgements' : List Judgement) (extremities : List ℕ) (current : State) : Type 0 where
+pub record IsAdded (rows : List Row) (states : List State) (judgements : List Judgement) (id : List ℕ) (e : Event) (rows' : List Row) (states' : List State) (judgements' : List Judgement) (extremities : List ℕ) (current : ℕ) : Type 0 where
   pub judgement : Judgement
-  pub is_verdict : judgement.verdict ≡ verdict (kept_of rows judgements) e
+  pub more : List State
+  pub is_verdict : judgement.verdict ≡ verdict (kept_of rows (judged_in states judgements)) e
   pub are_rows : rows' ≡ rows ++ record { id = id; event = e; rejected = is_rejected judgement.verdict } ∷ []
+  pub are_states : states' ≡ states ++ more
   pub are_judgements : judgements' ≡ judgements ++ judgement ∷ []
-  pub is_kept : IsKept rows' judgements' extremities current
+  pub is_held : IsHeld rows' states' judgements' extremities current

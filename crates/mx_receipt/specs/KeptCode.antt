@@ -46,3 +46,6 @@ state_code = coded_list (coded× (coded× (coded_list coded_ℕ) (coded_list cod
 
 abbrev pub state_in_graph_code : Coded (List Row × State)
 state_in_graph_code = coded× rows_code state_code
+
+abbrev pub events_in_graph_code : Coded (List Row × List ℕ)
+events_in_graph_code = coded× rows_code (coded_list coded_ℕ)

@@ -3,7 +3,7 @@ ghost use Rattle.std.specs.Prelude.{◌≡◌, ◌<◌, ◌++◌, ◌∷◌, ◌
 ghost use Rattle.std.specs.BTreeSet.{contains};
 ghost use Rattle.std.specs.Ordering.{nat_cmp};
 ghost use Rattle.mx_graph.specs.Record.{is_in};
-ghost use Rattle.mx_receipt.specs.Judgements.{AreNext, IsCovered, leads_on, verdicts_of};
+ghost use Rattle.mx_receipt.specs.Judgements.{AreNext, IsCovered, leads_on, verdicts_in};
 
 use crate::snapshots::Judgement;
 use mx_graph::{EventNo, Graph, graph_is_sound};
@@ -25,7 +25,7 @@ pub(crate) fn next_extremities(
     requires rows { length judgements.now ≡ length graph.now }
     requires prev { All (λ prev. prev < length graph.now) prev_events.now }
     ensures { IfOk result (λ next.
-        AreNext graph.now (verdicts_of judgements.now) prev_events.now extremities.now number next.items) }
+        AreNext graph.now (verdicts_in judgements.now) prev_events.now extremities.now number next.items) }
 {
     let covered = covered(alloc, graph, judgements, prev_events)?;
     let mut next = Vec::new(alloc);
@@ -61,7 +61,7 @@ fn covered(
     requires rows { length judgements.now ≡ length graph.now }
     requires prev { All (λ prev. prev < length graph.now) prev_events.now }
     ensures { IfOk result (λ found.
-        IsCovered graph.now (verdicts_of judgements.now) prev_events.now (contains nat_cmp found)) }
+        IsCovered graph.now (verdicts_in judgements.now) prev_events.now (contains nat_cmp found)) }
 {
     graph_is_sound(graph);
     let mut waiting = BTreeSet::new(alloc);
@@ -84,7 +84,7 @@ fn wait_for_led_on(
     requires rows { length judgements.now ≡ length graph.now }
     requires event { event < length graph.now }
     ensures { OnOk result ((p : ℕ) → contains nat_cmp waiting.new p
-        ≡ (contains nat_cmp waiting.old p || is_in (leads_on graph.now (verdicts_of judgements.now) event) p)) }
+        ≡ (contains nat_cmp waiting.old p || is_in (leads_on graph.now (verdicts_in judgements.now) event) p)) }
 {
     let judgement = &judgements[event.index()];
     if judgement.verdict.is_accepted() {

@@ -1,20 +1,21 @@
 // The verdict on an event.
-ghost use Rattle.std.specs.Prelude.{◌≡◌, ◌<◌, All, IfOk, IsTrue, length, map};
+ghost use Rattle.std.specs.Prelude.{◌≡◌, ◌<◌, All, IfOk, length, map};
 ghost use Rattle.std.specs.Result.{result_err};
 ghost use Rattle.mx_auth.specs.Keys.{cited_shown};
 ghost use Rattle.mx_auth.specs.Rules.{Cited, auth_rules, rules};
 ghost use Rattle.mx_graph.specs.Record as record_of;
 ghost use Rattle.mx_orders.specs.StateMap.{view};
+ghost use Rattle.mx_state_res.specs.Numbered.{AreKnown, state_at};
 ghost use Rattle.mx_receipt.specs.Receipt as definition;
 ghost use Rattle.mx_receipt.specs.Citing.{cited_in};
 ghost use Rattle.mx_receipt.specs.declared.verdicts.Verdict.TheVariants.{Accepted, SoftFailed as soft_failed, Rejected as rejected};
 
-use crate::room_states::{failure_in, state_of};
+use crate::room_states::{failure_by, failure_in};
 use crate::verdicts::Verdict;
 use mx_auth::{CitedEvent, Rule, judge_auth_events};
 use mx_graph::{EventNo, Graph};
 use mx_pdu::Pdu;
-use mx_state_res::StateMap;
+use mx_state_res::{StateNo, States};
 use std::alloc::{AllocError, Global};
 
 /// The verdict on an event, by its auth events, by the state before it, and by the room's current state. The numbers are
@@ -26,30 +27,30 @@ pub(crate) fn judged(
     graph: &Graph,
     event: &Pdu,
     auth_events: &[EventNo],
-    before: &StateMap,
-    is_current: bool,
-    current: &StateMap,
+    states: &States,
+    before: StateNo,
+    current: StateNo,
 ) -> Result<Verdict, AllocError>
     requires auth { auth_events.now ≡ record_of.auth_events graph.now event.now }
     requires known { All (λ number. number < length graph.now) auth_events.now }
-    requires before { All (λ e. e.1 < length graph.now) before.now }
-    requires current { All (λ e. e.1 < length graph.now) current.now }
-    requires same { IsTrue is_current → before.now ≡ current.now }
+    requires states { AreKnown graph.now states.now }
+    requires before { before < length states.now }
+    requires current { current < length states.now }
     ensures { IfOk result (λ verdict. verdict
         ≡ definition.accept_or rejected (definition.auth_failure graph.now event.now)
-        (definition.accept_or rejected (rules event.now (view graph.now before.now))
-        (definition.accept_or soft_failed (rules event.now (view graph.now current.now)) Accepted))) }
+        (definition.accept_or rejected (rules event.now (view graph.now (state_at states.now before)))
+        (definition.accept_or soft_failed (rules event.now (view graph.now (state_at states.now current))) Accepted))) }
 {
     if let Some(rule) = auth_failure(alloc, graph, event, auth_events)? {
         return Ok(Verdict::Rejected(rule));
     }
-    if let Some(rule) = failure_in(graph, before, event) {
+    if let Some(rule) = failure_in(graph, states, before, event) {
         return Ok(Verdict::Rejected(rule));
     }
-    if is_current {
+    if before == current {
         return Ok(Verdict::Accepted);
     }
-    if let Some(rule) = failure_in(graph, current, event) {
+    if let Some(rule) = failure_in(graph, states, current, event) {
         return Ok(Verdict::SoftFailed(rule));
     }
     Ok(Verdict::Accepted)
@@ -71,8 +72,7 @@ fn auth_failure(
     if let Err(rule) = judge_auth_events(event, &cited) {
         return Ok(Some(rule));
     }
-    let state = state_of(alloc, graph, auth_events)?;
-    Ok(failure_in(graph, &state, event))
+    Ok(failure_by(graph, auth_events, event))
 }
 
 fn cited_events<'g>(

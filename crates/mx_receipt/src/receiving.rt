@@ -1,12 +1,12 @@
 // The receipt of an event.
-ghost use Rattle.std.specs.Prelude.{◌≡◌, ◌<◌, ◌++◌, ◌∷◌, All, IfOk, None, OnErr, OnOk, [], ℕ, List, length, IsTrue};
-ghost use Rattle.std.specs.Arc.{arc_value};
+ghost use Rattle.std.specs.Prelude.{◌≡◌, ◌<◌, ◌++◌, ◌∷◌, All, IfOk, None, OnErr, OnOk, [], ℕ, List, length};
 ghost use Rattle.mx_graph.specs.Adding.{add_error};
 ghost use Rattle.mx_graph.specs.Graph.{IsSound};
 ghost use Rattle.mx_graph.specs.Record as record_of;
 ghost use Rattle.mx_orders.specs.StateMap.{State};
 ghost use Rattle.mx_state_res.specs.Resolution as resolution;
-ghost use Rattle.mx_receipt.specs.Judgements.{IsKept, KnowsAll, Knows, AreAfter, IsAdded, IsJudged, afters, kept_of, verdicts_of};
+ghost use Rattle.mx_state_res.specs.Numbered.{AreAdded, AreKnown, state_at};
+ghost use Rattle.mx_receipt.specs.Judgements.{AreAfter, AreBelow, IsAdded, IsHeld, IsJudged, afters, judged_by, judged_in, kept_of, verdicts_in};
 ghost use Rattle.mx_receipt.specs.Receipt as definition;
 ghost use Rattle.mx_graph.specs.Record.{Row};
 ghost use Rattle.mx_receipt.specs.TimelineView.{IsSoundCreate};
@@ -21,50 +21,38 @@ use crate::verdicts::Verdict;
 use mx_graph::{EventNo, Graph, GraphRow, graph_is_sound};
 use mx_ident::EventId;
 use mx_pdu::Pdu;
-use mx_state_res::{StateMap, rising};
+use mx_state_res::{StateNo, States, rising};
 use std::alloc::{AllocError, Global};
-use std::sync::Arc;
-
-// The state before an event, and whether it is known to be the current state.
-#[derive(Debug, Drop)]
-struct StateBefore {
-    state: Arc<StateMap>,
-    is_current: bool,
-}
 
 // The state before an event that comes next: the resolution of the states after its prev events, each once. Where these
 // are the forward extremities it is the current state, and nothing is resolved.
 fn state_before(
     alloc: Global,
     graph: &Graph,
+    states: &mut States,
     judgements: &[Judgement],
     prev_events: &[EventNo],
     extremities: &[EventNo],
-    current: &Arc<StateMap>,
-) -> Result<StateBefore, AllocError>
+    current: StateNo,
+) -> Result<StateNo, AllocError>
     requires rows { length graph.now ≡ length judgements.now }
     requires prev { All (λ prev. prev < length graph.now) prev_events.now }
-    requires known { KnowsAll graph.now judgements.now }
-    requires current { arc_value current.now ≡ resolution.resolve graph.now (definition.states_at (afters judgements.now) extremities.now) }
-    requires known_current { Knows graph.now (arc_value current.now) }
-    ensures resolved { IfOk result (λ before. arc_value before.state ≡ resolution.resolve graph.now
-        (definition.states_at (afters judgements.now) (record_of.events_where graph.now (record_of.is_in prev_events.now)))) }
-    ensures known { IfOk result (λ before. Knows graph.now (arc_value before.state)) }
-    ensures same { IfOk result (λ before. IsTrue before.is_current → arc_value before.state ≡ arc_value current.now) }
+    requires below { AreBelow (length states.old) judgements.now }
+    requires known { AreKnown graph.now states.old }
+    requires current { state_at states.old current
+        ≡ resolution.resolve graph.now (definition.states_at (afters (judged_in states.old judgements.now)) extremities.now) }
+    requires below_current { current < length states.old }
+    ensures resolved { IfOk result (λ before. state_at states.new before ≡ resolution.resolve graph.now
+        (definition.states_at (afters (judged_in states.old judgements.now)) (record_of.events_where graph.now (record_of.is_in prev_events.now)))) }
+    ensures below { IfOk result (λ before. before < length states.new) }
+    ensures added { AreAdded graph.now states.old states.new }
 {
     let prev_events = rising(alloc, prev_events)?;
     if prev_events.as_slice() == extremities {
-        let state = Arc::try_clone(current)?;
-        return Ok(StateBefore {
-            state,
-            is_current: true,
-        });
+        return Ok(current);
     }
-    let state = resolved_after(alloc, graph, judgements, &prev_events)?;
-    Ok(StateBefore {
-        state,
-        is_current: false,
-    })
+    let before = resolved_after(alloc, graph, states, judgements, &prev_events)?;
+    Ok(before)
 }
 
 // The forward extremities after an event.
@@ -80,7 +68,7 @@ fn extremities_after(
     requires rows { length judgements.now ≡ length graph.now }
     requires prev { All (λ prev. prev < length graph.now) prev_events.now }
     ensures { IfOk result (λ next.
-        AreAfter graph.now (verdicts_of judgements.now) prev_events.now extremities.now number verdict next.items) }
+        AreAfter graph.now (verdicts_in judgements.now) prev_events.now extremities.now number verdict next.items) }
 {
     if verdict.is_accepted() {
         next_extremities(alloc, graph, judgements, prev_events, extremities, number)
@@ -97,28 +85,35 @@ struct JudgedEvent {
 }
 
 // Judges an event that cites these events, and finds the states before and after it and the forward extremities after
-// it.
+// it. At an error states may have been added.
 fn judged_event(
     alloc: Global,
     graph: &Graph,
+    states: &mut States,
     judgements: &[Judgement],
     extremities: &[EventNo],
-    current: &Arc<StateMap>,
+    current: StateNo,
     event: &Pdu,
     cited: &Cited,
 ) -> Result<JudgedEvent, AllocError>
-    requires kept { IsKept graph.now judgements.now extremities.now (arc_value current.now) }
+    requires held { IsHeld graph.now states.old judgements.now extremities.now current }
     requires prev { cited.now.prev_events.items ≡ record_of.prev_events graph.now event.now }
     requires auth { cited.now.auth_events.items ≡ record_of.auth_events graph.now event.now }
     requires known_prev { All (λ number. number < length graph.now) cited.now.prev_events.items }
     requires known_auth { All (λ number. number < length graph.now) cited.now.auth_events.items }
-    ensures verdict { IfOk result (λ judged. judged.judgement.verdict ≡ definition.verdict (kept_of graph.now judgements.now) event.now) }
-    ensures judged { IfOk result (λ judged. (id : List ℕ) → IsJudged graph.now judgements.now extremities.now
-        (record { id = id; event = event.now; rejected = definition.is_rejected judged.judgement.verdict }) judged.judgement judged.extremities.items) }
+    ensures verdict { IfOk result (λ judged. judged.judgement.verdict
+        ≡ definition.verdict (kept_of graph.now (judged_in states.old judgements.now)) event.now) }
+    ensures judged { IfOk result (λ judged. (id : List ℕ)
+        → IsJudged graph.now (judged_in states.old judgements.now) extremities.now
+        (record { id = id; event = event.now; rejected = definition.is_rejected judged.judgement.verdict })
+        (judged_by states.new judged.judgement) judged.extremities.items) }
+    ensures below { IfOk result (λ judged. (judged.judgement.before < length states.new) × (judged.judgement.after < length states.new)) }
+    ensures added { (rows : List Row) → length graph.now < length rows → AreAdded rows states.old states.new }
 {
     let before = state_before(
         alloc,
         graph,
+        states,
         judgements,
         &cited.prev_events,
         extremities,
@@ -129,12 +124,12 @@ fn judged_event(
         graph,
         event,
         &cited.auth_events,
-        &before.state,
-        before.is_current,
+        states,
+        before,
         current,
     )?;
     let number = next_number(graph);
-    let after = state_after(alloc, &before.state, event, number, verdict)?;
+    let after = state_after(states, before, event, number, verdict)?;
     let extremities = extremities_after(
         alloc,
         graph,
@@ -147,7 +142,7 @@ fn judged_event(
     Ok(JudgedEvent {
         judgement: Judgement {
             verdict,
-            before: before.state,
+            before,
             after,
         },
         extremities,
@@ -161,26 +156,32 @@ fn next_number(graph: &Graph) -> EventNo
     EventNo::at(graph.len() as u32)
 }
 
-// Adds an event that is judged. It gives the forward extremities and the current state with it.
+// Adds an event that is judged. It gives the forward extremities and the current state with it. At an error states may
+// have been added.
 fn add(
     alloc: Global,
     graph: &mut Graph,
+    states: &mut States,
     judgements: &mut Vec<Judgement>,
     row: GraphRow,
     cited: Cited,
     event: JudgedEvent,
+    count: usize,
 ) -> Result<Prepared, AllocError>
     requires free { add_error graph.old row ≡ None }
     requires prev { cited.prev_events.items ≡ record_of.prev_events graph.old row.event }
     requires auth { cited.auth_events.items ≡ record_of.auth_events graph.old row.event }
-    requires known { KnowsAll (graph.old ++ row ∷ []) (judgements.old.items ++ event.judgement ∷ []) }
+    requires known { AreKnown (graph.old ++ row ∷ []) states.old }
+    requires numbers { AreBelow (length states.old) (judgements.old.items ++ event.judgement ∷ []) }
     requires below { All (λ p. p < length (judgements.old.items ++ event.judgement ∷ [])) event.extremities.items }
     ensures rows { OnOk result (graph.new ≡ graph.old ++ row ∷ []) }
     ensures judgements { OnOk result (judgements.new.items ≡ judgements.old.items ++ event.judgement ∷ []) }
     ensures extremities { IfOk result (λ prepared. prepared.extremities.items ≡ event.extremities.items) }
-    ensures current { IfOk result (λ prepared. arc_value prepared.current ≡ resolution.resolve graph.new
-        (definition.states_at (afters judgements.new.items) event.extremities.items)) }
-    ensures known { IfOk result (λ prepared. Knows graph.new (arc_value prepared.current)) }
+    ensures current { IfOk result (λ prepared. state_at states.new prepared.current ≡ resolution.resolve graph.new
+        (definition.states_at (afters (judged_in states.old judgements.new.items)) event.extremities.items)) }
+    ensures below_current { IfOk result (λ prepared. prepared.current < length states.new) }
+    ensures count { IfOk result (λ prepared. prepared.states ≡ count) }
+    ensures added { AreAdded (graph.old ++ row ∷ []) states.old states.new }
     ensures err_rows { OnErr result (graph.new ≡ graph.old) }
     ensures err_judgements { OnErr result (judgements.new.items ≡ judgements.old.items) }
 {
@@ -191,10 +192,11 @@ fn add(
     judgements.reserve(1)?;
     graph.add_checked(row, cited.prev_events, cited.auth_events)?;
     judgements.push_reserved(judgement);
-    match resolved_after(alloc, graph, judgements, &extremities) {
+    match resolved_after(alloc, graph, states, judgements, &extremities) {
         Ok(current) => Ok(Prepared {
             extremities,
             current,
+            states: count,
         }),
         Err(refused) => {
             remove_last(graph, judgements);
@@ -220,29 +222,35 @@ pub(crate) fn remove_last(graph: &mut Graph, judgements: &mut Vec<Judgement>)
     judgements.pop();
 }
 
-/// Judges an event that the room takes, and adds it. At an error the room stays.
+/// Judges an event that the room takes, and adds it. At an error the room stays, but for states that were added.
 pub(crate) fn prepare_in(
     alloc: Global,
     graph: &mut Graph,
+    states: &mut States,
     judgements: &mut Vec<Judgement>,
     extremities: &[EventNo],
-    current: &Arc<StateMap>,
+    current: StateNo,
     event: Pdu,
     id: EventId,
 ) -> Result<(Verdict, Prepared), AllocError>
-    requires kept { IsKept graph.old judgements.old.items extremities.now (arc_value current.now) }
+    requires held { IsHeld graph.old states.old judgements.old.items extremities.now current }
     requires free { definition.offer_error graph.old id event ≡ None }
-    ensures verdict { IfOk result (λ made. made.0 ≡ definition.verdict (kept_of graph.old judgements.old.items) event) }
-    ensures added { IfOk result (λ made. IsAdded graph.old judgements.old.items id event
-        graph.new judgements.new.items made.1.extremities.items (arc_value made.1.current)) }
+    ensures verdict { IfOk result (λ made. made.0
+        ≡ definition.verdict (kept_of graph.old (judged_in states.old judgements.old.items)) event) }
+    ensures added { IfOk result (λ made. IsAdded graph.old states.old judgements.old.items id event
+        graph.new states.new judgements.new.items made.1.extremities.items made.1.current) }
+    ensures count { IfOk result (λ made. made.1.states ≡ length states.old) }
     ensures err_rows { OnErr result (graph.new ≡ graph.old) }
+    ensures grown { (more : List State) × (states.new ≡ states.old ++ more) }
     ensures err_judgements { OnErr result (judgements.new.items ≡ judgements.old.items) }
 {
     graph_is_sound(graph);
+    let count = states.len();
     let cited = cited_by(alloc, graph, &event)?;
     let judged = judged_event(
         alloc,
         graph,
+        states,
         judgements,
         extremities,
         current,
@@ -255,7 +263,7 @@ pub(crate) fn prepare_in(
         event,
         rejected: verdict.is_rejected(),
     };
-    let prepared = add(alloc, graph, judgements, row, cited, judged)?;
+    let prepared = add(alloc, graph, states, judgements, row, cited, judged, count)?;
     graph_is_sound(graph);
     Ok((verdict, prepared))
 }
@@ -264,21 +272,23 @@ pub(crate) fn prepare_in(
 pub(crate) fn begin_in(
     alloc: Global,
     graph: &mut Graph,
+    states: &mut States,
     judgements: &mut Vec<Judgement>,
     event: Pdu,
     id: EventId,
 ) -> Result<Prepared, AllocError>
     requires sound { IsSoundCreate event }
     requires rows { graph.old ≡ [] }
+    requires states { states.old ≡ [] }
     requires judgements { judgements.old.items ≡ [] }
-    ensures kept { IfOk result (λ first. IsKept graph.new judgements.new.items first.extremities.items (arc_value first.current)) }
-    ensures begun { OnOk result (kept_of graph.new judgements.new.items ≡ definition.begun id event) }
+    ensures held { IfOk result (λ first. IsHeld graph.new states.new judgements.new.items first.extremities.items first.current) }
+    ensures begun { OnOk result (kept_of graph.new (judged_in states.new judgements.new.items) ≡ definition.begun id event) }
 {
     graph_is_sound(graph);
     let cited = cited_by(alloc, graph, &event)?;
-    let before = Arc::new(alloc, StateMap::new(alloc))?;
+    let before = states.add_empty()?;
     let first = EventNo::at(0);
-    let after = state_after(alloc, &before, &event, first, Verdict::Accepted)?;
+    let after = state_after(states, before, &event, first, Verdict::Accepted)?;
     let mut extremities = Vec::new(alloc);
     extremities.push(first)?;
     let judged = JudgedEvent {
@@ -294,7 +304,7 @@ pub(crate) fn begin_in(
         event,
         rejected: false,
     };
-    let prepared = add(alloc, graph, judgements, row, cited, judged)?;
+    let prepared = add(alloc, graph, states, judgements, row, cited, judged, 0)?;
     graph_is_sound(graph);
     Ok(prepared)
 }

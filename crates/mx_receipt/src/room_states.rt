@@ -1,23 +1,23 @@
 // A state of a room, as the authorization rules look at it.
-ghost use Rattle.std.specs.Prelude.{◌≡◌, ◌<◌, All, IfOk, OnOk, length};
-ghost use Rattle.std.specs.Result.{result_err};
-ghost use Rattle.mx_auth.specs.Rules.{rules};
+ghost use Rattle.std.specs.Prelude.{◌≡◌, ◌<◌, All, IfSome, find, length};
+ghost use Rattle.mx_auth.specs.Rules.{key_of, rules, same_key};
+ghost use Rattle.mx_redact.specs.Fields.{is_some_and};
 ghost use Rattle.mx_graph.specs.Record as record_of;
 ghost use Rattle.mx_orders.specs.StateMap as state_of_events;
+ghost use Rattle.mx_state_res.specs.Numbered.{AreKnown, state_at};
 
 use mx_auth::{RoomState, Rule, judge};
 use mx_graph::{EventNo, Graph};
 use mx_ident::EventId;
 use mx_pdu::Pdu;
-use mx_state_res::StateMap;
-use std::alloc::{AllocError, Global};
+use mx_state_res::{StateNo, StateRef, States};
 use std::marker::Model;
 
 // A state, with the graph that its events stand in.
 #[derive(Debug, Drop)]
 struct StateInGraph<'a> {
     graph: &'a Graph,
-    state: &'a StateMap,
+    state: StateRef<'a>,
 }
 
 impl<'a> Model for StateInGraph<'a> {
@@ -30,9 +30,9 @@ impl<'a> Model for StateInGraph<'a> {
 
     ghost coded = { state_in_graph_code };
 
-    ghost view = { λ s. (s.graph.now, s.state.now) };
+    ghost view = { λ s. (s.graph.now, s.state) };
 
-    ghost invariant = { λ s. All (λ e. e.1 < length s.graph.now) s.state.now };
+    ghost invariant = { λ s. All (λ e. e.1 < length s.graph.now) s.state };
 }
 
 impl<'a> StateInGraph<'a> {
@@ -68,52 +68,108 @@ impl<'a> RoomState for StateInGraph<'a> {
     }
 }
 
-/// The line of the authorization rules that does not allow an event in a state, where there is one. It takes no memory.
-pub(crate) fn failure_in(graph: &Graph, state: &StateMap, event: &Pdu) -> Option<Rule>
-    requires { All (λ e. e.1 < length graph.now) state.now }
-    ensures { result ≡ rules event.now (state_of_events.view graph.now state.now) }
+// The state that some events make: of two with one type and state key it has the first.
+#[derive(Debug, Drop)]
+struct StateOfEvents<'a> {
+    graph: &'a Graph,
+    events: &'a [EventNo],
+}
+
+impl<'a> Model for StateOfEvents<'a> {
+    ghost use Rattle.std.specs.Prelude.{List, ℕ, ◌<◌, All, length};
+    ghost use Rattle.mx_graph.specs.Record.{Row};
+    ghost use Rattle.mx_receipt.specs.KeptCode.{events_in_graph_code};
+
+    ghost Value = { List Row × List ℕ };
+
+    ghost coded = { events_in_graph_code };
+
+    ghost view = { λ s. (s.graph.now, s.events.now) };
+
+    ghost invariant = { λ s. All (λ p. p < length s.graph.now) s.events.now };
+}
+
+impl<'a> StateOfEvents<'a> {
+    ghost use Rattle.std.specs.Prelude.{◌≡◌, ◌<◌, IfSome, length};
+    ghost use Rattle.mx_orders.specs.StateMap.{entry as entry_at, state_of};
+
+    // The number of the event at a type and a state key.
+    fn number_at(&self, kind: &str, key: &str) -> Option<EventNo>
+        ensures number { result ≡ entry_at (state_of self.now.0 self.now.1) (kind.now, key.now) }
+        ensures known { IfSome result (λ n. n < length self.now.0) }
+    {
+        first_at(self.graph, self.events, kind, key)
+    }
+}
+
+impl<'a> RoomState for StateOfEvents<'a> {
+    ghost use Rattle.mx_orders.specs.StateMap.{state_of, view};
+
+    ghost state = { λ s. view s.0 (state_of s.0 s.1) };
+
+    fn create_id(&self) -> Option<&EventId> {
+        match self.number_at("m.room.create", "") {
+            Some(number) => Some(&self.graph.row(number).id),
+            None => None,
+        }
+    }
+
+    fn entry(&self, kind: &str, key: &str) -> Option<&Pdu> {
+        match self.number_at(kind, key) {
+            Some(number) => Some(&self.graph.row(number).event),
+            None => None,
+        }
+    }
+}
+
+// The first of some events that has this type and this state key.
+fn first_at(graph: &Graph, events: &[EventNo], kind: &str, state_key: &str) -> Option<EventNo>
+    requires { All (λ event. event < length graph.now) events.now }
+    ensures first { result ≡ find (λ p. is_some_and (same_key (kind.now, state_key.now)) (key_of (record_of.event graph.now p))) events.now }
+    ensures known { IfSome result (λ event. event < length graph.now) }
 {
-    let state = StateInGraph { graph, state };
+    for event in events {
+        if is_at(&graph.row(*event).event, kind, state_key) {
+            return Some(*event);
+        }
+    }
+    None
+}
+
+// Whether an event is a state event of this type with this state key.
+fn is_at(event: &Pdu, kind: &str, state_key: &str) -> bool
+    ensures { result ≡ is_some_and (same_key (kind.now, state_key.now)) (key_of event.now) }
+{
+    match event.state_key() {
+        Some(key) => kind == event.kind() && state_key == key,
+        None => false,
+    }
+}
+
+/// The line of the authorization rules that does not allow an event in a state, where there is one. It takes no memory.
+pub(crate) fn failure_in(
+    graph: &Graph,
+    states: &States,
+    number: StateNo,
+    event: &Pdu,
+) -> Option<Rule>
+    requires states { AreKnown graph.now states.now }
+    requires number { number < length states.now }
+    ensures { result ≡ rules event.now (state_of_events.view graph.now (state_at states.now number)) }
+{
+    let state = StateInGraph {
+        graph,
+        state: states.state(number),
+    };
     judge(event, &state).err()
 }
 
-/// The state that some events make. Of two with one type and state key it has the first.
-pub(crate) fn state_of(
-    alloc: Global,
-    graph: &Graph,
-    numbers: &[EventNo],
-) -> Result<StateMap, AllocError>
-    requires { All (λ number. number < length graph.now) numbers.now }
-    ensures state { IfOk result (λ state. state ≡ state_of_events.state_of graph.now numbers.now) }
-    ensures known { IfOk result (λ state. All (λ e. e.1 < length graph.now) state) }
+/// The line of the authorization rules that does not allow an event in the state that some events make, where there is
+/// one. It takes no memory.
+pub(crate) fn failure_by(graph: &Graph, events: &[EventNo], event: &Pdu) -> Option<Rule>
+    requires { All (λ number. number < length graph.now) events.now }
+    ensures { result ≡ rules event.now (state_of_events.view graph.now (state_of_events.state_of graph.now events.now)) }
 {
-    let mut state = StateMap::new(alloc);
-    let mut rest = Vec::from_slice(alloc, numbers)?;
-    while let Some(number) = rest.pop() {
-        put(graph, &mut state, number)?;
-    }
-    Ok(state)
-}
-
-fn put(graph: &Graph, state: &mut StateMap, number: EventNo) -> Result<(), AllocError>
-    requires { number < length graph.now }
-    ensures ok { OnOk result (state.new ≡ state_of_events.with_event state.old (record_of.event graph.now number) number) }
-    ensures known { OnOk result (All (λ e. e.1 < length graph.now) state.old → All (λ e. e.1 < length graph.now) state.new) }
-{
-    put_event(state, &graph.row(number).event, number)?;
-    Ok(())
-}
-
-/// Puts an event at its key, if it is a state event.
-pub(crate) fn put_event(
-    state: &mut StateMap,
-    event: &Pdu,
-    number: EventNo,
-) -> Result<(), AllocError>
-    ensures { OnOk result (state.new ≡ state_of_events.with_event state.old event.now number) }
-{
-    if let Some(state_key) = event.state_key() {
-        state.insert(event.kind(), state_key, number)?;
-    }
-    Ok(())
+    let state = StateOfEvents { graph, events };
+    judge(event, &state).err()
 }

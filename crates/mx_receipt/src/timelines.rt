@@ -1,10 +1,8 @@
 // A room's events under their verdicts.
 ghost use Rattle.std.specs.Prelude.{◌≡◌, ◌<◌, ◌≤◌, ◌↔◌, ◌++◌, ◌∷◌, All, IfOk, IfSome, IsErrOf, None, OnErr, OnOk, Option, Some, [], is_none, length, option_copied, option_map};
-ghost use Rattle.std.specs.Arc.{arc_value};
 ghost use Rattle.std.specs.List.{list_any};
 ghost use Rattle.std.specs.Result.{result_err};
 ghost use Rattle.mx_graph.specs.Record.{place_of, row as row_at};
-ghost use Rattle.mx_receipt.specs.Judgements.{IsKept, kept_of};
 ghost use Rattle.mx_receipt.specs.Receipt as definition;
 ghost use Rattle.mx_receipt.specs.Receipt.{Kept};
 ghost use Rattle.mx_receipt.specs.TimelineView.{IsSoundCreate};
@@ -18,16 +16,17 @@ use crate::verdicts::Verdict;
 use mx_graph::{EventNo, Graph, GraphRow, MOST_ROWS};
 use mx_ident::EventId;
 use mx_pdu::Pdu;
-use mx_state_res::StateMap;
+use mx_state_res::{StateNo, StateRef, States};
 use std::alloc::{AllocError, Global};
 use std::marker::Model;
-use std::sync::Arc;
 
 // What an event that is prepared will make of the room.
 #[derive(Debug, Drop)]
 pub(crate) struct Prepared {
     pub extremities: Vec<EventNo>,
-    pub current: Arc<StateMap>,
+    pub current: StateNo,
+    // How many states there were before it.
+    pub states: usize,
 }
 
 /// The events of a room in the order of their arrival, each under its verdict, with the states before and after each,
@@ -41,16 +40,17 @@ pub(crate) struct Prepared {
 pub struct Timeline {
     alloc: Global,
     graph: Graph,
+    states: States,
     // One for each row of the graph.
     judgements: Vec<Judgement>,
     extremities: Vec<EventNo>,
-    current: Arc<StateMap>,
+    current: StateNo,
     // Where an event is prepared, the last row is its row.
     prepared: Option<Prepared>,
 }
 
 impl Model for Timeline {
-    ghost use Rattle.std.specs.Arc.{arc_value};
+    ghost use Rattle.mx_receipt.specs.Judgements.{judged_in};
     ghost use Rattle.mx_receipt.specs.TimelineView.{TimelineView, timeline_code};
     ghost use Rattle.mx_receipt.specs.Timelines.{IsTimeline, kept_in, prepared_in};
 
@@ -59,11 +59,11 @@ impl Model for Timeline {
     ghost coded = { timeline_code };
 
     ghost view = { λ t. record {
-      kept = kept_in t.graph t.judgements.items t.prepared;
-      prepared = prepared_in t.graph t.judgements.items t.prepared;
+      kept = kept_in t.graph (judged_in t.states t.judgements.items) t.prepared;
+      prepared = prepared_in t.graph (judged_in t.states t.judgements.items) t.prepared;
     } };
 
-    ghost invariant = { λ t. IsTimeline t.graph t.judgements.items t.extremities.items (arc_value t.current) t.prepared };
+    ghost invariant = { λ t. IsTimeline t.graph t.states t.judgements.items t.extremities.items t.current t.prepared };
 }
 
 impl Timeline {
@@ -73,11 +73,13 @@ impl Timeline {
         ensures { IfOk result (λ timeline. timeline ≡ record { kept = definition.begun id event; prepared = None }) }
     {
         let mut graph = Graph::new(alloc);
+        let mut states = States::new(alloc);
         let mut judgements = Vec::new(alloc);
-        let first = begin_in(alloc, &mut graph, &mut judgements, event, id)?;
+        let first = begin_in(alloc, &mut graph, &mut states, &mut judgements, event, id)?;
         Ok(Timeline {
             alloc,
             graph,
+            states,
             judgements,
             extremities: first.extremities,
             current: first.current,
@@ -140,29 +142,29 @@ impl Timeline {
     }
 
     /// The state before the event with this number: the resolution of the states after its prev events.
-    pub fn state_before(&self, number: EventNo) -> &StateMap
+    pub fn state_before(&self, number: EventNo) -> StateRef<'_>
         requires { number < length self.now.kept }
-        ensures { result.now ≡ definition.state_before self.now.kept number }
+        ensures { result ≡ definition.state_before self.now.kept number }
     {
-        &self.judgements[number.index()].before
+        self.states.state(self.judgements[number.index()].before)
     }
 
     /// The state after the event with this number: that before it, with the event where it is a state event and was not
     /// rejected.
-    pub fn state_after(&self, number: EventNo) -> &StateMap
+    pub fn state_after(&self, number: EventNo) -> StateRef<'_>
         requires { number < length self.now.kept }
-        ensures { result.now ≡ definition.state_after self.now.kept number }
+        ensures { result ≡ definition.state_after self.now.kept number }
     {
-        &self.judgements[number.index()].after
+        self.states.state(self.judgements[number.index()].after)
     }
 
     /// The room's current state: the resolution of the states after the forward extremities.
     ///
     /// Source: the Matrix specification, Server-Server API, "Checks performed on receipt of a PDU", soft failure.
-    pub fn current(&self) -> &StateMap
-        ensures { result.now ≡ definition.current_state self.now.kept }
+    pub fn current(&self) -> StateRef<'_>
+        ensures { result ≡ definition.current_state self.now.kept }
     {
-        &self.current
+        self.states.state(self.current)
     }
 
     /// The forward extremities, rising: the accepted events that are no ancestors of accepted events.
@@ -261,17 +263,26 @@ impl Timeline {
         ensures err { OnErr result (self.new ≡ record { kept = self.old.kept; prepared = None }) }
     {
         self.discard();
-        let (verdict, prepared) = prepare_in(
+        let count = self.states.len();
+        match prepare_in(
             self.alloc,
             &mut self.graph,
+            &mut self.states,
             &mut self.judgements,
             &self.extremities,
-            &self.current,
+            self.current,
             event,
             id,
-        )?;
-        self.prepared = Some(prepared);
-        Ok(verdict)
+        ) {
+            Ok((verdict, prepared)) => {
+                self.prepared = Some(prepared);
+                Ok(verdict)
+            }
+            Err(refused) => {
+                self.states.truncate(count);
+                Err(refused)
+            }
+        }
     }
 
     /// Adds the event that is prepared. It takes no memory.
@@ -289,8 +300,8 @@ impl Timeline {
         ensures { self.new ≡ record { kept = self.old.kept; prepared = None } }
     {
         if let Some(prepared) = self.prepared.take() {
-            drop(prepared);
             remove_last(&mut self.graph, &mut self.judgements);
+            self.states.truncate(prepared.states);
         }
     }
 }

@@ -28,3 +28,4 @@ pub mod EntryLemmas
 pub mod DifferingLemmas
 pub mod ShownLemmas
 pub mod ChangeLemmas
+pub mod SnapshotTruncateLemmas

@@ -332,3 +332,18 @@ entry-shown keys maps all i q h is = ap (find key_cmp q) (state-shown keys maps 
 pub on_err : {A E : Type 0} (r : Result A E) (P : Type 0) → P → OnErr r P
 on_err (Ok x) P p = tt
 on_err (Err x) P p = p
+
+-- ---- the first ones
+
+pub map-take : {X Y : Type 0} (f : X → Y) (n : ℕ) (xs : List X) → map f (take n xs) ≡ take n (map f xs)
+map-take f zero xs = refl
+map-take f (suc n) [] = refl
+map-take f (suc n) (x ∷ xs) = ap (λ ys. f x ∷ ys) (map-take f n xs)
+
+maps-take : (bound n : ℕ) (maps : List Entries) → MapsBelow bound maps → MapsBelow bound (take n maps)
+maps-take bound zero maps h = tt
+maps-take bound (suc n) [] h = tt
+maps-take bound (suc n) (m ∷ maps) h = (h.0, maps-take bound n maps h.1)
+
+pub are_shown-take : (n : ℕ) (keys : List Key) (maps : List Entries) → AreShown keys maps → AreShown keys (take n maps)
+are_shown-take n keys maps h = record { distinct = h.distinct; below = maps-take (length keys) n maps h.below }

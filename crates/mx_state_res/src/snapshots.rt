@@ -1,5 +1,5 @@
 // A room's numbered snapshots.
-ghost use Rattle.std.specs.Prelude.{◌≡◌, ◌<◌, ◌++◌, ◌↔◌, ◌∷◌, [], Contains, IfOk, OnErr, OnOk, T, ℕ, length};
+ghost use Rattle.std.specs.Prelude.{◌≡◌, ◌<◌, ◌++◌, ◌↔◌, ◌∷◌, [], Contains, IfOk, OnErr, OnOk, T, ℕ, length, take};
 ghost use Rattle.std.specs.FinMap.Entries.{find, is_sorted, put};
 ghost use Rattle.std.specs.Ordering.{nat_cmp};
 ghost use Rattle.std.specs.List.Sorted.{IsStrictlyIncreasing};
@@ -92,6 +92,13 @@ impl Snapshots {
         let next = with_changes(self.alloc, &self.stored, parent.index(), changes)?;
         self.stored.push(next)?;
         Ok(number)
+    }
+
+    // Gives up all snapshots but the first of them, so many. It takes no memory.
+    pub(crate) fn truncate(&mut self, count: usize)
+        ensures { self.new ≡ take count self.old }
+    {
+        self.stored.truncate(count);
     }
 
     // The value at a key. It takes no memory, and follows at most 63 deltas.

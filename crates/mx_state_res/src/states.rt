@@ -1,5 +1,5 @@
 // A room's states by number.
-ghost use Rattle.std.specs.Prelude.{◌≡◌, ◌<◌, ◌++◌, ◌∷◌, ◌↔◌, [], All, IfOk, None, OnErr, OnOk, T, ◌||◌, is_some, length, map};
+ghost use Rattle.std.specs.Prelude.{◌≡◌, ◌<◌, ◌++◌, ◌∷◌, ◌↔◌, [], All, IfOk, None, OnErr, OnOk, T, ◌||◌, is_some, length, map, take};
 ghost use Rattle.std.specs.FinMap.Entries.{is_sorted, put};
 ghost use Rattle.mx_auth.specs.Rules.{Key};
 ghost use Rattle.mx_orders.specs.StateMap.{entry, key_cmp};
@@ -98,6 +98,13 @@ impl States {
         ensures { result ≡ length self.now }
     {
         self.snapshots.len()
+    }
+
+    /// Gives up all states but the first of them, so many. It takes no memory.
+    pub fn truncate(&mut self, count: usize)
+        ensures { self.new ≡ take count self.old }
+    {
+        self.snapshots.truncate(count);
     }
 
     /// The state with this number.

@@ -1,36 +1,49 @@
-use Rattle.std.proofs.Common.{◌≡◌, ◌++◌, ◌∷◌, List, [], None, false, refl, sym, ap, subst, ◌∙◌}
-use Rattle.std.specs.Arc.{arc_value}
+use Rattle.std.proofs.Common.{◌≡◌, ◌<◌, ◌++◌, ◌∷◌, ℕ, List, [], None, false, length, refl, sym, ap, subst, ◌∙◌, arith}
 use Rattle.mx_graph.specs.Adding.{add_error}
 use Rattle.mx_graph.specs.Graph.{IsSound}
 use Rattle.mx_graph.specs.Record.{Row}
-use Rattle.mx_orders.specs.StateMap.{with_event}
+use Rattle.mx_orders.specs.StateMap.{State, with_event}
+use Rattle.mx_state_res.specs.Numbered.{AreAdded, AreKnown, state_at}
 use Rattle.mx_state_res.specs.Resolution.{resolve}
-use Rattle.mx_receipt.specs.Judgements.{IsKept, IsJudged, Knows, afters}
-use Rattle.mx_receipt.specs.Receipt.{states_at, current_state}
+use Rattle.mx_receipt.specs.Judgements.{IsHeld, IsJudged, afters, judged_by, judged_in}
+use Rattle.mx_receipt.specs.Receipt.{states_at}
 use Rattle.mx_receipt.specs.declared.snapshots.Judgement.{Judgement}
 use Rattle.mx_receipt.specs.declared.verdicts.Verdict.TheVariants.{Accepted}
-use Rattle.mx_receipt.proofs.BeginLemmas.{sound-free, kept-empty, begin-judged}
-use Rattle.mx_receipt.proofs.KeptLemmas.{kept-push}
+use Rattle.mx_receipt.proofs.BeginLemmas.{sound-free, held-empty, begin-judged}
+use Rattle.mx_receipt.proofs.HeldGrowth.{held-push}
+use Rattle.mx_receipt.proofs.HeldLemmas.{grown-length, grown-state, known-longer}
 use Rattle.mx_receipt.proofs.receiving.begin_in.Goals as goal
 
 pub add-requires-clause-free : goal.add-requires-clause-free
 add-requires-clause-free c =
     subst (λ (rs : List Row). add_error rs (record { id = c.args.id; event = c.args.event; rejected = false }) ≡ None) (sym c.requires.rows) (sound-free c.args.event c.args.id c.requires.sound)
 
-pub returns-clause-kept : goal.returns-clause-kept
-returns-clause-kept c =
+pub returns-clause-held : goal.returns-clause-held
+returns-clause-held c =
     let row : Row = record { id = c.args.id; event = c.args.event; rejected = false } in
     let j : Judgement = record { verdict = Accepted; before = c.in_ok-before.before; after = c.in_ok-after.after } in
+    let mid : List State = c.state_after.new.states in
     let rows : c.add.new.graph ≡ row ∷ [] = c.in_ok-prepared.ensures.rows ∙ ap (λ (rs : List Row). rs ++ row ∷ []) c.requires.rows in
     let judgements : c.add.new.judgements.items ≡ j ∷ [] = c.in_ok-prepared.ensures.judgements ∙ ap (λ (js : List Judgement). js ++ j ∷ []) c.requires.judgements in
     let pushed : c.push.new.self.items ≡ 0 ∷ [] = c.in_ok-push.ensures.items ∙ ap (λ xs. xs ++ c.at-first.result ∷ []) c.new-extremities.ensures.items ∙ ap (λ n. n ∷ []) c.at-first.ensures in
-    let is_judged : IsJudged [] [] [] row j (0 ∷ []) =
-    begin-judged c.args.id c.args.event j refl (c.in_ok-before.ensures.ok ∙ c.new.ensures) (c.in_ok-after.ensures ∙ ap (with_event (arc_value c.in_ok-before.before) c.args.event) c.at-first.ensures) in
-    let base : IsKept (row ∷ []) (j ∷ []) (0 ∷ []) (arc_value c.in_ok-prepared.prepared.current) =
-    kept-push [] [] [] (current_state []) kept-empty row j (0 ∷ []) is_judged (subst IsSound c.requires.rows c.graph_is_sound.ensures) (subst IsSound rows c.graph_is_sound-2.ensures)
-    (arc_value c.in_ok-prepared.prepared.current)
-    (c.in_ok-prepared.ensures.current ∙ λ i. resolve (rows i) (states_at (afters (judgements i)) (pushed i)))
-    (subst (λ rs. Knows rs (arc_value c.in_ok-prepared.prepared.current)) rows c.in_ok-prepared.ensures.known) in
-    subst (λ rs. IsKept rs c.add.new.judgements.items c.in_ok-prepared.prepared.extremities.items (arc_value c.in_ok-prepared.prepared.current)) (sym rows)
-    (subst (λ js. IsKept (row ∷ []) js c.in_ok-prepared.prepared.extremities.items (arc_value c.in_ok-prepared.prepared.current)) (sym judgements)
-    (subst (λ es. IsKept (row ∷ []) (j ∷ []) es (arc_value c.in_ok-prepared.prepared.current)) (sym (c.in_ok-prepared.ensures.extremities ∙ pushed)) base))
+    let states : c.add_empty.new.self ≡ [] ∷ [] = c.in_ok-before.ensures.added ∙ ap (λ (ss : List State). ss ++ [] ∷ []) c.requires.states in
+    let first : c.in_ok-before.before ≡ 0 = c.in_ok-before.ensures.number ∙ ap (λ (ss : List State). length ss) c.requires.states in
+    let held : IsHeld [] c.add_empty.new.self [] [] 0 = held-empty c.add_empty.new.self states in
+    let here : c.in_ok-before.before < length c.add_empty.new.self = subst (λ n. n < length c.add_empty.new.self) (sym first) held.below_current in
+    let stays : state_at mid c.in_ok-before.before ≡ state_at c.add_empty.new.self c.in_ok-before.before =
+    grown-state c.add_empty.new.self c.in_ok-after.ensures.grown.0 mid c.in_ok-before.before c.in_ok-after.ensures.grown.1 here in
+    let is_empty : state_at c.add_empty.new.self c.in_ok-before.before ≡ [] = λ i. state_at (states i) (first i) in
+    let is_judged : IsJudged [] [] [] row (judged_by mid j) (0 ∷ []) =
+    begin-judged c.args.id c.args.event (judged_by mid j) refl (stays ∙ is_empty)
+    (c.in_ok-after.ensures.after ∙ λ i. with_event (sym stays i) c.args.event (c.at-first.ensures i)) in
+    let base : IsHeld (row ∷ []) c.add.new.states (j ∷ []) (0 ∷ []) c.in_ok-prepared.prepared.current =
+    held-push [] c.add_empty.new.self [] [] 0 held row j (0 ∷ []) mid is_judged
+    (grown-length c.add_empty.new.self c.in_ok-after.ensures.grown.0 mid c.in_ok-before.before c.in_ok-after.ensures.grown.1 here, c.in_ok-after.ensures.below)
+    (λ rs l. c.in_ok-after.ensures.added rs (subst (λ n. n < length rs) (sym c.at-first.ensures) l) (known-longer [] rs c.add_empty.new.self l held.known))
+    (subst IsSound c.requires.rows c.graph_is_sound.ensures) (subst IsSound rows c.graph_is_sound-2.ensures)
+    c.add.new.states (subst (λ (rs : List Row). AreAdded (rs ++ row ∷ []) mid c.add.new.states) c.requires.rows c.in_ok-prepared.ensures.added)
+    c.in_ok-prepared.prepared.current c.in_ok-prepared.ensures.below_current
+    (c.in_ok-prepared.ensures.current ∙ λ i. resolve (rows i) (states_at (afters (judged_in mid (judgements i))) (pushed i))) in
+    subst (λ rs. IsHeld rs c.add.new.states c.add.new.judgements.items c.in_ok-prepared.prepared.extremities.items c.in_ok-prepared.prepared.current) (sym rows)
+    (subst (λ (js : List Judgement). IsHeld (row ∷ []) c.add.new.states js c.in_ok-prepared.prepared.extremities.items c.in_ok-prepared.prepared.current) (sym judgements)
+    (subst (λ es. IsHeld (row ∷ []) c.add.new.states (j ∷ []) es c.in_ok-prepared.prepared.current) (sym (c.in_ok-prepared.ensures.extremities ∙ pushed)) base))

@@ -1,11 +1,14 @@
-use Rattle.std.proofs.Common.{◌≡◌, ◌++◌, ◌∷◌, [], sym, ap, subst, ◌∙◌}
-use Rattle.std.specs.Arc.{arc_value}
+use Rattle.std.proofs.Common.{◌≡◌, ◌++◌, ◌∷◌, [], ℕ, List, sym, ap, subst, ◌∙◌}
 use Rattle.mx_graph.specs.Graph.{IsSound}
 use Rattle.mx_graph.specs.Record.{Row}
+use Rattle.mx_orders.specs.StateMap.{State}
+use Rattle.mx_state_res.specs.Numbered.{AreAdded}
 use Rattle.mx_state_res.specs.Resolution.{resolve}
-use Rattle.mx_receipt.specs.Judgements.{IsKept, IsJudged, Knows, afters, kept_of}
+use Rattle.mx_receipt.specs.Judgements.{AreBelow, IsHeld, IsJudged, judged_by, judged_in, kept_of, afters}
 use Rattle.mx_receipt.specs.Receipt.{states_at, verdict, is_rejected}
-use Rattle.mx_receipt.proofs.KeptLemmas.{knows-push, below-push, kept-push}
+use Rattle.mx_receipt.specs.declared.snapshots.Judgement.{Judgement}
+use Rattle.mx_receipt.proofs.HeldGrowth.{known-mid, numbers-mid, extremities-mid, held-push}
+use Rattle.mx_receipt.proofs.HeldLemmas.{added-twice, grown-by-event, one-longer}
 use Rattle.mx_receipt.proofs.TimelineLemmas.{taken-free}
 use Rattle.mx_receipt.proofs.receiving.prepare_in.Goals as goal
 
@@ -14,44 +17,72 @@ add-requires-clause-free c = taken-free c.args.graph.now c.args.id c.args.event 
 
 pub add-requires-clause-known : goal.add-requires-clause-known
 add-requires-clause-known c =
-    knows-push c.args.graph.now c.args.judgements.now.items c.args.extremities.now (arc_value c.args.current.now) c.requires.kept
-    (record { id = c.args.id; event = c.args.event; rejected = c.is_rejected.result }) c.in_ok-judged.judged.judgement c.in_ok-judged.judged.extremities.items
-    (subst (λ b. IsJudged c.args.graph.now c.args.judgements.now.items c.args.extremities.now (record { id = c.args.id; event = c.args.event; rejected = b }) c.in_ok-judged.judged.judgement c.in_ok-judged.judged.extremities.items)
+    known-mid c.args.graph.now c.args.states.now c.args.judgements.now.items c.args.extremities.now c.args.current c.requires.held
+    (record { id = c.args.id; event = c.args.event; rejected = c.is_rejected.result }) c.in_ok-judged.judged.judgement c.in_ok-judged.judged.extremities.items c.judged_event.new.states
+    (subst (λ b. IsJudged c.args.graph.now (judged_in c.args.states.now c.args.judgements.now.items) c.args.extremities.now (record { id = c.args.id; event = c.args.event; rejected = b }) (judged_by c.judged_event.new.states c.in_ok-judged.judged.judgement) c.in_ok-judged.judged.extremities.items)
     (sym c.is_rejected.ensures)
-    (subst (λ js. IsJudged c.args.graph.now js c.args.extremities.now (record { id = c.args.id; event = c.args.event; rejected = is_rejected c.in_ok-judged.judged.judgement.verdict }) c.in_ok-judged.judged.judgement c.in_ok-judged.judged.extremities.items)
+    (subst (λ (js : List Judgement). IsJudged c.args.graph.now (judged_in c.args.states.now js) c.args.extremities.now (record { id = c.args.id; event = c.args.event; rejected = is_rejected c.in_ok-judged.judged.judgement.verdict }) (judged_by c.judged_event.new.states c.in_ok-judged.judged.judgement) c.in_ok-judged.judged.extremities.items)
     c.deref.ensures.value (c.in_ok-judged.ensures.judged c.args.id)))
+    c.in_ok-judged.ensures.below c.in_ok-judged.ensures.added
+
+pub add-requires-clause-numbers : goal.add-requires-clause-numbers
+add-requires-clause-numbers c =
+    numbers-mid c.args.graph.now c.args.states.now c.args.judgements.now.items c.args.extremities.now c.args.current c.requires.held
+    (record { id = c.args.id; event = c.args.event; rejected = c.is_rejected.result }) c.in_ok-judged.judged.judgement c.in_ok-judged.judged.extremities.items c.judged_event.new.states
+    (subst (λ b. IsJudged c.args.graph.now (judged_in c.args.states.now c.args.judgements.now.items) c.args.extremities.now (record { id = c.args.id; event = c.args.event; rejected = b }) (judged_by c.judged_event.new.states c.in_ok-judged.judged.judgement) c.in_ok-judged.judged.extremities.items)
+    (sym c.is_rejected.ensures)
+    (subst (λ (js : List Judgement). IsJudged c.args.graph.now (judged_in c.args.states.now js) c.args.extremities.now (record { id = c.args.id; event = c.args.event; rejected = is_rejected c.in_ok-judged.judged.judgement.verdict }) (judged_by c.judged_event.new.states c.in_ok-judged.judged.judgement) c.in_ok-judged.judged.extremities.items)
+    c.deref.ensures.value (c.in_ok-judged.ensures.judged c.args.id)))
+    c.in_ok-judged.ensures.below c.in_ok-judged.ensures.added
 
 pub add-requires-clause-below : goal.add-requires-clause-below
 add-requires-clause-below c =
-    below-push c.args.graph.now c.args.judgements.now.items c.args.extremities.now (arc_value c.args.current.now) c.requires.kept
-    (record { id = c.args.id; event = c.args.event; rejected = c.is_rejected.result }) c.in_ok-judged.judged.judgement c.in_ok-judged.judged.extremities.items
-    (subst (λ b. IsJudged c.args.graph.now c.args.judgements.now.items c.args.extremities.now (record { id = c.args.id; event = c.args.event; rejected = b }) c.in_ok-judged.judged.judgement c.in_ok-judged.judged.extremities.items)
+    extremities-mid c.args.graph.now c.args.states.now c.args.judgements.now.items c.args.extremities.now c.args.current c.requires.held
+    (record { id = c.args.id; event = c.args.event; rejected = c.is_rejected.result }) c.in_ok-judged.judged.judgement c.in_ok-judged.judged.extremities.items c.judged_event.new.states
+    (subst (λ b. IsJudged c.args.graph.now (judged_in c.args.states.now c.args.judgements.now.items) c.args.extremities.now (record { id = c.args.id; event = c.args.event; rejected = b }) (judged_by c.judged_event.new.states c.in_ok-judged.judged.judgement) c.in_ok-judged.judged.extremities.items)
     (sym c.is_rejected.ensures)
-    (subst (λ js. IsJudged c.args.graph.now js c.args.extremities.now (record { id = c.args.id; event = c.args.event; rejected = is_rejected c.in_ok-judged.judged.judgement.verdict }) c.in_ok-judged.judged.judgement c.in_ok-judged.judged.extremities.items)
+    (subst (λ (js : List Judgement). IsJudged c.args.graph.now (judged_in c.args.states.now js) c.args.extremities.now (record { id = c.args.id; event = c.args.event; rejected = is_rejected c.in_ok-judged.judged.judgement.verdict }) (judged_by c.judged_event.new.states c.in_ok-judged.judged.judgement) c.in_ok-judged.judged.extremities.items)
     c.deref.ensures.value (c.in_ok-judged.ensures.judged c.args.id)))
+    c.in_ok-judged.ensures.below c.in_ok-judged.ensures.added
 
 pub returns-clause-added : goal.returns-clause-added
 returns-clause-added c =
     let row : Row = record { id = c.args.id; event = c.args.event; rejected = c.is_rejected.result } in
     let rows : c.add.new.graph ≡ c.args.graph.now ++ row ∷ [] = c.in_ok-prepared.ensures.rows in
     let judgements : c.add.new.judgements.items ≡ c.args.judgements.now.items ++ c.in_ok-judged.judged.judgement ∷ [] = c.in_ok-prepared.ensures.judgements in
-    let is_judged : IsJudged c.args.graph.now c.args.judgements.now.items c.args.extremities.now row c.in_ok-judged.judged.judgement c.in_ok-judged.judged.extremities.items =
-    subst (λ b. IsJudged c.args.graph.now c.args.judgements.now.items c.args.extremities.now (record { id = c.args.id; event = c.args.event; rejected = b }) c.in_ok-judged.judged.judgement c.in_ok-judged.judged.extremities.items)
+    let more : AreAdded (c.args.graph.now ++ row ∷ []) c.args.states.now c.add.new.states =
+    added-twice (c.args.graph.now ++ row ∷ []) c.args.states.now c.judged_event.new.states c.add.new.states
+    (c.in_ok-judged.ensures.added (c.args.graph.now ++ row ∷ []) (one-longer c.args.graph.now row)) c.in_ok-prepared.ensures.added in
+    let base : IsHeld (c.args.graph.now ++ row ∷ []) c.add.new.states (c.args.judgements.now.items ++ c.in_ok-judged.judged.judgement ∷ []) c.in_ok-judged.judged.extremities.items c.in_ok-prepared.prepared.current =
+    held-push c.args.graph.now c.args.states.now c.args.judgements.now.items c.args.extremities.now c.args.current c.requires.held
+    (record { id = c.args.id; event = c.args.event; rejected = c.is_rejected.result }) c.in_ok-judged.judged.judgement c.in_ok-judged.judged.extremities.items c.judged_event.new.states
+    (subst (λ b. IsJudged c.args.graph.now (judged_in c.args.states.now c.args.judgements.now.items) c.args.extremities.now (record { id = c.args.id; event = c.args.event; rejected = b }) (judged_by c.judged_event.new.states c.in_ok-judged.judged.judgement) c.in_ok-judged.judged.extremities.items)
     (sym c.is_rejected.ensures)
-    (subst (λ js. IsJudged c.args.graph.now js c.args.extremities.now (record { id = c.args.id; event = c.args.event; rejected = is_rejected c.in_ok-judged.judged.judgement.verdict }) c.in_ok-judged.judged.judgement c.in_ok-judged.judged.extremities.items)
-    c.deref.ensures.value (c.in_ok-judged.ensures.judged c.args.id)) in
-    let base : IsKept (c.args.graph.now ++ row ∷ []) (c.args.judgements.now.items ++ c.in_ok-judged.judged.judgement ∷ []) c.in_ok-judged.judged.extremities.items (arc_value c.in_ok-prepared.prepared.current) =
-    kept-push c.args.graph.now c.args.judgements.now.items c.args.extremities.now (arc_value c.args.current.now) c.requires.kept row c.in_ok-judged.judged.judgement c.in_ok-judged.judged.extremities.items is_judged
-    c.graph_is_sound.ensures (subst IsSound rows c.graph_is_sound-2.ensures) (arc_value c.in_ok-prepared.prepared.current)
-    (c.in_ok-prepared.ensures.current ∙ λ i. resolve (rows i) (states_at (afters (judgements i)) c.in_ok-judged.judged.extremities.items))
-    (subst (λ rs. Knows rs (arc_value c.in_ok-prepared.prepared.current)) rows c.in_ok-prepared.ensures.known) in
+    (subst (λ (js : List Judgement). IsJudged c.args.graph.now (judged_in c.args.states.now js) c.args.extremities.now (record { id = c.args.id; event = c.args.event; rejected = is_rejected c.in_ok-judged.judged.judgement.verdict }) (judged_by c.judged_event.new.states c.in_ok-judged.judged.judgement) c.in_ok-judged.judged.extremities.items)
+    c.deref.ensures.value (c.in_ok-judged.ensures.judged c.args.id)))
+    c.in_ok-judged.ensures.below c.in_ok-judged.ensures.added
+    c.graph_is_sound.ensures (subst IsSound rows c.graph_is_sound-2.ensures) c.add.new.states c.in_ok-prepared.ensures.added c.in_ok-prepared.prepared.current c.in_ok-prepared.ensures.below_current
+    (c.in_ok-prepared.ensures.current ∙ λ i. resolve (rows i) (states_at (afters (judged_in c.judged_event.new.states (judgements i))) c.in_ok-judged.judged.extremities.items)) in
     record {
       judgement = c.in_ok-judged.judged.judgement;
-      is_verdict = c.in_ok-judged.ensures.verdict ∙ ap (λ js. verdict (kept_of c.args.graph.now js) c.args.event) c.deref.ensures.value;
+      more = more.more;
+      is_verdict = c.in_ok-judged.ensures.verdict ∙ ap (λ (js : List Judgement). verdict (kept_of c.args.graph.now (judged_in c.args.states.now js)) c.args.event) c.deref.ensures.value;
       are_rows = rows ∙ ap (λ b. c.args.graph.now ++ record { id = c.args.id; event = c.args.event; rejected = b } ∷ []) c.is_rejected.ensures;
+      are_states = more.are;
       are_judgements = judgements;
-      is_kept =
-          subst (λ rs. IsKept rs c.add.new.judgements.items c.in_ok-prepared.prepared.extremities.items (arc_value c.in_ok-prepared.prepared.current)) (sym rows)
-          (subst (λ js. IsKept (c.args.graph.now ++ row ∷ []) js c.in_ok-prepared.prepared.extremities.items (arc_value c.in_ok-prepared.prepared.current)) (sym judgements)
-          (subst (λ es. IsKept (c.args.graph.now ++ row ∷ []) (c.args.judgements.now.items ++ c.in_ok-judged.judged.judgement ∷ []) es (arc_value c.in_ok-prepared.prepared.current)) (sym c.in_ok-prepared.ensures.extremities) base));
+      is_held =
+          subst (λ rs. IsHeld rs c.add.new.states c.add.new.judgements.items c.in_ok-prepared.prepared.extremities.items c.in_ok-prepared.prepared.current) (sym rows)
+          (subst (λ (js : List Judgement). IsHeld (c.args.graph.now ++ row ∷ []) c.add.new.states js c.in_ok-prepared.prepared.extremities.items c.in_ok-prepared.prepared.current) (sym judgements)
+          (subst (λ es. IsHeld (c.args.graph.now ++ row ∷ []) c.add.new.states (c.args.judgements.now.items ++ c.in_ok-judged.judged.judgement ∷ []) es c.in_ok-prepared.prepared.current) (sym c.in_ok-prepared.ensures.extremities) base));
     }
+
+pub returns-in_err-judged-clause-grown : goal.returns-in_err-judged-clause-grown
+returns-in_err-judged-clause-grown c = grown-by-event c.args.graph.now c.args.states.now c.judged_event.new.states c.judged_event.ensures.added
+
+pub returns-clause-grown : goal.returns-clause-grown
+returns-clause-grown c =
+    let row : Row = record { id = c.args.id; event = c.args.event; rejected = c.is_rejected.result } in
+    let more : AreAdded (c.args.graph.now ++ row ∷ []) c.args.states.now c.add.new.states =
+    added-twice (c.args.graph.now ++ row ∷ []) c.args.states.now c.judged_event.new.states c.add.new.states
+    (c.judged_event.ensures.added (c.args.graph.now ++ row ∷ []) (one-longer c.args.graph.now row)) c.add.ensures.added in
+    (more.more, more.are)

@@ -1,5 +1,5 @@
 use Rattle.std.proofs.Common.{◌≡◌, None, Some, sym, ap, subst, ◌∙◌}
-use Rattle.std.specs.Arc.{arc_value}
+use Rattle.mx_receipt.specs.Judgements.{judged_in}
 use Rattle.mx_receipt.specs.TimelineView.{TimelineView}
 use Rattle.mx_receipt.specs.Timelines.{IsTimeline, IsPrepared, kept_in, prepared_in}
 use Rattle.mx_receipt.proofs.TimelineLemmas.{discarded-shown}
@@ -8,11 +8,11 @@ use Rattle.mx_receipt.proofs.timelines.Timeline.discard.Goals as goal
 pub returns-in-Some : goal.returns-in-Some
 returns-in-Some c =
     let was : c.self.inside.prepared ≡ Some c.in-Some.prepared = sym c.take.ensures.value ∙ c.in-Some.is in
-    let h : IsPrepared c.self.inside.graph c.self.inside.judgements.items c.self.inside.extremities.items (arc_value c.self.inside.current) c.in-Some.prepared =
-    subst (IsTimeline c.self.inside.graph c.self.inside.judgements.items c.self.inside.extremities.items (arc_value c.self.inside.current)) was c.self.invariant in
-    (λ i. record { kept = kept_in c.remove_last.new.graph c.remove_last.new.judgements.items (c.take.ensures.after i); prepared = prepared_in c.remove_last.new.graph c.remove_last.new.judgements.items (c.take.ensures.after i) })
+    let h : IsPrepared c.self.inside.graph c.self.inside.states c.self.inside.judgements.items c.self.inside.extremities.items c.self.inside.current c.in-Some.prepared =
+    subst (IsTimeline c.self.inside.graph c.self.inside.states c.self.inside.judgements.items c.self.inside.extremities.items c.self.inside.current) was c.self.invariant in
+    (λ i. record { kept = kept_in c.remove_last.new.graph (judged_in c.truncate.new.self c.remove_last.new.judgements.items) (c.take.ensures.after i); prepared = prepared_in c.remove_last.new.graph (judged_in c.truncate.new.self c.remove_last.new.judgements.items) (c.take.ensures.after i) })
     ∙ λ i. record {
-      kept = (discarded-shown c.self.inside.graph c.self.inside.judgements.items c.self.inside.extremities.items (arc_value c.self.inside.current) c.in-Some.prepared h c.remove_last.new.graph c.remove_last.new.judgements.items c.remove_last.ensures.rows c.remove_last.ensures.judgements
-          ∙ ap (kept_in c.self.inside.graph c.self.inside.judgements.items) (sym was) ∙ ap (λ (t : TimelineView). t.kept) c.self.view_is) i;
+      kept = (discarded-shown c.self.inside.graph c.self.inside.states c.self.inside.judgements.items c.self.inside.extremities.items c.self.inside.current c.in-Some.prepared h c.remove_last.new.graph c.truncate.new.self c.remove_last.new.judgements.items c.remove_last.ensures.rows c.truncate.ensures c.remove_last.ensures.judgements
+          ∙ ap (kept_in c.self.inside.graph (judged_in c.self.inside.states c.self.inside.judgements.items)) (sym was) ∙ ap (λ (t : TimelineView). t.kept) c.self.view_is) i;
       prepared = None;
     }

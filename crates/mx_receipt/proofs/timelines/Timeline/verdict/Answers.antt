@@ -1,5 +1,4 @@
 use Rattle.std.proofs.Common.{ap, subst, ◌∙◌}
-use Rattle.std.specs.Arc.{arc_value}
 use Rattle.std.specs.Prelude.{slice_index_or}
 use Rattle.mx_receipt.specs.TimelineView.{TimelineView}
 use Rattle.mx_receipt.specs.Timelines.{HasKept}
@@ -8,6 +7,6 @@ use Rattle.mx_receipt.proofs.timelines.Timeline.verdict.Goals as goal
 
 pub returns : goal.returns
 returns c =
-    let h : HasKept c.self.inside.graph c.self.inside.judgements.items c.self.inside.extremities.items (arc_value c.self.inside.current) c.args.self.now.kept =
-    subst (HasKept c.self.inside.graph c.self.inside.judgements.items c.self.inside.extremities.items (arc_value c.self.inside.current)) (ap (λ (t : TimelineView). t.kept) c.self.view_is) (has-kept c.self.inside.graph c.self.inside.judgements.items c.self.inside.extremities.items (arc_value c.self.inside.current) c.self.inside.prepared c.self.invariant) in
-    shown-verdict c.self.inside.graph c.self.inside.judgements.items c.self.inside.extremities.items (arc_value c.self.inside.current) c.args.self.now.kept h c.args.number c.index-2.result.now c.requires (c.index-2.ensures ∙ ap (λ n. slice_index_or c.self.inside.judgements.items n c.index-2.result.now) c.index.ensures.index)
+    let h : HasKept c.self.inside.graph c.self.inside.states c.self.inside.judgements.items c.self.inside.extremities.items c.self.inside.current c.args.self.now.kept =
+    subst (HasKept c.self.inside.graph c.self.inside.states c.self.inside.judgements.items c.self.inside.extremities.items c.self.inside.current) (ap (λ (t : TimelineView). t.kept) c.self.view_is) (has-kept c.self.inside.graph c.self.inside.states c.self.inside.judgements.items c.self.inside.extremities.items c.self.inside.current c.self.inside.prepared c.self.invariant) in
+    shown-verdict c.self.inside.graph c.self.inside.states c.self.inside.judgements.items c.self.inside.extremities.items c.self.inside.current c.args.self.now.kept h c.args.number c.index-2.result.now c.requires (c.index-2.ensures ∙ ap (λ n. slice_index_or c.self.inside.judgements.items n c.index-2.result.now) c.index.ensures.index)
