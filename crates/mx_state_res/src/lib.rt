@@ -5,6 +5,7 @@
 mod auth_checks;
 mod chain_difference;
 mod chain_walks;
+mod conflict_checks;
 mod conflicts;
 mod differing_keys;
 mod entries;
@@ -20,6 +21,7 @@ mod state_maps;
 mod state_numbers;
 mod state_refs;
 mod states;
+mod working_states;
 
 pub use entries::StateEntry;
 pub use event_sets::rising;
