@@ -22,3 +22,4 @@ pub mod WalkEndLemmas
 pub mod NumberedLemmas
 pub mod EntryLemmas
 pub mod DifferingLemmas
+pub mod NumberedConflictLemmas

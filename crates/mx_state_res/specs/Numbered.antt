@@ -1,5 +1,5 @@
 -- Numbered states, for clauses: a state by its place.
-use Rattle.std.specs.Prelude.{◌≡◌, not, ℕ, ◌<◌, ◌++◌, List, [], ◌∷◌, All, filter, is_none, length, slice_index_or}
+use Rattle.std.specs.Prelude.{◌≡◌, not, ℕ, ◌<◌, ◌++◌, Bool, ◌||◌, ◌↔◌, List, [], ◌∷◌, All, filter, flat_map, Option, Some, None, is_some, is_none, length, slice_index_or}
 use Rattle.mx_auth.specs.Rules.{Key}
 use Rattle.mx_graph.specs.Record.{Row, is_in}
 use Rattle.mx_orders.specs.StateMap.{State, entry}
@@ -48,3 +48,19 @@ checked rows s full =
     let others = filter (λ p. not (is_in power p)) full in
     let partial = iterative_auth_checks rows s (power_order rows power) in
     iterative_auth_checks rows partial (mainline_order rows (mainline rows (entry partial power_key)) others)
+
+-- it has an entry at exactly those keys at which states are not all alike
+abbrev pub IsDiffering : State → List State → Type 0
+IsDiffering found states = (key : Key) → (entry found key ≡ None) ↔ AllAlike key states
+
+abbrev pub option_list : Option ℕ → List ℕ
+option_list None = []
+option_list (Some p) = p ∷ []
+
+-- the events of a state at the keys of another
+abbrev pub events_at : State → State → List ℕ
+events_at keys s = flat_map (λ e. option_list (entry s e.0)) keys
+
+-- whether an entry is at a key of another state, or is at a key that a third one lacks
+abbrev pub is_kept : State → State → Key × ℕ → Bool
+is_kept keys s e = is_some (entry keys e.0) || is_none (entry s e.0)
