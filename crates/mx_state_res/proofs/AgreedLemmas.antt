@@ -65,7 +65,7 @@ dropped false t h = refl
 same : (e f : Key × ℕ) → e.0 ≡ f.0 → (f.1 == e.1) ≡ true → f ≡ e
 same e f k n = let m : f.1 ≡ e.1 = eqb-true f.1 e.1 n in λ i. (sym k i, m i)
 
-has_entry-filter : (test : Key × ℕ → Bool) (s : State) → Sorted s → (e : Key × ℕ) → has_entry e (filter test s) ≡ (has_entry e s && test e)
+pub has_entry-filter : (test : Key × ℕ → Bool) (s : State) → Sorted s → (e : Key × ℕ) → has_entry e (filter test s) ≡ (has_entry e s && test e)
 has_entry-filter test [] h e = refl
 has_entry-filter test (f ∷ s) h e = by (key_cmp e.0 f.0) refl (test f) refl (has_entry-filter test s (second _ _ h) e)
   where

@@ -41,7 +41,7 @@ missed-kept found other items rest e d h key =
 
 -- ---- two states at a key
 
-has-found : (o : Option ℕ) (p : ℕ) → is_some_and (λ q. q == p) o ≡ true → o ≡ Some p
+pub has-found : (o : Option ℕ) (p : ℕ) → is_some_and (λ q. q == p) o ≡ true → o ≡ Some p
 has-found None p e = absurd (cc e)
 has-found (Some q) p e = ap Some (eqb-true q p e)
 

@@ -1,5 +1,5 @@
 -- The entries of states that are edited, key by key.
-use Rattle.std.proofs.Common.{◌≡◌, ℕ, Bool, true, false, cond, T, [], ◌∷◌, filter, is_none, Some, None, refl, sym, ap, subst, ◌∙◌}
+use Rattle.std.proofs.Common.{◌≡◌, ℕ, Bool, true, false, cond, T, [], ◌∷◌, filter, is_none, Option, Some, None, refl, sym, ap, ap₂, subst, ◌∙◌}
 use Rattle.std.specs.declared.cmp.Ordering.TheVariants.{Less, Equal, Greater}
 use Rattle.std.specs.declared.cmp.Ordering.{Ordering}
 use Rattle.std.specs.Option.{option_or}
@@ -7,8 +7,9 @@ use Rattle.std.specs.Ordering.{is_eq}
 use Rattle.std.specs.FinMap.Entries.{below_all, find, put, find-put, find-where_key, is_sorted-put, is_sorted-where_key, same_entries}
 use Rattle.mx_auth.specs.Rules.{Key}
 use Rattle.mx_orders.specs.StateMap.{State, key_cmp, entry}
-use Rattle.mx_state_res.specs.Numbered.{without}
+use Rattle.mx_state_res.specs.Numbered.{Edit, edited, shown_by, without}
 use Rattle.mx_state_res.specs.Resolution.{overwritten}
+use Rattle.mx_state_res.proofs.AgreedLemmas.{overwritten-empty}
 use Rattle.mx_state_res.proofs.KeyLemmas.{Sorted, key_cmp-total, key_cmp-same, first, second, less}
 
 -- states in order with the same entries are one state
@@ -53,3 +54,38 @@ entry-overwritten (e ∷ u) s q h =
     by : (b : Bool) → is_eq (key_cmp q e.0) ≡ b → option_or (entry u q) (cond b (Some e.1) (entry s q)) ≡ option_or (cond b (Some e.1) (entry u q)) (entry s q)
     by true c = ap (λ o. option_or o (Some e.1)) (subst (λ k. entry u k ≡ None) (sym (equal-keys q e.0 c)) (below-none e.0 u (first _ _ h)))
     by false c = refl
+
+-- ---- a state that is edited
+
+pub entry-edited : (taken s puts : State) (q : Key) → Sorted puts → entry (edited taken s puts) q ≡ option_or (entry puts q) (cond (is_none (entry taken q)) (entry s q) None)
+entry-edited taken s puts q h = entry-overwritten puts (without taken s) q h ∙ ap (option_or (entry puts q)) (entry-without taken s q)
+
+pub sorted-edited : (taken s puts : State) → Sorted s → Sorted (edited taken s puts)
+sorted-edited taken s puts h = sorted-overwritten puts (without taken s) (sorted-without taken s h)
+
+pub put-edited : (taken s puts : State) (k : Key) (p : ℕ) → Sorted s → Sorted puts → edited taken s (put key_cmp k p puts) ≡ put key_cmp k p (edited taken s puts)
+put-edited taken s puts k p g h =
+    same-states (edited taken s (put key_cmp k p puts)) (put key_cmp k p (edited taken s puts))
+    (sorted-edited taken s (put key_cmp k p puts) g) (is_sorted-put key_cmp key_cmp-total k p (edited taken s puts) (sorted-edited taken s puts g))
+    (λ q.
+    let rest = cond (is_none (entry taken q)) (entry s q) None in
+    entry-edited taken s (put key_cmp k p puts) q (is_sorted-put key_cmp key_cmp-total k p puts h)
+    ∙ ap (λ o. option_or o rest) (entry-put q k p puts) ∙ by (is_eq (key_cmp q k)) (entry puts q) rest
+    ∙ ap (cond (is_eq (key_cmp q k)) (Some p)) (sym (entry-edited taken s puts q h)) ∙ sym (entry-put q k p (edited taken s puts)))
+  where
+    by : (b : Bool) (x y : Option ℕ) → option_or (cond b (Some p) x) y ≡ cond b (Some p) (option_or x y)
+    by true x y = refl
+    by false x y = refl
+
+pub found-put : (taken s puts : State) (q : Key) (p : ℕ) → Sorted puts → Some p ≡ entry puts q → Some p ≡ entry (edited taken s puts) q
+found-put taken s puts q p h e = ap (λ o. option_or o (cond (is_none (entry taken q)) (entry s q) None)) e ∙ sym (entry-edited taken s puts q h)
+
+pub found-taken : (taken s puts : State) (q : Key) → Sorted puts → None ≡ entry puts q → is_none (entry taken q) ≡ false → None ≡ entry (edited taken s puts) q
+found-taken taken s puts q h e t = ap (cond false (entry s q)) refl ∙ ap₂ (λ o b. option_or o (cond b (entry s q) None)) e (sym t) ∙ sym (entry-edited taken s puts q h)
+
+pub found-base : (taken s puts : State) (q : Key) → Sorted puts → None ≡ entry puts q → is_none (entry taken q) ≡ true → entry s q ≡ entry (edited taken s puts) q
+found-base taken s puts q h e t = ap₂ (λ o b. option_or o (cond b (entry s q) None)) e (sym t) ∙ sym (entry-edited taken s puts q h)
+
+-- over no state, what was put is all
+pub puts-alone : (v : Edit) → Sorted v.1.1 → v.0 ≡ [] → v.1.1 ≡ shown_by v
+puts-alone v h e = sym (overwritten-empty v.1.1 h) ∙ ap (λ s. overwritten (without v.1.0 s) v.1.1) (sym e)

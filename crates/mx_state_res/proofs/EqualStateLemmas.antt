@@ -22,7 +22,7 @@ below-in k [] h e m = absurd m
 below-in k (f ∷ s) h e (inl d) = subst (λ (x : Key × ℕ). key_cmp x.0 k ≡ Greater) (sym d) (key_cmp-greater k f.0 (less _ (first _ _ h)))
 below-in k (f ∷ s) h e (inr m) = below-in k s (second _ _ h) e m
 
-find-own : (s : State) → Sorted s → (e : Key × ℕ) → In e s → find key_cmp e.0 s ≡ Some e.1
+pub find-own : (s : State) → Sorted s → (e : Key × ℕ) → In e s → find key_cmp e.0 s ≡ Some e.1
 find-own [] h e m = absurd m
 find-own (f ∷ s) h e (inl d) = subst (λ (x : Key × ℕ). find key_cmp x.0 (f ∷ s) ≡ Some x.1) (sym d) (find-equal f.0 f s (key_cmp-itself f.0))
 find-own (f ∷ s) h e (inr m) = find-greater e.0 f s (below-in f.0 s (first _ _ h) e m) ∙ find-own s (second _ _ h) e m

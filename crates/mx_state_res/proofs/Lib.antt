@@ -29,3 +29,4 @@ pub mod DifferingLemmas
 pub mod ShownLemmas
 pub mod ChangeLemmas
 pub mod SnapshotTruncateLemmas
+pub mod NumberedConflictLemmas

@@ -16,6 +16,7 @@ use Rattle.mx_orders.specs.Mainline.{power_key, put_in_order, sorted, mainline, 
 use Rattle.mx_orders.proofs.Permutations.{Within, permutations-permute}
 use Rattle.mx_orders.proofs.LeastOrder.{fold_min-in}
 use Rattle.mx_orders.proofs.PowerOrderLaws.{power_cmp-total}
+use Rattle.mx_state_res.specs.Numbered.{checked}
 use Rattle.mx_state_res.specs.Resolution.{unconflicted, full_conflicted, power_events, iterative_auth_checks, overwritten, resolve}
 use Rattle.mx_state_res.proofs.SetLemmas.{shown, all-at, all-of}
 use Rattle.mx_state_res.proofs.KnownLemmas.{put-known}
@@ -84,11 +85,13 @@ unconflicted-known n bs h = all-of (λ e. e.1 < n) (unconflicted (shown bs)) (ag
 
 -- ---- the steps of a resolution
 
-pub resolve-is : (rows : List Row) (states : List State) (agreed : State) (full power others order : List ℕ) (partial : State) (line rest : List ℕ) (checked resolved : State) → agreed ≡ unconflicted states → full ≡ full_conflicted rows states → power ≡ power_events rows full → others ≡ filter (λ p. not (is_in power p)) full → order ≡ power_order rows power → partial ≡ iterative_auth_checks rows agreed order → line ≡ mainline rows (entry partial power_key) → rest ≡ mainline_order rows line others → checked ≡ iterative_auth_checks rows partial rest → resolved ≡ overwritten checked agreed → resolved ≡ resolve rows states
-unfolding resolve
-resolve-is rows states agreed full power others order partial line rest checked resolved a f p o d q l r k e =
-    let p' : power ≡ power_events rows (full_conflicted rows states) = p ∙ ap (power_events rows) f in
-    let q' = q ∙ ap₂ (iterative_auth_checks rows) a (d ∙ ap (power_order rows) p') in
+pub checked-is : (rows : List Row) (s : State) (full power others order : List ℕ) (partial : State) (line rest : List ℕ) (found : State) → power ≡ power_events rows full → others ≡ filter (λ p. not (is_in power p)) full → order ≡ power_order rows power → partial ≡ iterative_auth_checks rows s order → line ≡ mainline rows (entry partial power_key) → rest ≡ mainline_order rows line others → found ≡ iterative_auth_checks rows partial rest → found ≡ checked rows s full
+checked-is rows s full power others order partial line rest found p o d q l r k =
+    let q' = q ∙ ap (iterative_auth_checks rows s) (d ∙ ap (power_order rows) p) in
     let l' = l ∙ ap (λ s. mainline rows (entry s power_key)) q' in
-    let r' = r ∙ ap₂ (mainline_order rows) l' (o ∙ ap₂ (λ xs ys. filter (λ p. not (is_in xs p)) ys) p' f) in
-    e ∙ ap₂ overwritten (k ∙ ap₂ (iterative_auth_checks rows) q' r') a
+    let r' = r ∙ ap₂ (mainline_order rows) l' (o ∙ ap (λ xs. filter (λ p. not (is_in xs p)) full) p) in
+    k ∙ ap₂ (iterative_auth_checks rows) q' r'
+
+pub resolve-is : (rows : List Row) (states : List State) (agreed : State) (full : List ℕ) (found resolved : State) → agreed ≡ unconflicted states → full ≡ full_conflicted rows states → found ≡ checked rows agreed full → resolved ≡ overwritten found agreed → resolved ≡ resolve rows states
+unfolding resolve
+resolve-is rows states agreed full found resolved a f c e = e ∙ ap₂ overwritten (c ∙ ap₂ (checked rows) a f) a

@@ -22,7 +22,7 @@ use Rattle.mx_state_res.proofs.ChainLemmas.{difference-of-others}
 
 -- ---- what a state has
 
-has-member : (e : Key × ℕ) (s : State) → has_entry e s ≡ true → is_in (events_of s) e.1 ≡ true
+pub has-member : (e : Key × ℕ) (s : State) → has_entry e s ≡ true → is_in (events_of s) e.1 ≡ true
 has-member e [] h = absurd (cc h)
 has-member e (f ∷ s) h = by (is_eq (key_cmp e.0 f.0)) h (has-member e s)
   where
@@ -30,7 +30,7 @@ has-member e (f ∷ s) h = by (is_eq (key_cmp e.0 f.0)) h (has-member e s)
     by true k later = or_left (f.1 == e.1) _ k
     by false k later = or_right (f.1 == e.1) _ (later k)
 
-every-at : (states : List State) (e : Key × ℕ) → in_every states e ≡ true → (s : State) → In s states → has_entry e s ≡ true
+pub every-at : (states : List State) (e : Key × ℕ) → in_every states e ≡ true → (s : State) → In s states → has_entry e s ≡ true
 every-at [] e h s m = absurd m
 every-at (t ∷ ts) e h s (inl q) = subst (λ s. has_entry e s ≡ true) (sym q) (and-first (has_entry e t) _ h)
 every-at (t ∷ ts) e h s (inr m) = every-at ts e (and-second (has_entry e t) _ h) s m
@@ -43,7 +43,7 @@ member-of (t ∷ ts) e m s (inl q) =
     subst (λ s. is_in (events_of s) e.1 ≡ true) (sym q) (is_in-from e.1 (events_of t) (in_map (λ (e : Key × ℕ). e.1) e t (in_filter-parts (in_every ts) e t m).0))
 member-of (t ∷ ts) e m s (inr k) = has-member e s (every-at ts e (in_filter-parts (in_every ts) e t m).1 s k)
 
-made-of : (agreed : State) (states : List State) → agreed ≡ unconflicted states → (s : State) → In s states → (p : ℕ) → is_in (events_of s) p ≡ (is_in (events_of agreed) p || is_in (events_of (filter (lacks agreed) s)) p)
+pub made-of : (agreed : State) (states : List State) → agreed ≡ unconflicted states → (s : State) → In s states → (p : ℕ) → is_in (events_of s) p ≡ (is_in (events_of agreed) p || is_in (events_of (filter (lacks agreed) s)) p)
 made-of agreed states is s m p =
     one-answer (is_in (events_of s) p) (is_in (events_of agreed) p || is_in (events_of (filter (lacks agreed) s)) p) to
     (λ h. from (or_cases (is_in (events_of agreed) p) (is_in (events_of (filter (lacks agreed) s)) p) h))

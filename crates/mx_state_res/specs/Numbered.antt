@@ -1,8 +1,11 @@
 -- Numbered states, for clauses: a state by its place.
-use Rattle.std.specs.Prelude.{◌≡◌, ℕ, ◌<◌, ◌++◌, List, [], ◌∷◌, All, filter, is_none, length, slice_index_or}
+use Rattle.std.specs.Prelude.{◌≡◌, not, ℕ, ◌<◌, ◌++◌, Bool, ◌||◌, ◌↔◌, List, [], ◌∷◌, All, filter, flat_map, Option, Some, None, is_some, is_none, length, slice_index_or}
 use Rattle.mx_auth.specs.Rules.{Key}
-use Rattle.mx_graph.specs.Record.{Row}
+use Rattle.mx_graph.specs.Record.{Row, is_in}
 use Rattle.mx_orders.specs.StateMap.{State, entry}
+use Rattle.mx_orders.specs.PowerOrder.{power_order}
+use Rattle.mx_orders.specs.Mainline.{power_key, mainline, mainline_order}
+use Rattle.mx_state_res.specs.Resolution.{power_events, iterative_auth_checks, overwritten}
 
 -- the state with this number
 abbrev pub state_at : List State → ℕ → State
@@ -26,3 +29,38 @@ without taken s = filter (λ e. is_none (entry taken e.0)) s
 abbrev pub AllAlike : Key → List State → Type 0
 AllAlike key [] = Unit {0}
 AllAlike key (s ∷ states) = All (λ t. entry t key ≡ entry s key) states
+
+-- a state without the keys of another, with entries put over it
+abbrev pub edited : State → State → State → State
+edited taken s puts = overwritten (without taken s) puts
+
+-- a state, the keys that are taken from it, and the entries that are put over it
+abbrev pub Edit : Type 0
+Edit = State × (State × State)
+
+abbrev pub shown_by : Edit → State
+shown_by e = edited e.1.0 e.0 e.1.1
+
+-- a state in which the events of a full conflicted set were checked
+abbrev pub checked : List Row → State → List ℕ → State
+checked rows s full =
+    let power = power_events rows full in
+    let others = filter (λ p. not (is_in power p)) full in
+    let partial = iterative_auth_checks rows s (power_order rows power) in
+    iterative_auth_checks rows partial (mainline_order rows (mainline rows (entry partial power_key)) others)
+
+-- it has an entry at exactly those keys at which states are not all alike
+abbrev pub IsDiffering : State → List State → Type 0
+IsDiffering found states = (key : Key) → (entry found key ≡ None) ↔ AllAlike key states
+
+abbrev pub option_list : Option ℕ → List ℕ
+option_list None = []
+option_list (Some p) = p ∷ []
+
+-- the events of a state at the keys of another
+abbrev pub events_at : State → State → List ℕ
+events_at keys s = flat_map (λ e. option_list (entry s e.0)) keys
+
+-- whether an entry is at a key of another state, or is at a key that a third one lacks
+abbrev pub is_kept : State → State → Key × ℕ → Bool
+is_kept keys s e = is_some (entry keys e.0) || is_none (entry s e.0)

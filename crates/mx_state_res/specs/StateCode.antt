@@ -14,3 +14,6 @@ judged_code = coded× rows_code (coded× state_code coded_ℕ)
 
 abbrev pub states_code : Coded (List State)
 states_code = coded_list state_code
+
+abbrev pub edit_code : Coded (State × (State × State))
+edit_code = coded× state_code (coded× state_code state_code)

@@ -1,9 +1,11 @@
 // Iterative auth checks.
 ghost use Rattle.std.specs.Prelude.{◌≡◌, ◌<◌, All, OnErr, OnOk, length, take, ℕ};
+ghost use Rattle.mx_state_res.specs.Numbered.{shown_by};
 ghost use Rattle.mx_state_res.specs.Resolution as definition;
 
 use crate::judged_states::is_allowed;
 use crate::state_maps::StateMap;
+use crate::working_states::WorkingState;
 use mx_graph::{EventNo, Graph};
 use std::alloc::AllocError;
 
@@ -11,15 +13,18 @@ use std::alloc::AllocError;
 /// were checked.
 pub(crate) fn check_each(
     graph: &Graph,
-    state: &mut StateMap,
+    state: &mut WorkingState<'_>,
     events: &[EventNo],
 ) -> Result<(), AllocError>
     requires events { All (λ event. event < length graph.now) events.now }
-    requires known { All (λ e. e.1 < length graph.now) state.old }
-    ensures ok { OnOk result (state.new ≡ definition.iterative_auth_checks graph.now state.old events.now) }
-    ensures known { OnOk result (All (λ e. e.1 < length graph.now) state.new) }
-    ensures err { OnErr result ((count : ℕ)
-        × (state.new ≡ definition.iterative_auth_checks graph.now state.old (take count events.now))) }
+    requires known { All (λ e. e.1 < length graph.now) (shown_by state.old) }
+    ensures ok { OnOk result (shown_by state.new
+        ≡ definition.iterative_auth_checks graph.now (shown_by state.old) events.now) }
+    ensures base { state.new.0 ≡ state.old.0 }
+    ensures taken { state.new.1.0 ≡ state.old.1.0 }
+    ensures known { OnOk result (All (λ e. e.1 < length graph.now) (shown_by state.new)) }
+    ensures err { OnErr result ((count : ℕ) × (shown_by state.new
+        ≡ definition.iterative_auth_checks graph.now (shown_by state.old) (take count events.now))) }
 {
     for event in events {
         check(graph, state, *event)?;
@@ -29,11 +34,13 @@ pub(crate) fn check_each(
 
 // At an error the state stays.
 #[tactic(auto, unfolding(crate::specs::Resolution::after_check))]
-fn check(graph: &Graph, state: &mut StateMap, number: EventNo) -> Result<(), AllocError>
+fn check(graph: &Graph, state: &mut WorkingState<'_>, number: EventNo) -> Result<(), AllocError>
     requires number { number < length graph.now }
-    requires known { All (λ e. e.1 < length graph.now) state.old }
-    ensures ok { OnOk result (state.new ≡ definition.after_check graph.now state.old number) }
-    ensures known { OnOk result (All (λ e. e.1 < length graph.now) state.new) }
+    requires known { All (λ e. e.1 < length graph.now) (shown_by state.old) }
+    ensures ok { OnOk result (shown_by state.new ≡ definition.after_check graph.now (shown_by state.old) number) }
+    ensures base { state.new.0 ≡ state.old.0 }
+    ensures taken { state.new.1.0 ≡ state.old.1.0 }
+    ensures known { OnOk result (All (λ e. e.1 < length graph.now) (shown_by state.new)) }
     ensures err { OnErr result (state.new ≡ state.old) }
 {
     let event = &graph.row(number).event;

@@ -5,9 +5,10 @@ ghost use Rattle.mx_redact.specs.Fields.{is_some_and};
 ghost use Rattle.mx_auth.specs.Rules.{key_of, same_key};
 ghost use Rattle.mx_graph.specs.Record as record_of;
 ghost use Rattle.mx_orders.specs.StateMap.{auth_event_at, entry as entry_at};
+ghost use Rattle.mx_state_res.specs.Numbered.{shown_by};
 ghost use Rattle.mx_state_res.specs.Resolution as definition;
 
-use crate::state_maps::StateMap;
+use crate::working_states::WorkingState;
 use mx_auth::{RoomState, judge, needed_keys};
 use mx_graph::{EventNo, Graph};
 use mx_ident::EventId;
@@ -16,29 +17,30 @@ use std::marker::Model;
 
 // A state, in which what it lacks is taken from the auth events of an event.
 #[derive(Debug, Drop)]
-pub(crate) struct JudgedState<'a> {
+pub(crate) struct JudgedState<'a, 's> {
     graph: &'a Graph,
-    state: &'a StateMap,
+    state: &'a WorkingState<'s>,
     number: EventNo,
 }
 
-impl<'a> Model for JudgedState<'a> {
+impl<'a, 's> Model for JudgedState<'a, 's> {
     ghost use Rattle.std.specs.Prelude.{List, ℕ, ◌<◌, All, length};
     ghost use Rattle.mx_graph.specs.Record.{Row};
     ghost use Rattle.mx_orders.specs.StateMap.{State};
+    ghost use Rattle.mx_state_res.specs.Numbered.{shown_by};
     ghost use Rattle.mx_state_res.specs.StateCode.{judged_code};
 
     ghost Value = { List Row × (State × ℕ) };
 
     ghost coded = { judged_code };
 
-    ghost view = { λ j. (j.graph.now, (j.state.now, j.number)) };
+    ghost view = { λ j. (j.graph.now, (shown_by j.state.now, j.number)) };
 
     ghost invariant = { λ j.
-        (j.number < length j.graph.now) × All (λ e. e.1 < length j.graph.now) j.state.now };
+        (j.number < length j.graph.now) × All (λ e. e.1 < length j.graph.now) (shown_by j.state.now) };
 }
 
-impl<'a> JudgedState<'a> {
+impl<'a, 's> JudgedState<'a, 's> {
     ghost use Rattle.std.specs.Prelude.{◌≡◌, ◌<◌, IfSome, length};
     ghost use Rattle.std.specs.Option.{option_or};
     ghost use Rattle.mx_graph.specs.Record as record_of;
@@ -58,7 +60,7 @@ impl<'a> JudgedState<'a> {
     }
 }
 
-impl<'a> RoomState for JudgedState<'a> {
+impl<'a, 's> RoomState for JudgedState<'a, 's> {
     ghost use Rattle.mx_graph.specs.Record as record_of;
     ghost use Rattle.mx_state_res.specs.Resolution as definition;
 
@@ -134,10 +136,10 @@ fn is_at(event: &Pdu, kind: &str, state_key: &str) -> bool
 /// Whether the rules allow an event in a state, where what the state lacks is taken from the event's auth events. It
 /// takes no memory.
 #[tactic(auto, unfolding(crate::specs::Resolution::is_allowed))]
-pub(crate) fn is_allowed(graph: &Graph, state: &StateMap, number: EventNo) -> bool
+pub(crate) fn is_allowed(graph: &Graph, state: &WorkingState<'_>, number: EventNo) -> bool
     requires number { number < length graph.now }
-    requires known { All (λ e. e.1 < length graph.now) state.now }
-    ensures { result ≡ definition.is_allowed graph.now state.now (record_of.event graph.now number) }
+    requires known { All (λ e. e.1 < length graph.now) (shown_by state.now) }
+    ensures { result ≡ definition.is_allowed graph.now (shown_by state.now) (record_of.event graph.now number) }
 {
     let judged = JudgedState {
         graph,

@@ -5,6 +5,7 @@
 mod auth_checks;
 mod chain_difference;
 mod chain_walks;
+mod conflict_checks;
 mod conflicts;
 mod differing_keys;
 mod entries;
@@ -12,6 +13,7 @@ mod event_sets;
 mod judged_states;
 mod laws;
 mod masks;
+mod numbered_conflicts;
 mod numbered_entries;
 mod numbered_resolution;
 mod plain_conflicts;
@@ -26,6 +28,7 @@ mod state_maps;
 mod state_numbers;
 mod state_refs;
 mod states;
+mod working_states;
 
 pub use entries::StateEntry;
 pub use event_sets::rising;

@@ -2,13 +2,12 @@
 ghost use Rattle.std.specs.Prelude.{◌≡◌, ◌<◌, All, IfOk, length, map};
 ghost use Rattle.mx_state_res.specs.Resolution as definition;
 
-use crate::auth_checks::{check_each, overwrite};
+use crate::auth_checks::overwrite;
+use crate::conflict_checks::check_conflicted;
 use crate::conflicts::{full_conflicted, unconflicted};
-use crate::event_sets::without;
-use crate::powers::power_events;
 use crate::state_maps::StateMap;
+use crate::working_states::WorkingState;
 use mx_graph::Graph;
-use mx_orders::{Mainline, mainline_order, power_order};
 use std::alloc::{AllocError, Global};
 
 /// The one state that states of a room resolve to. Of no state it is the empty state, of one state that state.
@@ -28,14 +27,10 @@ pub fn resolve(alloc: Global, graph: &Graph, states: &[&StateMap]) -> Result<Sta
 {
     let agreed = unconflicted(alloc, states)?;
     let full = full_conflicted(alloc, graph, &agreed, states)?;
-    let power = power_events(alloc, graph, &full)?;
-    let others = without(alloc, &full, &power)?;
-    let order = power_order(alloc, graph, &power)?;
-    let mut state = agreed.clone()?;
-    check_each(graph, &mut state, &order)?;
-    let mainline = Mainline::of(alloc, graph, state.get("m.room.power_levels", ""))?;
-    let rest = mainline_order(alloc, graph, &mainline, &others)?;
-    check_each(graph, &mut state, &rest)?;
-    overwrite(&mut state, &agreed)?;
-    Ok(state)
+    let nothing = StateMap::new(alloc);
+    let mut state = WorkingState::of(&nothing, agreed.clone()?);
+    check_conflicted(alloc, graph, &mut state, &full)?;
+    let mut resolved = state.into_puts();
+    overwrite(&mut resolved, &agreed)?;
+    Ok(resolved)
 }
