@@ -223,3 +223,12 @@ module _ (rows : List Row) (cites : ℕ → List ℕ) (down : CitesDown rows cit
   -- the chain of a list is the union of the chains of its members
   pub reached-each : (p : ℕ) → is_in (reached rows cites starts) p ≡ list_any (λ x. is_in (reached rows cites (x ∷ [])) p) starts
   reached-each p = same_closed cites starts (is_in (reached rows cites starts)) some_reaches (reached-is_least rows cites starts down) (some-closed, some-least) p
+
+-- what holds of all of a list, of one that is in it
+pub in-all : (P : ℕ → Type 0) (xs : List ℕ) (p : ℕ) → All P xs → is_in xs p ≡ true → P p
+in-all P [] p h e = absurd (cc e)
+in-all P (x ∷ xs) p h e = by (in-all P xs p (λ i d l. h (suc i) d (omega arith))) (or_cases (x == p) (is_in xs p) e)
+  where
+    by : (is_in xs p ≡ true → P p) → ((x == p) ≡ true) ⊎ (is_in xs p ≡ true) → P p
+    by later (inl k) = subst P (eqb-true x p k) (h zero x (omega arith))
+    by later (inr k) = later k

@@ -4,3 +4,4 @@ pub mod Adding
 pub mod RowCode
 pub mod Edges
 pub mod Inside
+pub mod Closing

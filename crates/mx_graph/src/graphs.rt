@@ -1,14 +1,16 @@
 // The graph of a room.
-ghost use Rattle.std.specs.Prelude.{◌≡◌, ◌+◌, ◌<◌, ◌≤◌, ◌↔◌, All, IfOk, IfSome, IsErrOf, IsTrue, MatchOption, None, OnErr, OnOk, Some, [], ◌∷◌, ◌++◌, filter_map, length};
+ghost use Rattle.std.specs.Prelude.{◌≡◌, ◌+◌, ◌<◌, ◌≤◌, ◌↔◌, All, IfOk, IfSome, IsErrOf, IsTrue, MatchOption, None, OnErr, OnOk, Some, [], ◌∷◌, ◌++◌, ◌&&◌, ℕ, filter_map, length, nat_le};
 ghost use Rattle.std.specs.List.{list_all};
 ghost use Rattle.std.specs.Result.{result_err};
 ghost use Rattle.mx_graph.specs.Adding.{add_error, is_known};
 ghost use Rattle.mx_graph.specs.Edges.{Rises};
 ghost use Rattle.mx_graph.specs.Graph as closure;
 ghost use Rattle.mx_graph.specs.Record as definition;
+ghost use Rattle.mx_graph.specs.Record.{is_in};
 ghost use Rattle.mx_graph.specs.declared.refusals.NotAdded.{NotAdded as Cause};
 
 use crate::closing::reached;
+use crate::closing_above::reached_above;
 use crate::numbers::EventNo;
 use crate::refusals::{GraphError, NotAdded};
 use crate::rows::GraphRow;
@@ -238,6 +240,25 @@ impl Graph {
         ensures below { IfOk result (λ found. All (λ number. number < length self.now) found.items) }
     {
         let found = reached(alloc, &self.auth_edges, starts)?;
+        Ok(found)
+    }
+
+    /// The events with this number or a greater one in the auth chain of these events, rising.
+    ///
+    /// The time is that of the edges of these events, and a few steps for each number from the least on. Source: the
+    /// Matrix specification, Room Version 2, "State resolution", auth chain.
+    pub fn auth_chain_above(
+        &self,
+        alloc: Global,
+        starts: &[EventNo],
+        least: EventNo,
+    ) -> Result<Vec<EventNo>, AllocError>
+        ensures set { IfOk result (λ found. (p : ℕ)
+            → is_in found.items p ≡ (nat_le least p && is_in (closure.auth_chain self.now starts.now) p)) }
+        ensures rises { IfOk result (λ found. Rises found.items) }
+        ensures below { IfOk result (λ found. All (λ number. number < length self.now) found.items) }
+    {
+        let found = reached_above(alloc, &self.auth_edges, starts, least.index())?;
         Ok(found)
     }
 }

@@ -3,6 +3,7 @@
 #![tactic(auto)]
 
 mod closing;
+mod closing_above;
 mod graphs;
 mod numbers;
 mod refusals;

@@ -13,14 +13,7 @@ use Rattle.mx_receipt.specs.Receipt.{is_accepted}
 use Rattle.mx_receipt.specs.Judgements.{Judged, leads_on}
 use Rattle.mx_receipt.specs.declared.verdicts.Verdict.{Verdict}
 use Rattle.mx_receipt.specs.declared.verdicts.Verdict.TheVariants.{Accepted}
-
-pub in-all : (P : ℕ → Type 0) (xs : List ℕ) (p : ℕ) → All P xs → is_in xs p ≡ true → P p
-in-all P [] p h e = absurd (cc e)
-in-all P (x ∷ xs) p h e = by (in-all P xs p (λ i d l. h (suc i) d (omega arith))) (or_cases (x == p) (is_in xs p) e)
-  where
-    by : (is_in xs p ≡ true → P p) → ((x == p) ≡ true) ⊎ (is_in xs p ≡ true) → P p
-    by later (inl k) = subst P (eqb-true x p k) (h zero x (omega arith))
-    by later (inr k) = later k
+pub use Rattle.mx_graph.proofs.Closure.{in-all}
 
 pub walk-starts : (cites : ℕ → List ℕ) (first waiting : ℕ → Bool) → ((p : ℕ) → waiting p ≡ first p) → IsWalk cites first [] waiting
 walk-starts cites first waiting same =
