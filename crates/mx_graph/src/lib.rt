@@ -10,7 +10,7 @@ mod refusals;
 mod rows;
 
 pub use graphs::{Graph, MOST_ROWS, closures_are_least, graph_is_sound};
-pub use numbers::EventNo;
+pub use numbers::{EventNo, least_of};
 pub use refusals::{GraphError, NotAdded};
 pub use rows::GraphRow;
 

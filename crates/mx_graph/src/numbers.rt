@@ -1,5 +1,5 @@
 // Numbers of events.
-ghost use Rattle.std.specs.Prelude.{◌≡◌, ◌<◌, ◌^◌, ℕ};
+ghost use Rattle.std.specs.Prelude.{◌≡◌, ◌≤◌, ◌<◌, ◌^◌, All, ℕ};
 
 use std::marker::Model;
 
@@ -32,4 +32,24 @@ impl EventNo {
     {
         self.place as usize
     }
+}
+
+/// The least of these numbers; of none, the first number of all.
+pub fn least_of(numbers: &[EventNo]) -> EventNo
+    ensures { All (λ number. result ≤ number) numbers.now }
+{
+    let mut least = match numbers.first() {
+        Some(number) => *number,
+        None => EventNo::at(0),
+    };
+    for number in numbers {
+        least = lesser(least, *number);
+    }
+    least
+}
+
+fn lesser(a: EventNo, b: EventNo) -> EventNo
+    ensures { (result ≤ a) × (result ≤ b) }
+{
+    if a.place <= b.place { a } else { b }
 }

@@ -1,11 +1,12 @@
 -- Steps of the loops that find which ranks follow which.
-use Rattle.std.proofs.Common.{◌≡◌, ℕ, zero, suc, ◌+◌, ◌==◌, ◌≤◌, ◌<◌, ◌⊎◌, Bool, true, false, cond, ◌||◌, ◌&&◌, if◌then◌else◌, inl, inr, List, [], ◌∷◌, ◌++◌, length, take, set, slice_index, slice_index_or, nat_lt, refl, sym, ap, subst, ◌∙◌, arith, eq-eqb, eqb-true, lt-ltb, ltb-true}
+use Rattle.std.proofs.Common.{◌≡◌, ℕ, zero, suc, ◌+◌, ◌==◌, ◌≤◌, ◌<◌, ◌⊎◌, Bool, true, false, cond, ◌||◌, ◌&&◌, if◌then◌else◌, inl, inr, List, [], ◌∷◌, ◌++◌, length, take, set, slice_index, slice_index_or, nat_le, nat_lt, refl, sym, ap, subst, ◌∙◌, arith, eq-eqb, eqb-true, lt-ltb, ltb-true}
+use Rattle.std.specs.List.{All}
 use Rattle.std.specs.Prelude.{Vec, Option, Some, None, IfSome}
 use Rattle.std.specs.Ordering.{nat_cmp, is_eq}
 use Rattle.std.specs.declared.alloc.Global.{Global}
 use Rattle.std.proofs.lemmas.List.Sums.{sum_by-set, sum_by_push}
 use Rattle.std.proofs.lemmas.List.{length-append, length-set, take_more, get_or_append_left}
-use Rattle.std.proofs.lemmas.Bool.{cases_lt}
+use Rattle.std.proofs.lemmas.Bool.{cases_lt, le-leb}
 use Rattle.std.proofs.Math.ListN.{get_or-eq_default}
 use Rattle.std.proofs.Math.Seq.{get_or-append_seam}
 use Rattle.std.proofs.Math.Nat.{eq-or-lt_of_le}
@@ -305,7 +306,7 @@ not_below n = by (nat_lt n n) refl
     by false k = refl
 
 -- one more rank
-pub one_more_following : (rows : List Row) (xs chain awaited after : List ℕ) (lists more : Lists) (found : ℕ → Option ℕ) (count x n : ℕ) → IsRanked xs found → count < length xs → x ≡ slice_index_or xs count x → chain ≡ auth_chain rows (x ∷ [])
+pub one_more_following : (rows : List Row) (xs chain awaited after : List ℕ) (lists more : Lists) (found : ℕ → Option ℕ) (count x n : ℕ) → IsRanked xs found → count < length xs → x ≡ slice_index_or xs count x → ((u : ℕ) → u < length xs → is_in chain (slice_index xs u) ≡ is_in (auth_chain rows (x ∷ [])) (slice_index xs u))
     → length more ≡ length lists → ((u p : ℕ) → is_in (cited more u) p ≡ (is_in (cited lists u) p || ((count == p) && leads found u chain))) → ((p : ℕ) → total_of more p ≡ total_of lists p + (if count == p then n else 0)) → after ≡ awaited ++ n ∷ []
     → AreFollowing rows xs lists awaited count → AreFollowing rows xs more after (count + 1)
 one_more_following rows xs chain awaited after lists more found count x n ranked l e chained len members total push f = record {
@@ -316,7 +317,7 @@ one_more_following rows xs chain awaited after lists more found count x n ranked
 }
   where
     here : (u : ℕ) → u < length xs → leads found u chain ≡ before rows xs u count
-    here u h = leads-in xs found u chain ranked h ∙ ap (λ ys. is_in ys (slice_index xs u)) (chained ∙ ap (λ y. auth_chain rows (y ∷ [])) (at_any xs count x l e))
+    here u h = leads-in xs found u chain ranked h ∙ chained u h ∙ ap (λ y. is_in (auth_chain rows (y ∷ [])) (slice_index xs u)) (at_any xs count x l e)
 
     or_nothing : (b : Bool) → (b || false) ≡ b
     or_nothing true = refl
@@ -328,3 +329,8 @@ one_more_following rows xs chain awaited after lists more found count x n ranked
         let next : p < count + 1 = omega (arith, same) in
         ap (λ b. (b && before rows xs u p) || before rows xs u count) (subst (λ y. nat_lt y count ≡ false) same (not_below count)) ∙ ap (before rows xs u) same ∙ sym (ap (λ b. b && before rows xs u p) (lt-ltb p (count + 1) next))
     all u p false k = or_nothing (nat_lt p count && before rows xs u p) ∙ sym (ap (λ b. b && before rows xs u p) (lt_more p count (λ q. absurd (cc (sym (eq-eqb count p q) ∙ k)))))
+
+-- of events from the least of all ranks on, the chain is whole
+pub whole-above : (xs chain other : List ℕ) (least : ℕ) → All (λ x. least ≤ x) xs → ((p : ℕ) → is_in chain p ≡ (nat_le least p && is_in other p)) → (u : ℕ) → u < length xs → is_in chain (slice_index xs u) ≡ is_in other (slice_index xs u)
+whole-above xs chain other least low part u h =
+    part (slice_index xs u) ∙ ap (λ b. b && is_in other (slice_index xs u)) (le-leb least (slice_index xs u) (low u 0 h))

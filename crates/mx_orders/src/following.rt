@@ -8,7 +8,7 @@ ghost use Rattle.mx_orders.specs.Lists.{Distinct};
 ghost use Rattle.mx_orders.specs.Ranks.{before, leads, total_of};
 
 use crate::ranking::ranks_of;
-use mx_graph::{EventNo, Graph};
+use mx_graph::{EventNo, Graph, least_of};
 use std::alloc::{AllocError, Global};
 use std::collections::BTreeMap;
 
@@ -36,11 +36,12 @@ pub(crate) fn following_of(
     ensures counted { IfOk result (λ following. (p : ℕ)
         → slice_index following.awaited.items p ≡ total_of following.followers.items p) }
 {
+    let least = least_of(numbers);
     let places = ranks_of(alloc, numbers)?;
     let mut followers = empty_lists(alloc, numbers.len())?;
     let mut awaited = Vec::with_capacity(alloc, numbers.len())?;
     for (rank, event) in numbers.iter().enumerate() {
-        let chain = graph.auth_chain(alloc, &[*event])?;
+        let chain = graph.auth_chain_above(alloc, &[*event], least)?;
         let found = follow(&mut followers, &places, &chain, rank)?;
         awaited.push(found)?;
     }
