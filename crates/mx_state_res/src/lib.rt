@@ -17,6 +17,7 @@ mod numbered_conflicts;
 mod numbered_entries;
 mod numbered_resolution;
 mod plain_conflicts;
+mod plain_states;
 mod powers;
 mod resolving;
 mod snapshot_chains;
@@ -42,3 +43,5 @@ pub use states::States;
 
 #[cfg(test)]
 mod conflict_tests;
+#[cfg(test)]
+mod states_tests;
