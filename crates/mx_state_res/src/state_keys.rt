@@ -93,6 +93,13 @@ impl Keys {
         }
     }
 
+    // How many keys there are.
+    pub(crate) fn len(&self) -> usize
+        ensures { result ≡ length self.now }
+    {
+        self.keys.len()
+    }
+
     // The key with this number.
     pub(crate) fn key(&self, number: u32) -> &StateKey
         requires { number < length self.now }
