@@ -108,6 +108,13 @@ impl Keys {
         &self.keys[number as usize]
     }
 
+    // The numbers of all keys, in the order of the keys.
+    pub(crate) fn in_order(&self) -> &[u32]
+        ensures { AreInOrder self.now result.now }
+    {
+        &self.order
+    }
+
     // The number of a key. It takes no memory, and the time is logarithmic in the keys.
     pub(crate) fn number_of(&self, kind: &str, state_key: &str) -> Option<u32>
         ensures { result ≡ number_of self.now (kind.now, state_key.now) }
