@@ -23,3 +23,4 @@ pub mod NumberedLemmas
 pub mod EntryLemmas
 pub mod DifferingLemmas
 pub mod NumberedConflictLemmas
+pub mod ChangeLemmas

@@ -18,6 +18,7 @@ mod numbered_resolution;
 mod plain_conflicts;
 mod powers;
 mod resolving;
+mod state_changes;
 mod state_maps;
 mod state_numbers;
 mod state_refs;
