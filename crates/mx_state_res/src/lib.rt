@@ -37,3 +37,5 @@ pub use states::States;
 
 #[cfg(test)]
 mod conflict_tests;
+#[cfg(test)]
+mod numbered_tests;
