@@ -24,6 +24,7 @@ mod snapshot_chains;
 mod snapshot_differences;
 mod snapshot_edits;
 mod snapshots;
+mod state_changes;
 mod state_keys;
 mod state_maps;
 mod state_numbers;
@@ -43,5 +44,7 @@ pub use states::States;
 
 #[cfg(test)]
 mod conflict_tests;
+#[cfg(test)]
+mod numbered_tests;
 #[cfg(test)]
 mod states_tests;

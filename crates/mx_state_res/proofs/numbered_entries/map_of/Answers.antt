@@ -1,10 +1,10 @@
-use Rattle.std.proofs.Common.{◌≡◌, ℕ, ◌+◌, ◌∷◌, [], Some, None, drop, get_or, ap, sym, ◌∙◌, arith}
+use Rattle.std.proofs.Common.{◌≡◌, ◌+◌, ◌∷◌, Some, None, drop, get_or, ap, sym, ◌∙◌, arith}
 use Rattle.std.specs.FinMap.Entries.{put}
 use Rattle.std.proofs.lemmas.List.{drop_all, drop_more}
 use Rattle.mx_auth.specs.Rules.{Key}
 use Rattle.mx_orders.specs.StateMap.{key_cmp}
 use Rattle.mx_state_res.specs.KeyNumbers.{key_at}
-use Rattle.mx_state_res.proofs.ChangeLemmas.{key_of_texts}
+use Rattle.mx_state_res.proofs.KeyChangeLemmas.{key_of_texts}
 use Rattle.mx_state_res.proofs.ShownLemmas.{walked, walked-step, walked-is}
 use Rattle.mx_state_res.proofs.numbered_entries.map_of.Goals as goal
 use Rattle.mx_state_res.proofs.numbered_entries.map_of.Goals.{in-Some+in_ok-insert, in_default}
