@@ -46,7 +46,7 @@ put-other test s items rest e d t = sym (ap (λ xs. overwritten s (filter test x
 
 -- ---- what such a state has
 
-found-below : (test : Key × ℕ → Bool) (k : Key) (s : State) → T (below_all key_cmp k s) → find key_cmp k (filter test s) ≡ None
+pub found-below : (test : Key × ℕ → Bool) (k : Key) (s : State) → T (below_all key_cmp k s) → find key_cmp k (filter test s) ≡ None
 found-below test k [] h = refl
 found-below test k (f ∷ s) h = by (test f) (found-below test k s (second _ _ h))
   where

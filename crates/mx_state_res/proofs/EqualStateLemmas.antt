@@ -91,7 +91,7 @@ module _ {A : Type 0} (s : A) where
 
 -- ---- nothing is in conflict
 
-no_events : (rows : List Row) (test : ℕ → Bool) → ((p : ℕ) → test p ≡ false) → events_where rows test ≡ []
+pub no_events : (rows : List Row) (test : ℕ → Bool) → ((p : ℕ) → test p ≡ false) → events_where rows test ≡ []
 no_events rows test h = filter-none test (places rows) (λ p m. h p)
 
 module _ (rows : List Row) (s : State) (sorted : Sorted s) (others : List State) (same : All (λ t. t ≡ s) others) where

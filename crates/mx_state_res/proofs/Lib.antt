@@ -30,3 +30,4 @@ pub mod ShownLemmas
 pub mod ChangeLemmas
 pub mod SnapshotTruncateLemmas
 pub mod NumberedConflictLemmas
+pub mod KeyChangeLemmas

@@ -1,6 +1,6 @@
 -- States by the numbers of their keys.
 use Rattle.std.proofs.Common.{◌≡◌, ℕ, zero, suc, ◌+◌, ◌<◌, ◌≤◌, Bool, true, false, cond, not, T, length, get_or, map, ◌++◌, List, [], ◌∷◌, Some, None, Result, Ok, Err, take, refl, sym, ap, subst, ◌∙◌, arith}
-use Rattle.std.specs.Prelude.{Option, OnOk, OnErr, unwrap_or}
+use Rattle.std.specs.Prelude.{Option, ◌||◌, All, OnOk, OnErr, is_some, option_map, unwrap_or}
 use Rattle.std.specs.declared.cmp.Ordering.{Ordering}
 use Rattle.std.specs.declared.cmp.Ordering.TheVariants.{Less, Equal, Greater}
 use Rattle.std.specs.Option.{option_and_then, option_or}
@@ -11,7 +11,7 @@ use Rattle.std.specs.FinMap.Entries.{find, put, where_key, below_all, by_order, 
 use Rattle.std.proofs.lemmas.List.{take_more}
 use Rattle.mx_auth.specs.Rules.{Key}
 use Rattle.mx_orders.specs.StateMap.{State, key_cmp}
-use Rattle.mx_state_res.specs.KeyNumbers.{key_at, number_of, with_key, AreDistinct, shown, AllBelow, MapsBelow, AreGrown, AreShown}
+use Rattle.mx_state_res.specs.KeyNumbers.{key_at, number_of, with_key, AreDistinct, shown, AllBelow, MapsBelow, AreGrown, AreShown, AreInOrder, in_order, has_number_in}
 use Rattle.mx_state_res.specs.Numbered.{state_at}
 use Rattle.mx_state_res.specs.SnapshotEntries.{change, changed, snapshot}
 use Rattle.mx_state_res.proofs.KeyLemmas.{Sorted, both, first, second, less, key_cmp-total, key_cmp-same, key_cmp-itself, key_cmp-greater}
@@ -219,44 +219,89 @@ at-index n [] i d h l = absurd (omega arith)
 at-index n (e ∷ es) zero d h l = h.0
 at-index n (e ∷ es) (suc i) d h l = at-index n es i d h.1 (omega arith)
 
--- a state with these entries put over it, the later ones over the earlier
-abbrev pub laid : List Key → Entries → State → State
-laid keys [] s = s
-laid keys (e ∷ es) s = laid keys es (put key_cmp (key_at keys e.0) e.1 s)
-
-sorted-laid : (keys : List Key) (es : Entries) (s : State) → Sorted s → Sorted (laid keys es s)
-sorted-laid keys [] s h = h
-sorted-laid keys (e ∷ es) s h = sorted-laid keys es (put key_cmp (key_at keys e.0) e.1 s) (sorted-put (key_at keys e.0) e.1 s h)
-
-find-above : (k : ℕ) (es : Entries) → T (below_all nat_cmp k es) → find nat_cmp k es ≡ None
-find-above k [] h = refl
-find-above k (e ∷ es) h = ap (λ r. cond (is_eq r) (Some e.1) (find nat_cmp k es)) (less _ (first _ _ h)) ∙ find-above k es (second _ _ h)
-
-find-laid : (keys : List Key) (es : Entries) (s : State) (q : Key) → AreDistinct keys → AllBelow (length keys) es → T (is_sorted nat_cmp es)
-    → find key_cmp q (laid keys es s) ≡ option_or (at_number keys (λ n. find nat_cmp n es) q) (find key_cmp q s)
-find-laid keys [] s q h b o = ap (λ (v : Option ℕ). option_or v (find key_cmp q s)) (nothing (number_of keys q))
-find-laid keys (e ∷ es) s q h b o =
-    find-laid keys es (put key_cmp (key_at keys e.0) e.1 s) q h b.1 (second _ _ o)
-    ∙ ap (option_or (at_number keys (λ n. find nat_cmp n es) q)) (find-put key_cmp key_cmp-total q (key_at keys e.0) e.1 s)
-    ∙ by (eq_by_cmp key_cmp q (key_at keys e.0)) refl
-    ∙ ap (λ (v : Option ℕ). option_or v (find key_cmp q s)) (sym (at_number-put keys (λ n. find nat_cmp n es) q e.0 (Some e.1) h b.0))
-  where
-    absent : q ≡ key_at keys e.0 → at_number keys (λ n. find nat_cmp n es) q ≡ None
-    absent t = ap (option_and_then (λ n. find nat_cmp n es)) (ap (number_of keys) t ∙ h e.0 b.0) ∙ find-above e.0 es (first _ _ o)
-
-    by : (c : Bool) → eq_by_cmp key_cmp q (key_at keys e.0) ≡ c
-        → option_or (at_number keys (λ n. find nat_cmp n es) q) (cond c (Some e.1) (find key_cmp q s)) ≡ option_or (cond c (Some e.1) (at_number keys (λ n. find nat_cmp n es) q)) (find key_cmp q s)
-    by true t = ap (λ (v : Option ℕ). option_or v (Some e.1)) (absent (eq-same q (key_at keys e.0) t))
-    by false t = refl
-
 or_none : {X : Type 0} (o : Option X) → option_or o None ≡ o
 or_none None = refl
 or_none (Some x) = refl
 
-pub laid-is : (keys : List Key) (es : Entries) → AreDistinct keys → AllBelow (length keys) es → T (is_sorted nat_cmp es) → laid keys es [] ≡ shown keys es
-laid-is keys es h b o =
-    same_states _ _ (sorted-laid keys es [] tt) (sorted-shown keys es)
-    (λ q. find-laid keys es [] q h b o ∙ or_none (at_number keys (λ n. find nat_cmp n es) q) ∙ sym (find-shown keys es q h b))
+-- a state with the entries at these numbers put over it, one after another
+abbrev pub walked : List Key → Entries → List ℕ → State → State
+walked keys m [] s = s
+walked keys m (n ∷ numbers) s = walked keys m numbers (unwrap_or (option_map (λ v. put key_cmp (key_at keys n) v s) (find nat_cmp n m)) s)
+
+-- one number more, with what stands at it
+pub walked-step : (keys : List Key) (m : Entries) (numbers rest : List ℕ) (n : ℕ) (o : Option ℕ) (s after : State) → numbers ≡ n ∷ rest → find nat_cmp n m ≡ o
+    → after ≡ unwrap_or (option_map (λ v. put key_cmp (key_at keys n) v s) o) s → walked keys m rest after ≡ walked keys m numbers s
+walked-step keys m numbers rest n o s after d e is =
+    ap (walked keys m rest) (is ∙ ap (λ (r : Option ℕ). unwrap_or (option_map (λ v. put key_cmp (key_at keys n) v s) r) s) (sym e)) ∙ ap (λ ns. walked keys m ns s) (sym d)
+
+sorted-one : (k : Key) (o : Option ℕ) (s : State) → Sorted s → Sorted (unwrap_or (option_map (λ v. put key_cmp k v s) o) s)
+sorted-one k None s h = h
+sorted-one k (Some v) s h = sorted-put k v s h
+
+sorted-walked : (keys : List Key) (m : Entries) (numbers : List ℕ) (s : State) → Sorted s → Sorted (walked keys m numbers s)
+sorted-walked keys m [] s h = h
+sorted-walked keys m (n ∷ numbers) s h =
+    sorted-walked keys m numbers (unwrap_or (option_map (λ v. put key_cmp (key_at keys n) v s) (find nat_cmp n m)) s) (sorted-one (key_at keys n) (find nat_cmp n m) s h)
+
+find-one : (q k : Key) (o : Option ℕ) (s : State) → find key_cmp q (unwrap_or (option_map (λ v. put key_cmp k v s) o) s) ≡ cond (eq_by_cmp key_cmp q k) (option_or o (find key_cmp q s)) (find key_cmp q s)
+find-one q k (Some v) s = find-put key_cmp key_cmp-total q k v s
+find-one q k None s = same (eq_by_cmp key_cmp q k) (find key_cmp q s)
+  where
+    same : (b : Bool) (o : Option ℕ) → o ≡ cond b o o
+    same true o = refl
+    same false o = refl
+
+twice : (o r : Option ℕ) (b : Bool) → cond b (option_or o (option_or o r)) (option_or o r) ≡ option_or o r
+twice None r true = refl
+twice None r false = refl
+twice (Some x) r true = refl
+twice (Some x) r false = refl
+
+find-walked : (keys : List Key) (m : Entries) (numbers : List ℕ) (s : State) (q : Key) → AreDistinct keys → All (λ n. n < length keys) numbers
+    → find key_cmp q (walked keys m numbers s) ≡ cond (has_number_in keys numbers q) (option_or (at_number keys (λ n. find nat_cmp n m) q) (find key_cmp q s)) (find key_cmp q s)
+find-walked keys m [] s q h b = refl
+find-walked keys m (n ∷ numbers) s q h b =
+    find-walked keys m numbers next q h (λ k d l. b (suc k) d (omega arith))
+    ∙ ap (λ o. cond rest (option_or at o) o) (find-one q (key_at keys n) (find nat_cmp n m) s)
+    ∙ by (eq_by_cmp key_cmp q (key_at keys n)) refl
+  where
+    next : State
+    next = unwrap_or (option_map (λ v. put key_cmp (key_at keys n) v s) (find nat_cmp n m)) s
+
+    rest : Bool
+    rest = has_number_in keys numbers q
+
+    at : Option ℕ
+    at = at_number keys (λ j. find nat_cmp j m) q
+
+    here : eq_by_cmp key_cmp q (key_at keys n) ≡ true → find nat_cmp n m ≡ at
+    here t = sym (ap (option_and_then (λ j. find nat_cmp j m)) (ap (number_of keys) (eq-same q (key_at keys n) t) ∙ h n (b zero n (omega arith))))
+
+    by : (c : Bool) → eq_by_cmp key_cmp q (key_at keys n) ≡ c
+        → cond rest (option_or at (cond c (option_or (find nat_cmp n m) (find key_cmp q s)) (find key_cmp q s))) (cond c (option_or (find nat_cmp n m) (find key_cmp q s)) (find key_cmp q s))
+        ≡ cond (c || rest) (option_or at (find key_cmp q s)) (find key_cmp q s)
+    by true t = ap (λ o. cond rest (option_or at (option_or o (find key_cmp q s))) (option_or o (find key_cmp q s))) (here t) ∙ twice at (find key_cmp q s) rest
+    by false t = refl
+
+-- a key that has a number is among the keys in their order
+in_order-has : (keys : List Key) (numbers : List ℕ) (q : Key) → is_some (find key_cmp q (in_order keys numbers)) ≡ has_number_in keys numbers q
+in_order-has keys [] q = refl
+in_order-has keys (n ∷ numbers) q = by (eq_by_cmp key_cmp q (key_at keys n)) (in_order-has keys numbers q)
+  where
+    by : (b : Bool) → is_some (find key_cmp q (in_order keys numbers)) ≡ has_number_in keys numbers q
+        → is_some (cond b (Some n) (find key_cmp q (in_order keys numbers))) ≡ (b || has_number_in keys numbers q)
+    by true h = refl
+    by false h = h
+
+pub walked-is : (keys : List Key) (m : Entries) (numbers : List ℕ) → AreDistinct keys → AllBelow (length keys) m → AreInOrder keys numbers → walked keys m numbers [] ≡ shown keys m
+walked-is keys m numbers h b o =
+    same_states _ _ (sorted-walked keys m numbers [] tt) (sorted-shown keys m)
+    (λ q. find-walked keys m numbers [] q h o.below ∙ by q (number_of keys q) (sym (in_order-has keys numbers q) ∙ ap is_some (o.found q)) ∙ sym (find-shown keys m q h b))
+  where
+    by : (q : Key) (r : Option ℕ) → has_number_in keys numbers q ≡ is_some r
+        → cond (has_number_in keys numbers q) (option_or (option_and_then (λ n. find nat_cmp n m) r) None) None ≡ option_and_then (λ n. find nat_cmp n m) r
+    by q None e = ap (λ c. cond c (option_or (option_and_then (λ n. find nat_cmp n m) None) None) None) e
+    by q (Some n) e = ap (λ c. cond c (option_or (find nat_cmp n m) None) None) e ∙ or_none (find nat_cmp n m)
 
 -- ---- entries in their order
 

@@ -1,11 +1,11 @@
 -- Numbered states, for clauses: a state by its place.
-use Rattle.std.specs.Prelude.{◌≡◌, not, ℕ, ◌<◌, ◌++◌, Bool, ◌||◌, ◌↔◌, List, [], ◌∷◌, All, filter, flat_map, Option, Some, None, is_some, is_none, length, slice_index_or}
+use Rattle.std.specs.Prelude.{◌≡◌, not, ℕ, ◌<◌, ◌++◌, ◌&&◌, ◌||◌, ◌↔◌, List, [], ◌∷◌, All, filter, flat_map, Option, Some, None, is_some, is_none, length, slice_index_or}
 use Rattle.mx_auth.specs.Rules.{Key}
 use Rattle.mx_graph.specs.Record.{Row, is_in}
 use Rattle.mx_orders.specs.StateMap.{State, entry}
 use Rattle.mx_orders.specs.PowerOrder.{power_order}
 use Rattle.mx_orders.specs.Mainline.{power_key, mainline, mainline_order}
-use Rattle.mx_state_res.specs.Resolution.{power_events, iterative_auth_checks, overwritten}
+use Rattle.mx_state_res.specs.Resolution.{has_entry, power_events, iterative_auth_checks, overwritten}
 
 -- the state with this number
 abbrev pub state_at : List State → ℕ → State
@@ -61,6 +61,13 @@ option_list (Some p) = p ∷ []
 abbrev pub events_at : State → State → List ℕ
 events_at keys s = flat_map (λ e. option_list (entry s e.0)) keys
 
--- whether an entry is at a key of another state, or is at a key that a third one lacks
-abbrev pub is_kept : State → State → Key × ℕ → Bool
-is_kept keys s e = is_some (entry keys e.0) || is_none (entry s e.0)
+-- without what the unconflicted state has: the entries at keys in conflict, or at keys that a state lacks
+abbrev pub restored : State → State → State → State
+restored keys s puts = filter (λ e. is_some (entry keys e.0) || is_none (entry s e.0)) puts
+
+-- of what is taken from a state and put over it, what changes the state
+abbrev pub really_taken : State → State → State → State
+really_taken keys s puts = filter (λ e. is_some (entry s e.0) && is_none (entry puts e.0)) keys
+
+abbrev pub really_put : State → State → State
+really_put s puts = filter (λ e. not (has_entry e s)) puts

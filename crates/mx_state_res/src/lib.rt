@@ -17,12 +17,14 @@ mod numbered_conflicts;
 mod numbered_entries;
 mod numbered_resolution;
 mod plain_conflicts;
+mod plain_states;
 mod powers;
 mod resolving;
 mod snapshot_chains;
 mod snapshot_differences;
 mod snapshot_edits;
 mod snapshots;
+mod state_changes;
 mod state_keys;
 mod state_maps;
 mod state_numbers;
@@ -42,3 +44,7 @@ pub use states::States;
 
 #[cfg(test)]
 mod conflict_tests;
+#[cfg(test)]
+mod numbered_tests;
+#[cfg(test)]
+mod states_tests;

@@ -8,7 +8,7 @@ ghost use Rattle.mx_orders.specs.StateMap.{entry as entry_at, key_cmp};
 ghost use Rattle.mx_state_res.specs.KeyNumbers.{AllBelow, AreChanges, AreDistinct, AreGrown, AreShown, changes_at, has_number_in, shown};
 ghost use Rattle.mx_state_res.specs.SnapshotEntries.{DifferAt, snapshot};
 
-use crate::snapshot_edits::change_entry;
+use crate::snapshot_edits::{change_entry, value_in};
 use crate::snapshots::Snapshots;
 use crate::state_keys::Keys;
 use crate::state_maps::StateMap;
@@ -38,7 +38,7 @@ pub(crate) fn entries_of(
     Ok(entries)
 }
 
-// The state with these entries.
+// The state with these entries. It is made in the order of the keys, so that no entry is put before others.
 pub(crate) fn map_of(
     alloc: Global,
     keys: &Keys,
@@ -50,9 +50,11 @@ pub(crate) fn map_of(
     ensures { IfOk result (λ map. map ≡ shown keys.now entries.now) }
 {
     let mut map = StateMap::new(alloc);
-    for &(number, event) in entries {
-        let key = keys.key(number);
-        map.insert(key.kind(), key.state_key(), event)?;
+    for &number in keys.in_order() {
+        if let Some(event) = value_in(entries, number) {
+            let key = keys.key(number);
+            map.insert(key.kind(), key.state_key(), event)?;
+        }
     }
     Ok(map)
 }

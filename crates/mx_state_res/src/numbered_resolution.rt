@@ -1,12 +1,16 @@
 // The resolution of some of a room's states.
-ghost use Rattle.std.specs.Prelude.{◌≡◌, ◌<◌, All, IfOk, length, map};
-ghost use Rattle.mx_state_res.specs.Numbered.{AreAdded, AreKnown, state_at};
+ghost use Rattle.std.specs.Prelude.{◌≡◌, ◌<◌, ◌++◌, ◌∷◌, ℕ, All, IfOk, List, OnErr, length, map};
+ghost use Rattle.mx_orders.specs.StateMap.{State};
+ghost use Rattle.mx_state_res.specs.Numbered.{AreAdded, AreKnown, IsDiffering, edited, state_at};
 ghost use Rattle.mx_state_res.specs.Resolution as definition;
 
-use crate::resolving::resolve;
+use crate::conflict_checks::check_conflicted;
+use crate::numbered_conflicts::{all_are_sorted, full_conflicted_at};
+use crate::state_changes::{StateChange, least_change, restored_puts};
 use crate::state_maps::StateMap;
 use crate::state_numbers::StateNo;
 use crate::states::States;
+use crate::working_states::WorkingState;
 use mx_graph::Graph;
 use std::alloc::{AllocError, Global};
 
@@ -28,28 +32,85 @@ pub fn resolve_numbered(
     ensures number { IfOk result (λ number. number < length states.new) }
     ensures added { AreAdded graph.now states.old states.new }
 {
-    let maps = maps_of(alloc, states, numbers)?;
-    let map = resolve_maps(alloc, graph, &maps)?;
-    states.add(&map)
-}
-
-fn maps_of(alloc: Global, states: &States, numbers: &[StateNo]) -> Result<Vec<StateMap>, AllocError>
-    requires numbers { All (λ number. number < length states.now) numbers.now }
-    ensures { IfOk result (λ maps. maps.items ≡ map (state_at states.now) numbers.now) }
-{
-    let mut maps = Vec::with_capacity(alloc, numbers.len())?;
-    for number in numbers {
-        let map = states.map(alloc, *number)?;
-        maps.push(map)?;
+    let Some((first, _)) = numbers.split_first() else {
+        let number = states.add_empty()?;
+        return Ok(number);
+    };
+    all_are_sorted(states, numbers);
+    let differing = states.differing(alloc, numbers)?;
+    if differing.entries().is_empty() {
+        return Ok(*first);
     }
-    Ok(maps)
+    let change = resolving_change(alloc, graph, states, numbers, *first, &differing)?;
+    made(states, &change)
 }
 
-fn resolve_maps(alloc: Global, graph: &Graph, maps: &[StateMap]) -> Result<StateMap, AllocError>
-    requires known { AreKnown graph.now maps.now }
-    ensures resolved { IfOk result (λ state. state ≡ definition.resolve graph.now maps.now) }
-    ensures known { IfOk result (λ state. All (λ e. e.1 < length graph.now) state) }
+// The state that a change makes. Where it changes nothing it is the one that is there.
+fn made(states: &mut States, change: &StateChange) -> Result<StateNo, AllocError>
+    requires { change.now.parent < length states.old }
+    ensures made { IfOk result (λ number. state_at states.new number
+        ≡ edited change.now.taken (state_at states.old change.now.parent) change.now.puts) }
+    ensures number { IfOk result (λ number. number < length states.new) }
+    ensures added { (more : List State) × (states.new ≡ states.old ++ more)
+        × All (λ s. s ≡ edited change.now.taken (state_at states.old change.now.parent) change.now.puts) more }
 {
-    let borrowed: Vec<&StateMap> = maps.iter().collect(alloc)?;
-    resolve(alloc, graph, &borrowed)
+    if change.is_empty() {
+        return Ok(change.parent);
+    }
+    states.apply(change.parent, &change.taken, &change.puts)
+}
+
+// What makes the resolution of some states of one of them.
+fn resolving_change(
+    alloc: Global,
+    graph: &Graph,
+    states: &States,
+    numbers: &[StateNo],
+    base: StateNo,
+    differing: &StateMap,
+) -> Result<StateChange, AllocError>
+    requires numbers { All (λ number. number < length states.now) numbers.now }
+    requires known { AreKnown graph.now states.now }
+    requires base { (others : List ℕ) × (numbers.now ≡ base ∷ others) }
+    requires differing { IsDiffering differing.now (map (state_at states.now) numbers.now) }
+    ensures parent { IfOk result (λ change. change.parent < length states.now) }
+    ensures resolved { IfOk result (λ change. edited change.taken (state_at states.now change.parent) change.puts
+        ≡ definition.resolve graph.now (map (state_at states.now) numbers.now)) }
+    ensures known { IfOk result (λ change. All (λ e. e.1 < length graph.now)
+        (edited change.taken (state_at states.now change.parent) change.puts)) }
+{
+    all_are_sorted(states, numbers);
+    let _ = differing.entries();
+    let puts = resolving_puts(alloc, graph, states, numbers, base, differing)?;
+    let change = least_change(alloc, states, numbers, base, differing, &puts)?;
+    Ok(change)
+}
+
+// What is put over the first of some states, without the keys at which they differ, in their resolution.
+fn resolving_puts(
+    alloc: Global,
+    graph: &Graph,
+    states: &States,
+    numbers: &[StateNo],
+    base: StateNo,
+    differing: &StateMap,
+) -> Result<StateMap, AllocError>
+    requires numbers { All (λ number. number < length states.now) numbers.now }
+    requires known { AreKnown graph.now states.now }
+    requires base { (others : List ℕ) × (numbers.now ≡ base ∷ others) }
+    requires differing { IsDiffering differing.now (map (state_at states.now) numbers.now) }
+    ensures resolved { IfOk result (λ puts. edited differing.now (state_at states.now base) puts
+        ≡ definition.resolve graph.now (map (state_at states.now) numbers.now)) }
+    ensures known { IfOk result (λ puts. All (λ e. e.1 < length graph.now)
+        (edited differing.now (state_at states.now base) puts)) }
+{
+    all_are_sorted(states, numbers);
+    let _ = differing.entries();
+    let full = full_conflicted_at(alloc, graph, states, numbers, base, differing)?;
+    states.state_is_sorted(base);
+    let mut state = WorkingState::without(alloc, states.state(base), differing);
+    check_conflicted(alloc, graph, &mut state, &full)?;
+    let puts = state.into_puts();
+    let kept = restored_puts(alloc, states, base, differing, &puts)?;
+    Ok(kept)
 }

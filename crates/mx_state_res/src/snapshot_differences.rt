@@ -1,11 +1,12 @@
 // The keys at which two snapshots differ.
-ghost use Rattle.std.specs.Prelude.{◌≡◌, ◌<◌, ◌++◌, ◌↔◌, ◌⊎◌, [], ◌∷◌, cond, Contains, IfOk, IsTrue, OnOk, ℕ, length};
+ghost use Rattle.std.specs.Prelude.{◌≡◌, ◌<◌, ◌++◌, ◌↔◌, ◌⊎◌, [], ◌∷◌, cond, Contains, IfOk, IfSome, Some, IsTrue, OnOk, ℕ, length};
 ghost use Rattle.std.specs.List.Sorted.{IsStrictlyIncreasing};
 ghost use Rattle.std.specs.Map.{keys_of};
 ghost use Rattle.mx_state_res.specs.SnapshotEntries.{AgreeAt, DifferAt, snapshot};
-ghost use Rattle.mx_state_res.specs.SnapshotChains.{AllSound, meanings};
+ghost use Rattle.mx_state_res.specs.SnapshotChains.{AllSound, meanings, step_of};
 
 use crate::snapshot_chains::{Stored, entries_at, step, value_at};
+use mx_graph::EventNo;
 use std::alloc::{AllocError, Global};
 
 // Adds the keys of entries or changes.
@@ -18,13 +19,24 @@ fn push_keys<V>(keys: &mut Vec<u32>, entries: &[(u32, V)]) -> Result<(), AllocEr
     Ok(())
 }
 
+// What a stored snapshot is over, and the changes to it, where the way up goes on.
+fn step_if(stored: &Stored, goes_on: bool) -> Option<(usize, &[(u32, Option<EventNo>)])>
+    ensures { IfSome result (λ s. step_of stored.now ≡ Some (s.0, s.1.now)) }
+{
+    if goes_on {
+        return step(stored);
+    }
+    None
+}
+
 // Each key at which two snapshots differ, and more. It goes up from the later of both until both are one, and reads
-// whole maps only where they share none.
+// whole maps only where they share none, or where so many changes were met on the way.
 fn candidates(
     alloc: Global,
     stored: &[Stored],
     first: usize,
     second: usize,
+    most: usize,
 ) -> Result<Vec<u32>, AllocError>
     requires sound { AllSound stored.now }
     requires first_in_range { first < length stored.now }
@@ -37,7 +49,7 @@ fn candidates(
     while one != other {
         let later = one.max(other);
         let earlier = one.min(other);
-        match step(&stored[later]) {
+        match step_if(&stored[later], keys.len() < most) {
             None => {
                 let entries = entries_at(alloc, stored, later)?;
                 push_keys(&mut keys, &entries)?;
@@ -94,12 +106,13 @@ fn kept_keys(
     Ok(keys)
 }
 
-// The keys at which two snapshots differ, rising.
+// The keys at which two snapshots differ, rising. It reads whole maps where so many changes lie between the two.
 pub(crate) fn differing_keys(
     alloc: Global,
     stored: &[Stored],
     first: usize,
     second: usize,
+    most: usize,
 ) -> Result<Vec<u32>, AllocError>
     requires sound { AllSound stored.now }
     requires first_in_range { first < length stored.now }
@@ -107,7 +120,7 @@ pub(crate) fn differing_keys(
     ensures exact { IfOk result (λ keys. (key : ℕ) → Contains keys.items key ↔ DifferAt key (snapshot (meanings [] stored.now) first) (snapshot (meanings [] stored.now) second)) }
     ensures rising { IfOk result (λ keys. IsStrictlyIncreasing keys.items) }
 {
-    let candidates = candidates(alloc, stored, first, second)?;
+    let candidates = candidates(alloc, stored, first, second, most)?;
     let mut keys = kept_keys(alloc, stored, first, second, &candidates)?;
     keys.sort_unstable();
     keys.dedup();

@@ -93,12 +93,26 @@ impl Keys {
         }
     }
 
+    // How many keys there are.
+    pub(crate) fn len(&self) -> usize
+        ensures { result ≡ length self.now }
+    {
+        self.keys.len()
+    }
+
     // The key with this number.
     pub(crate) fn key(&self, number: u32) -> &StateKey
         requires { number < length self.now }
         ensures { result.now ≡ key_at self.now number }
     {
         &self.keys[number as usize]
+    }
+
+    // The numbers of all keys, in the order of the keys.
+    pub(crate) fn in_order(&self) -> &[u32]
+        ensures { AreInOrder self.now result.now }
+    {
+        &self.order
     }
 
     // The number of a key. It takes no memory, and the time is logarithmic in the keys.

@@ -169,7 +169,9 @@ impl States {
             ≡ ((is_some (entry found.old key) || has_missed (state_at self.now other) (state_at self.now first) key)
             || has_missed (state_at self.now first) (state_at self.now other) key)) }
     {
-        let differing = self.snapshots.differences(self.alloc, first, other)?;
+        // Past as many changes as there are keys, whole maps are less to read.
+        let most = self.keys.len();
+        let differing = self.snapshots.differences(self.alloc, first, other, most)?;
         put_differing(found, &self.keys, &self.snapshots, first, other, &differing)
     }
 

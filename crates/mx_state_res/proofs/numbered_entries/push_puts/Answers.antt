@@ -3,7 +3,7 @@ use Rattle.mx_auth.specs.Rules.{Key}
 use Rattle.mx_state_res.specs.KeyNumbers.{AreDistinct}
 use Rattle.mx_state_res.proofs.KeyNumberLemmas.{with_key-distinct}
 use Rattle.mx_state_res.proofs.ShownLemmas.{entry_of}
-use Rattle.mx_state_res.proofs.ChangeLemmas.{changes-more}
+use Rattle.mx_state_res.proofs.KeyChangeLemmas.{changes-more}
 use Rattle.mx_state_res.proofs.numbered_entries.push_puts.Goals as goal
 
 pub returns-in_err-push-clause-distinct : goal.returns-in_err-push-clause-distinct

@@ -4,7 +4,7 @@ use Rattle.std.proofs.lemmas.List.{drop_more}
 use Rattle.mx_auth.specs.Rules.{Key}
 use Rattle.mx_orders.specs.StateMap.{key_cmp}
 use Rattle.mx_state_res.specs.KeyNumbers.{key_at}
-use Rattle.mx_state_res.proofs.ChangeLemmas.{differing-below, differing-put, key_of_texts, none-alike}
+use Rattle.mx_state_res.proofs.KeyChangeLemmas.{differing-below, differing-put, key_of_texts, none-alike}
 use Rattle.mx_state_res.proofs.numbered_entries.put_differing.Goals as goal
 use Rattle.mx_state_res.proofs.numbered_entries.put_differing.Goals.{in-Some+in_ok-insert, in_default}
 

@@ -32,7 +32,7 @@ loop-one-smaller c =
     let all = c.args.stored.now in
     let l = c.loop-one.invariant in
     let pair = pair_in_range (length all) c.loop-one.one c.loop-one.other c.max-later.result c.min-earlier.result c.max-later.ensures c.min-earlier.ensures l.one_in_range l.other_in_range in
-    let here = step_at all c.max-later.result c.index-stored-later.result c.in-Some.parent c.in-Some.changes.now c.requires.sound pair.later_is c.index-stored-later.is (sym c.in-Some.ensures) in
+    let here = step_at all c.max-later.result c.index-stored-later.result c.in-Some.parent c.in-Some.changes.now c.requires.sound pair.later_is c.index-stored-later.is c.in-Some.ensures in
     omega (arith, here.below, pair_sum c.loop-one.one c.loop-one.other c.max-later.result c.min-earlier.result c.max-later.ensures c.min-earlier.ensures)
 
 -- up the later one's delta
@@ -42,7 +42,7 @@ loop-one-preserved c =
     let maps = meanings [] all in
     let l = c.loop-one.invariant in
     let pair = pair_in_range (length all) c.loop-one.one c.loop-one.other c.max-later.result c.min-earlier.result c.max-later.ensures c.min-earlier.ensures l.one_in_range l.other_in_range in
-    let here = step_at all c.max-later.result c.index-stored-later.result c.in-Some.parent c.in-Some.changes.now c.requires.sound pair.later_is c.index-stored-later.is (sym c.in-Some.ensures) in
+    let here = step_at all c.max-later.result c.index-stored-later.result c.in-Some.parent c.in-Some.changes.now c.requires.sound pair.later_is c.index-stored-later.is c.in-Some.ensures in
     let is : c.push_keys-in-Some.new.keys.items ≡ c.loop-one.keys.items ++ keys_of c.in-Some.changes.now = c.in_ok-push_keys-in-Some.ensures in
     record {
       one_in_range = pair.earlier_is;

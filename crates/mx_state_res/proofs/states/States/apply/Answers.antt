@@ -5,7 +5,7 @@ use Rattle.mx_state_res.specs.Numbered.{state_at, without}
 use Rattle.mx_state_res.specs.Resolution.{overwritten}
 use Rattle.mx_state_res.specs.SnapshotEntries.{changed, snapshot}
 use Rattle.mx_state_res.proofs.ShownLemmas.{are_shown-grown, are_shown-step, states-added, states-kept, maps-grown, on_err, below-at, below-changed, below-longer, shown-grown, state-shown}
-use Rattle.mx_state_res.proofs.ChangeLemmas.{shown-changed}
+use Rattle.mx_state_res.proofs.KeyChangeLemmas.{shown-changed}
 use Rattle.mx_state_res.proofs.states.States.apply.Goals as goal
 
 pub invariant_of-self : goal.invariant_of-self

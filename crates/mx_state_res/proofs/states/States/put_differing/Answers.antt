@@ -5,7 +5,7 @@ use Rattle.mx_state_res.specs.KeyNumbers.{has_number_in}
 use Rattle.mx_state_res.specs.SnapshotEntries.{snapshot}
 use Rattle.mx_state_res.proofs.KeyLemmas.{Sorted}
 use Rattle.mx_state_res.proofs.ShownLemmas.{sorted-shown, state-shown}
-use Rattle.mx_state_res.proofs.ChangeLemmas.{differing-found}
+use Rattle.mx_state_res.proofs.KeyChangeLemmas.{differing-found}
 use Rattle.mx_state_res.proofs.states.States.put_differing.Goals as goal
 
 on_ok : {A E : Type 0} (r : Result A E) (P : Type 0) → P → OnOk r P

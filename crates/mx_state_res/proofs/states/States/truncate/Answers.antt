@@ -1,4 +1,4 @@
-use Rattle.std.proofs.Common.{length, map, sym, subst, ap, take, ◌∙◌}
+use Rattle.std.proofs.Common.{map, sym, subst, ap, take, ◌∙◌}
 use Rattle.mx_state_res.specs.KeyNumbers.{AreShown, shown}
 use Rattle.mx_state_res.proofs.ShownLemmas.{are_shown-take, map-take}
 use Rattle.mx_state_res.proofs.states.States.truncate.Goals as goal
