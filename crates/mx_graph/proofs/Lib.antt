@@ -6,3 +6,4 @@ pub mod RowLemmas
 pub mod IndexLemmas
 pub mod RemovalLemmas
 pub mod GraphRows
+pub mod LongerRecordLemmas
