@@ -6,7 +6,7 @@ use Rattle.std.proofs.lemmas.List.{length-append}
 use Rattle.std.specs.List.{range_with_len}
 use Rattle.mx_pdu.specs.Event.{auth_ids}
 use Rattle.mx_graph.specs.Graph.{IsSound, IsClosed, IsLeastClosed, auth_chain, reached}
-use Rattle.mx_graph.specs.Record.{Row, no_row, row, event, is_in, places, events_where, auth_events}
+use Rattle.mx_graph.specs.Record.{Row, no_row, row, event, is_in, events_where, auth_events}
 use Rattle.mx_graph.proofs.Closure.{or_cases, reached-by, reached-is_least, is_in-to, within-below}
 use Rattle.mx_graph.proofs.Members.{In}
 use Rattle.mx_graph.proofs.RemovalLemmas.{lt-neq, places-before}
