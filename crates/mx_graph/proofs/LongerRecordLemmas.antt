@@ -82,6 +82,11 @@ module _ (rows longer : List Row) (l : IsLonger rows longer) where
   reached_known : (starts : List ℕ) (p : ℕ) → is_in (reached rows cites starts) p ≡ true → p < length rows
   reached_known starts p e = within-below rows cites starts (length rows) p (is_in-to p (reached rows cites starts) e)
 
+  -- what is in an auth chain is an event of the record
+  pub auth_chain-known : (starts : List ℕ) (p : ℕ) → is_in (auth_chain rows starts) p ≡ true → p < length rows
+  unfolding auth_chain
+  auth_chain-known starts p e = reached_known starts p e
+
   module _ (starts : List ℕ) (known : AreEvents rows starts) where
     member-known : (x : ℕ) → (is_in starts x ≡ true) ⊎ (is_in (reached rows cites starts) x ≡ true) → x < length rows
     member-known x (inl e) = known x (is_in-to x starts e)

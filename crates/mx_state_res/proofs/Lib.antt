@@ -20,3 +20,4 @@ pub mod WalkStepLemmas
 pub mod WalkStartLemmas
 pub mod WalkEndLemmas
 pub mod NumberedLemmas
+pub mod LongerRecordLemmas
