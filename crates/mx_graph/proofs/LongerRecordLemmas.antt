@@ -1,15 +1,15 @@
 -- What a longer record says of the events that a shorter one has.
-use Rattle.std.proofs.Common.{◌≡◌, ◌<◌, ◌≤◌, ◌+◌, ◌++◌, ◌⊎◌, inl, inr, ℕ, zero, suc, Bool, true, false, cond, List, [], ◌∷◌, filter, length, refl, sym, ap, ◌∙◌, arith}
+use Rattle.std.proofs.Common.{◌≡◌, ◌<◌, ◌≤◌, ◌+◌, ◌++◌, ◌⊎◌, inl, inr, ℕ, zero, suc, Bool, true, false, cond, List, [], ◌∷◌, filter, length, refl, sym, ap, subst, ◌∙◌, append_assoc, arith}
 use Rattle.std.proofs.Math.ListN.{get_or-eq_default}
 use Rattle.std.proofs.lemmas.Bool.{cases_lt}
-use Rattle.std.proofs.lemmas.List.{length-append}
+use Rattle.std.proofs.lemmas.List.{append-nil, length-append}
 use Rattle.std.specs.List.{range_with_len}
-use Rattle.mx_pdu.specs.Event.{auth_ids}
+use Rattle.mx_pdu.specs.Event.{prev_ids, auth_ids}
 use Rattle.mx_graph.specs.Graph.{IsSound, IsClosed, IsLeastClosed, auth_chain, reached}
 use Rattle.mx_graph.specs.Record.{Row, no_row, row, event, is_in, events_where, auth_events}
 use Rattle.mx_graph.proofs.Closure.{or_cases, reached-by, reached-is_least, is_in-to, within-below}
 use Rattle.mx_graph.proofs.Members.{In}
-use Rattle.mx_graph.proofs.RemovalLemmas.{lt-neq, places-before}
+use Rattle.mx_graph.proofs.RemovalLemmas.{down-pop, lt-neq, places-before}
 use Rattle.mx_graph.proofs.RowLemmas.{row-other}
 
 -- a record, and one that has more rows behind it
@@ -38,6 +38,41 @@ longer-push rows r sound after = record {
   where
     same : (p : ℕ) → p < length rows → row (rows ++ r ∷ []) p ≡ row rows p
     same p l = row-other rows r p (lt-neq p (length rows) l)
+
+-- ---- several rows more
+
+-- a record without its last row is sound
+sound-before : (rows : List Row) (r : Row) → IsSound (rows ++ r ∷ []) → IsSound rows
+sound-before rows r after = record { ids = ids; prev = down-pop rows r prev_ids refl after.prev; auth = down-pop rows r auth_ids refl after.auth }
+  where
+    ids : (x y : ℕ) → x < length rows → y < length rows → (row rows x).id ≡ (row rows y).id → x ≡ y
+    ids x y l m e =
+        let n : length (rows ++ r ∷ []) ≡ length rows + 1 = length-append rows (r ∷ []) in
+        after.ids x y (omega arith) (omega arith)
+        (ap (λ (s : Row). s.id) (row-other rows r x (lt-neq x (length rows) l)) ∙ e ∙ ap (λ (s : Row). s.id) (sym (row-other rows r y (lt-neq y (length rows) m))))
+
+longer-itself : (rows : List Row) → IsSound rows → IsLonger rows rows
+longer-itself rows sound = record { sound = sound; sound_longer = sound; more = (omega arith); same = λ p l. refl; cited = λ p l. refl }
+
+longer-on : (rows next longer : List Row) → IsLonger rows next → IsLonger next longer → IsLonger rows longer
+longer-on rows next longer a b = record {
+  sound = a.sound;
+  sound_longer = b.sound_longer;
+  more = (let l : length rows ≤ length next = a.more in let m : length next ≤ length longer = b.more in omega arith);
+  same = λ p l. b.same p (reach p l) ∙ a.same p l;
+  cited = λ p l.
+      ap (λ (s : Row). auth_events longer s.event) (sym (a.same p l)) ∙ b.cited p (reach p l) ∙ ap (λ (s : Row). auth_events next s.event) (a.same p l) ∙ a.cited p l;
+}
+  where
+    reach : (p : ℕ) → p < length rows → p < length next
+    reach p l = let m : length rows ≤ length next = a.more in omega arith
+
+pub longer-prefix : (rows more : List Row) → IsSound (rows ++ more) → IsLonger rows (rows ++ more)
+longer-prefix rows [] sound = subst (IsLonger rows) (sym (append-nil rows)) (longer-itself rows (subst IsSound (append-nil rows) sound))
+longer-prefix rows (r ∷ more) sound =
+    let rest = longer-prefix (rows ++ r ∷ []) more (subst IsSound (sym (append_assoc rows (r ∷ []) more)) sound) in
+    subst (IsLonger rows) (append_assoc rows (r ∷ []) more)
+    (longer-on rows (rows ++ r ∷ []) ((rows ++ r ∷ []) ++ more) (longer-push rows r (sound-before rows r rest.sound) rest.sound) rest)
 
 -- ---- numbers of a range
 

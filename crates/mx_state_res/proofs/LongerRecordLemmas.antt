@@ -10,7 +10,7 @@ use Rattle.mx_graph.specs.Record.{Row, row, event, is_in, events_where}
 use Rattle.mx_graph.specs.Graph.{IsSound, auth_chain}
 use Rattle.mx_graph.proofs.Closure.{is_in-to, or_cases, same_tests}
 use Rattle.mx_graph.proofs.Members.{In, in_filter-parts, in_flat_map-from}
-use Rattle.mx_graph.proofs.LongerRecordLemmas.{AreEvents, IsLonger, longer-push, event-longer, where-longer, auth_chain-known, auth_chain-longer}
+use Rattle.mx_graph.proofs.LongerRecordLemmas.{AreEvents, IsLonger, longer-push, longer-prefix, event-longer, where-longer, auth_chain-known, auth_chain-longer}
 use Rattle.mx_orders.specs.StateMap.{State, key_cmp, entry, events_of, with_event, view_by, auth_event_at}
 use Rattle.mx_orders.specs.PowerOrder.{power_order}
 use Rattle.mx_orders.specs.Mainline.{power_key, mainline, mainline_order}
@@ -251,3 +251,7 @@ module _ (rows longer : List Row) (l : IsLonger rows longer) where
 -- a row that is added behind changes nothing
 pub resolve-longer : (rows : List Row) (r : Row) (states : List State) → IsSound rows → IsSound (rows ++ r ∷ []) → AreKnown rows states → resolve (rows ++ r ∷ []) states ≡ resolve rows states
 resolve-longer rows r states sound after known = resolve-in_longer rows (rows ++ r ∷ []) (longer-push rows r sound after) states known
+
+-- nor do several rows
+pub resolve-prefix : (rows more : List Row) (states : List State) → IsSound (rows ++ more) → AreKnown rows states → resolve (rows ++ more) states ≡ resolve rows states
+resolve-prefix rows more states sound known = resolve-in_longer rows (rows ++ more) (longer-prefix rows more sound) states known
