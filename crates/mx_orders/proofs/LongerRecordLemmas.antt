@@ -35,20 +35,21 @@ find-has P f (x ∷ xs) h = by (f x) (find-has P f xs (λ y m. h y (inr m)))
 
 -- ---- events by their auth events
 
-module _ (rows longer : List Row) (l : IsLonger rows longer) where
-  abbrev pub IsEvent : Option ℕ → Type 0
-  IsEvent o = IfSome o (λ p. p < length rows)
+-- if there is one, it is an event of the record
+abbrev pub IsEvent : List Row → Option ℕ → Type 0
+IsEvent rows o = IfSome o (λ p. p < length rows)
 
-  pub event_at-longer : (o : Option ℕ) → IsEvent o → option_map (event longer) o ≡ option_map (event rows) o
+module _ (rows longer : List Row) (l : IsLonger rows longer) where
+  pub event_at-longer : (o : Option ℕ) → IsEvent rows o → option_map (event longer) o ≡ option_map (event rows) o
   event_at-longer None h = refl
   event_at-longer (Some p) h = ap Some (event-longer rows longer l p h)
 
-  id_at-longer : (o : Option ℕ) → IsEvent o → option_map (λ p. (row longer p).id) o ≡ option_map (λ p. (row rows p).id) o
+  id_at-longer : (o : Option ℕ) → IsEvent rows o → option_map (λ p. (row longer p).id) o ≡ option_map (λ p. (row rows p).id) o
   id_at-longer None h = refl
   id_at-longer (Some p) h = ap (λ (r : Row). Some r.id) (l.same p h)
 
   -- what the authorization rules see of events that the record has
-  pub view_by-longer : (at : Key → Option ℕ) → ((key : Key) → IsEvent (at key)) → view_by longer at ≡ view_by rows at
+  pub view_by-longer : (at : Key → Option ℕ) → ((key : Key) → IsEvent rows (at key)) → view_by longer at ≡ view_by rows at
   view_by-longer at h = λ i. record {
     create_id = id_at-longer (at (codes "m.room.create", [])) (h (codes "m.room.create", [])) i;
     entry = λ kind key. event_at-longer (at (kind, key)) (h (kind, key)) i;
@@ -57,7 +58,7 @@ module _ (rows longer : List Row) (l : IsLonger rows longer) where
   auth_events-known : (p : ℕ) → AreEvents rows (auth_events rows (event rows p))
   auth_events-known p x m = (l.sound.auth p x (is_in-from x (auth_events rows (event rows p)) m)).0
 
-  pub auth_event_at-known : (p : ℕ) (key : Key) → IsEvent (auth_event_at rows (event rows p) key)
+  pub auth_event_at-known : (p : ℕ) (key : Key) → IsEvent rows (auth_event_at rows (event rows p) key)
   auth_event_at-known p key = find-has (λ q. q < length rows) _ (auth_events rows (event rows p)) (auth_events-known p)
 
   auth_event_at-earlier : (p : ℕ) (key : Key) → IfSome (auth_event_at rows (event rows p) key) (λ q. q < p)
@@ -80,9 +81,14 @@ module _ (rows longer : List Row) (l : IsLonger rows longer) where
   pub sender_level-longer : (p : ℕ) → p < length rows → sender_level longer p ≡ sender_level rows p
   sender_level-longer p h =
       sender_level-at longer p (create_at p) (levels_at p) (sym (auth_event_at-longer p (codes "m.room.create", []) h)) (sym (auth_event_at-longer p power_key h))
-      ∙ (λ i. if is_none (event_at-longer (create_at p) (auth_event_at-known p (codes "m.room.create", [])) i) then pos 0
-      else user_level (event_at-longer (create_at p) (auth_event_at-known p (codes "m.room.create", [])) i) (event_at-longer (levels_at p) (auth_event_at-known p power_key) i) (sender_of (event-longer rows longer l p h i)))
+      ∙ (λ i. if is_none (create i) then pos 0 else user_level (create i) (levels i) (sender_of (event-longer rows longer l p h i)))
       ∙ sym (sender_level-at rows p (create_at p) (levels_at p) refl refl)
+    where
+      create : option_map (event longer) (create_at p) ≡ option_map (event rows) (create_at p)
+      create = event_at-longer (create_at p) (auth_event_at-known p (codes "m.room.create", []))
+
+      levels : option_map (event longer) (levels_at p) ≡ option_map (event rows) (levels_at p)
+      levels = event_at-longer (levels_at p) (auth_event_at-known p power_key)
 
   -- ---- mainlines
 
@@ -92,14 +98,21 @@ module _ (rows longer : List Row) (l : IsLonger rows longer) where
   mainline-below zero p k h = absurd (omega arith)
   mainline-below (suc n) p k h =
       mainline-step longer l.sound_longer p
-      ∙ ap (λ w. p ∷ w) (ap (mainline longer) (auth_event_at-longer p power_key h) ∙ by (λ q j m. mainline-below n q j m) (levels_at p) (auth_event_at-known p power_key) (auth_event_at-earlier p power_key))
+      ∙ ap (λ w. p ∷ w) (ap (mainline longer) (auth_event_at-longer p power_key h) ∙ by (λ q j m. mainline-below n q j m) (levels_at p) known earlier)
       ∙ sym (mainline-step rows l.sound p)
     where
-      by : ((q : ℕ) → q < n → q < length rows → mainline longer (Some q) ≡ mainline rows (Some q)) → (o : Option ℕ) → IsEvent o → IfSome o (λ q. q < p) → mainline longer o ≡ mainline rows o
+      known : IsEvent rows (levels_at p)
+      known = auth_event_at-known p power_key
+
+      earlier : IfSome (levels_at p) (λ q. q < p)
+      earlier = auth_event_at-earlier p power_key
+
+      by : ((q : ℕ) → q < n → q < length rows → mainline longer (Some q) ≡ mainline rows (Some q))
+          → (o : Option ℕ) → IsEvent rows o → IfSome o (λ q. q < p) → mainline longer o ≡ mainline rows o
       by later None a b = refl
       by later (Some q) a b = later q (let c : q < p = b in omega arith) a
 
-  pub mainline-longer : (o : Option ℕ) → IsEvent o → mainline longer o ≡ mainline rows o
+  pub mainline-longer : (o : Option ℕ) → IsEvent rows o → mainline longer o ≡ mainline rows o
   unfolding mainline
   mainline-longer None h = refl
   mainline-longer (Some p) h = mainline-below (suc p) p (omega arith) h

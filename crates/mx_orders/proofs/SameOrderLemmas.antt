@@ -29,7 +29,7 @@ module _ {A : Type 0} where
   filter-same P f g same [] h = refl
   filter-same P f g same (x ∷ xs) h = λ i. cond (same x (h x (inl refl)) i) (x ∷ filter-same P f g same xs (later-all P x xs h) i) (filter-same P f g same xs (later-all P x xs h) i)
 
-  pub filter-all : (P : A → Type 0) (test : A → Bool) (xs : List A) → AreAll P xs → AreAll P (filter test xs)
+  filter-all : (P : A → Type 0) (test : A → Bool) (xs : List A) → AreAll P xs → AreAll P (filter test xs)
   filter-all P test xs h x m = h x (in_filter-parts test x xs m).0
 
   list_all-same : (P : A → Type 0) (f g : A → Bool) → ((x : A) → P x → f x ≡ g x) → (xs : List A) → AreAll P xs → list_all f xs ≡ list_all g xs
