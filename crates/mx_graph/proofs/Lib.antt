@@ -7,3 +7,4 @@ pub mod IndexLemmas
 pub mod RemovalLemmas
 pub mod GraphRows
 pub mod MarkLemmas
+pub mod LongerRecordLemmas

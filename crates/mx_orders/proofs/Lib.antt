@@ -17,3 +17,5 @@ pub mod FollowLemmas
 pub mod FallingLemmas
 pub mod OrdersOnExamples
 pub mod OrderRows
+pub mod SameOrderLemmas
+pub mod LongerRecordLemmas
