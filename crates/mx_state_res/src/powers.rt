@@ -7,7 +7,7 @@ ghost use Rattle.mx_graph.specs.Record as record_of;
 ghost use Rattle.mx_state_res.specs.Resolution as definition;
 
 use crate::event_sets::within;
-use mx_graph::{EventNo, Graph};
+use mx_graph::{EventNo, Graph, least_of};
 use mx_pdu::Pdu;
 use mx_redact::text_field;
 use std::alloc::{AllocError, Global};
@@ -25,7 +25,7 @@ pub(crate) fn power_events(
     ensures known { IfOk result (λ events. All (λ event. event < length graph.now) events.items) }
 {
     let power = own_power_events(alloc, graph, full)?;
-    let chain = graph.auth_chain(alloc, &power)?;
+    let chain = graph.auth_chain_above(alloc, &power, least_of(full))?;
     let events = within(alloc, full, &power, &chain)?;
     Ok(events)
 }

@@ -1,8 +1,11 @@
-use Rattle.std.proofs.Common.{◌<◌, ◌||◌, length, filter, sym, ap, ap₂, subst, ◌∙◌}
+use Rattle.std.proofs.Common.{◌≡◌, ◌≤◌, ◌&&◌, ℕ, List, ◌<◌, ◌||◌, length, filter, sym, ap, subst, ◌∙◌}
 use Rattle.std.specs.List.{All}
 use Rattle.mx_graph.specs.Edges.{Rises}
 use Rattle.mx_graph.specs.Graph.{auth_chain}
 use Rattle.mx_graph.specs.Record.{is_in, event}
+use Rattle.std.proofs.lemmas.Bool.{le-leb}
+use Rattle.mx_graph.proofs.Closure.{in-all, is_in-from, same_tests}
+use Rattle.mx_graph.proofs.Members.{In}
 use Rattle.mx_state_res.specs.Resolution.{is_power_event, power_events}
 use Rattle.mx_state_res.proofs.SetLemmas.{rises-filter}
 use Rattle.mx_state_res.proofs.OrderLemmas.{filter-all}
@@ -16,8 +19,20 @@ pub returns-clause-set : goal.returns-clause-set
 unfolding power_events
 returns-clause-set c =
     c.in_ok-events.ensures
-    ∙ ap₂ (λ xs ys. filter (λ p. is_in xs p || is_in ys p) c.args.full.now) (c.deref-2.ensures.value ∙ c.in_ok-power.ensures)
-    (c.deref-3.ensures.value ∙ c.in_ok-chain.ensures.set ∙ ap (auth_chain c.args.graph.now) (c.deref.ensures.value ∙ c.in_ok-power.ensures))
+    ∙ same_tests (λ p. is_in c.deref-2.result.now p || is_in c.deref-3.result.now p) (λ p. is_in own p || is_in (auth_chain c.args.graph.now own) p) c.args.full.now
+    (λ p h. λ i. is_in (own-is i) p || chained p h i)
+  where
+    own : List ℕ
+    own = filter (λ p. is_power_event (event c.args.graph.now p)) c.args.full.now
+
+    own-is : c.deref-2.result.now ≡ own
+    own-is = c.deref-2.ensures.value ∙ c.in_ok-power.ensures
+
+    chained : (p : ℕ) → In p c.args.full.now → is_in c.deref-3.result.now p ≡ is_in (auth_chain c.args.graph.now own) p
+    chained p h =
+        ap (λ ys. is_in ys p) c.deref-3.ensures.value ∙ c.in_ok-chain.ensures.set p
+        ∙ ap (λ b. b && is_in (auth_chain c.args.graph.now c.deref.result.now) p) (le-leb c.least_of.result p (in-all (λ n. c.least_of.result ≤ n) c.args.full.now p c.least_of.ensures (is_in-from p c.args.full.now h)))
+        ∙ ap (λ xs. is_in (auth_chain c.args.graph.now xs) p) (c.deref.ensures.value ∙ c.in_ok-power.ensures)
 
 pub returns-clause-rises : goal.returns-clause-rises
 returns-clause-rises c =
