@@ -200,6 +200,8 @@ def host_refusals(log):
     host("malformed", auth_events=["$x"])
     host("signature", signed=False)
     host("content hash", hashed=False)
+    for hashes in ({}, {"sha256": 1}):
+        log.host({**sound, "hashes": hashes}, {"refused": "content hash"})
     host("malformed", depth=-1)
     # Several faults in one event.
     host("not a create event", hashed=False, signed=False, **nothing, type="m.room.message")
@@ -363,11 +365,17 @@ def format_limits(log):
         ("prev_events", ["$" + "e" * 254], ["$" + "e" * 255]),
         ("depth", 9007199254740991, 9007199254740992),
         ("depth", 0, -1),
+        ("depth", 1, 1.0),
+        ("depth", 1, "1"),
         ("origin_server_ts", -9007199254740991, "5"),
+        ("prev_events", ["$e"], ["e"]),
+        ("auth_events", ["$e"], ["$"]),
         ("type", "t" * 255, "t" * 256),
+        ("type", "t", 1),
         ("state_key", "k" * 255, "k" * 256),
         ("state_key", "", None),
         ("sender", "@" + "a" * 252 + ":b", "@" + "a" * 253 + ":b"),
+        ("sender", "@a:b", "@a"),
         ("room_id", "!r:a", "@r:a"),
         ("redacts", 1, 1.5),
         ("content", {"body": "a" * text}, {"body": "a" * (text + 1)}),
@@ -378,7 +386,7 @@ def format_limits(log):
 
 
 def signatures(log):
-    """An event is signed where its sender's server has a signature that is no empty text."""
+    """An event is signed where its sender's server, port included, has a signature that is no empty text."""
     base = Base(log)
     said = message(A, [base.join_c], base.of_a)
     told = []
@@ -387,6 +395,9 @@ def signatures(log):
         told.append(({**said, "signatures": made}, error("signature")))
     said = message(A, [base.join_c], base.of_a, "n")
     told.append(({**said, "signatures": {"a.example": {"ed25519:1": "", "ed25519:2": "s"}}}, ACCEPTED))
+    joined = join("@z:z.example:8448", [base.join_c], [base.create, base.levels, base.rules])
+    told.append(({**joined, "signatures": {"z.example": {"ed25519:1": "s"}}}, error("signature")))
+    told.append((joined, ACCEPTED))
     log.transaction("a.example", "t1", *told)
 
 
@@ -760,9 +771,9 @@ def bad_lines(log):
 ROWS = (
     host_refusals, join_before_join_rules, child_before_parent, steps_out_of_turn, last_text_stands, altered_content,
     two_rooms_one_transaction, one_of_two_rooms_alone, refusals_in_their_order, malformed_events, format_limits,
-    signatures, level_texts, power_level_changes, notification_levels, join_on_an_invite, ban_and_invite_rules, auth_events_check,
-    closed_to_other_servers, other_rules, demotion_race, demotion_before_the_topic, soft_failure, soft_failed_invite,
-    rejected_parent, state_before_rejects, create_in_the_auth_difference, invited_after_leaving,
+    signatures, level_texts, power_level_changes, notification_levels, join_on_an_invite, ban_and_invite_rules,
+    auth_events_check, closed_to_other_servers, other_rules, demotion_race, demotion_before_the_topic, soft_failure,
+    soft_failed_invite, rejected_parent, state_before_rejects, create_in_the_auth_difference, invited_after_leaving,
     left_after_the_invite, invited_by_newer_power_levels, invited_by_equal_power_levels, resolution_of_65_states,
     bad_lines,
 )

@@ -522,6 +522,10 @@ needed-join = refl
 label-printed : label_text JoinNotAllowed ≡ codes "A4.2.6"
 label-printed = refl
 
+-- no log has a state without a create event
+label-state_without_create : label_text StateWithoutCreate ≡ codes "A0"
+label-state_without_create = refl
+
 -- an event that is no state event, cited twice
 auth-message_twice : auth_rules (message (codes "$1" ∷ codes "$9" ∷ codes "$9" ∷ [])) (cited e1 ∷ cited (message []) ∷ cited (message []) ∷ []) ≡ Some AuthEventsRepeat
 unfolding rules_on_examples

@@ -1,4 +1,4 @@
-use crate::{IdError, NotAnId, ServerName, UserId};
+use crate::{IdError, NotAnId, RoomId, ServerName, UserId};
 use std::alloc::Global;
 use std::test::Fail;
 
@@ -62,5 +62,13 @@ fn hosts_and_ip_literals_are_found(rt: HostRuntime) -> Result<(), Fail> {
         assert_eq!(rt; name.host(), host);
         assert_eq!(rt; name.is_ip_literal(), is_ip_literal, "at {text}");
     }
+    Ok(())
+}
+
+#[test]
+fn the_server_of_a_room_id(rt: HostRuntime) -> Result<(), Fail> {
+    let id = RoomId::parse(rt.alloc(), "!r:a.example:8448")?;
+    let server = id.server_name(rt.alloc())?;
+    assert_eq!(rt; server.as_str(), "a.example:8448");
     Ok(())
 }

@@ -1,7 +1,7 @@
 -- Worked examples of levels.
-use Rattle.std.specs.Prelude.{◌≡◌, ℕ, ℤ, pos, negsuc, refl, List, ◌∷◌, [], codes, true, false, Option, Some, None}
+use Rattle.std.specs.Prelude.{◌≡◌, ℕ, Float, ℤ, pos, negsuc, refl, List, ◌∷◌, ◌++◌, [], codes, replicate, true, false, Option, Some, None}
 use Prim.Native.String.{String}
-use Rattle.serde_json.specs.Data.{Data, string, number, unsigned, negative, boolean, array, object, no_items, Members, no_members, member}
+use Rattle.serde_json.specs.Data.{Data, string, number, unsigned, negative, float, boolean, array, object, no_items, Members, no_members, member}
 use Rattle.mx_levels.specs.Level.{read_level, user_level, required_level, ban_level, kick_level, redact_level, invite_level}
 
 abbrev text : String → Data
@@ -92,6 +92,11 @@ level-too_low : read_level (text "-9007199254740992") ≡ None
 unfolding read_level
 level-too_low = refl
 
+-- 63 zeros and a nine
+level-zeros : read_level (string (replicate 63 48 ++ 57 ∷ [])) ≡ Some (pos 9)
+unfolding read_level
+level-zeros = refl
+
 level-number : read_level (level 9007199254740991) ≡ Some (pos 9007199254740991)
 unfolding read_level
 level-number = refl
@@ -103,6 +108,14 @@ level-number_too_large = refl
 level-number_too_low : read_level (number (negative (negsuc 9007199254740991))) ≡ None
 unfolding read_level
 level-number_too_low = refl
+
+level-number_largest : read_level (level 18446744073709551615) ≡ None
+unfolding read_level
+level-number_largest = refl
+
+level-float : (x : Float) → read_level (number (float x)) ≡ None
+unfolding read_level
+level-float x = refl
 
 level-boolean : read_level (boolean true) ≡ None
 unfolding read_level

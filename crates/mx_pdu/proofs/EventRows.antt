@@ -1,8 +1,13 @@
 -- Worked examples of the fields of an event and of its limits. Each computes.
-use Rattle.std.specs.Prelude.{◌≡◌, refl, ℕ, List, [], ◌∷◌, codes, pos, negsuc, replicate, true, false, Some, None}
-use Rattle.serde_json.specs.Data.{Data, null, string, number, unsigned, negative, array, object, Items, no_items, item, no_members, member}
+use Rattle.std.specs.Prelude.{◌≡◌, refl, ℕ, List, [], ◌∷◌, ◌++◌, codes, pos, negsuc, replicate, true, false, Some, None}
+use Rattle.std.specs.Fmt.{digits}
+use Rattle.std.specs.Str.{chars}
+use Rattle.serde_json.specs.Data.{Data, null, string, number, unsigned, negative, array, object, Items, no_items, item, Members, no_members, member}
+use Rattle.mx_canon.specs.Canonical.{canonical_text}
+use Rattle.mx_ident.specs.Identifier.{user_id_error}
 use Rattle.mx_pdu.specs.Event.{prev_ids, auth_ids, depth_of, timestamp_of, redacts_of, state_key_of, is_state}
-use Rattle.mx_pdu.specs.Format.{is_short, is_short_list, is_depth, is_string, is_event_id_list, has_fields}
+use Rattle.mx_pdu.specs.Format.{is_short, is_short_list, is_depth, is_string, is_event_id_list, is_id, has_fields, format_error}
+use Rattle.mx_pdu.specs.declared.refusals.NotAnEvent.TheVariants.{NotAnObject, NotCanonical, TextTooLong, WrongField, OverLimit}
 
 -- an object with one field
 abbrev one : List ℕ → Data → Data
@@ -95,5 +100,59 @@ ids-number = refl
 ids-long : is_event_id_list (array (texts ((36 ∷ replicate 255 97) ∷ []))) ≡ true
 ids-long = refl
 
+-- what is no id for another cause is none, however long it is
+ids-long_bare : is_event_id_list (array (texts (replicate 300 97 ∷ []))) ≡ false
+ids-long_bare = refl
+
+user-long : is_id user_id_error (string (64 ∷ replicate 253 97 ++ 58 ∷ 97 ∷ [])) ≡ true
+user-long = refl
+
+user-long_bare : is_id user_id_error (string (64 ∷ replicate 300 97)) ≡ false
+user-long_bare = refl
+
 fields-empty : has_fields (object no_members) ≡ false
 fields-empty = refl
+
+-- ---- the first refusal
+
+abbrev members : List (List ℕ × Data) → Members
+members [] = no_members
+members (m ∷ ms) = member m.0 m.1 (members ms)
+
+-- an event with this depth, this content, and so many prev events
+abbrev event : Data → Data → ℕ → Data
+event depth content prev =
+    object (members ((codes "auth_events", ids 1) ∷ (codes "content", content) ∷ (codes "depth", depth) ∷ (codes "hashes", object no_members)
+    ∷ (codes "origin_server_ts", number (unsigned 5)) ∷ (codes "prev_events", ids prev) ∷ (codes "room_id", string (codes "!r:a"))
+    ∷ (codes "sender", string (codes "@a:a")) ∷ (codes "signatures", object no_members) ∷ (codes "type", string (codes "t")) ∷ []))
+
+refused-none : format_error (event (number (unsigned 1)) (object no_members) 20) ≡ None
+unfolding format_error canonical_text digits chars
+refused-none = refl
+
+refused-no_object : format_error (array (item (number (unsigned 9007199254740992)) no_items)) ≡ Some NotAnObject
+unfolding format_error canonical_text digits chars
+refused-no_object = refl
+
+-- before a field of a wrong kind
+refused-not_canonical : format_error (event (number (unsigned 9007199254740992)) null 21) ≡ Some NotCanonical
+unfolding format_error canonical_text digits chars
+refused-not_canonical = refl
+
+-- before a limit
+refused-wrong_field : format_error (event (number (unsigned 1)) null 21) ≡ Some WrongField
+unfolding format_error canonical_text digits chars
+refused-wrong_field = refl
+
+refused-prev_events : format_error (event (number (unsigned 1)) (object no_members) 21) ≡ Some OverLimit
+unfolding format_error canonical_text digits chars
+refused-prev_events = refl
+
+refused-depth : format_error (event (number (negative (negsuc 0))) (object no_members) 20) ≡ Some OverLimit
+unfolding format_error canonical_text digits chars
+refused-depth = refl
+
+-- before a field of a wrong kind and a limit
+refused-too_long : format_error (event (number (unsigned 1)) (string (replicate 65536 97)) 21) ≡ Some TextTooLong
+unfolding format_error canonical_text digits chars
+refused-too_long = refl

@@ -13,3 +13,6 @@ pub use hosting::{HostError, NotARoom, hosting_fault};
 pub use outcomes::{Outcome, Refusal};
 pub use queries::{Denied, Query, QueryReply};
 pub use rooms::Room;
+
+#[cfg(test)]
+mod tests;
