@@ -78,7 +78,8 @@ changes_at keys changes key = option_and_then (λ n. find nat_cmp n changes) (nu
 abbrev pub has_number_in : List Key → List ℕ → Key → Bool
 has_number_in keys numbers key = list_any (λ n. eq_by_cmp key_cmp key (key_at keys n)) numbers
 
--- what pushed changes keep: keys were added alone, and at each key there are the changes from before, or what f makes of the entry of a state
+-- what pushed changes keep: keys were added alone, and at each key there are the changes from before, or what f makes of
+-- the entry of a state
 pub record AreChanges (old new : List Key) (before changes : List (ℕ × Option ℕ)) (f : ℕ → Option ℕ) (s : State) : Type 0 where
   pub grown : AreGrown old new
   pub distinct : AreDistinct new

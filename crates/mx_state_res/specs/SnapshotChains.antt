@@ -33,7 +33,8 @@ step_of (Whole entries) = None
 step_of (Rebuilt parent changes entries) = Some (parent, changes.items)
 step_of (Delta parent depth changes) = Some (parent, changes.items)
 
--- a whole map is in order, and one that was rebuilt is what its changes make; a delta is over an earlier snapshot, and one deeper, and no chain is longer than 63
+-- a whole map is in order, and one that was rebuilt is what its changes make; a delta is over an earlier snapshot, and
+-- one deeper, and no chain is longer than 63
 abbrev pub IsSound : List Stored → ℕ → Stored → Type 0
 IsSound all place (Whole entries) = T (is_sorted nat_cmp entries.items)
 IsSound all place (Rebuilt parent changes entries) = T (is_sorted nat_cmp entries.items) × (parent < place) × (entries.items ≡ changed changes.items (snapshot (meanings [] all) parent))

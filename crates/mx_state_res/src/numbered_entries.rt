@@ -16,8 +16,8 @@ use crate::state_numbers::StateNo;
 use mx_graph::EventNo;
 use std::alloc::{AllocError, Global};
 
-// The entries of a state by the numbers of their keys, which rise. Keys that are new are added; at an error some of them
-// may have been.
+// The entries of a state by the numbers of their keys, which rise. Keys that are new are added; at an error some of
+// them may have been.
 pub(crate) fn entries_of(
     alloc: Global,
     keys: &mut Keys,
@@ -72,7 +72,8 @@ pub(crate) fn put_differing(
     requires shown { AreShown keys.now snapshots.now }
     requires first { first < length snapshots.now }
     requires other { other < length snapshots.now }
-    requires differing { All (λ key. DifferAt key (snapshot snapshots.now first) (snapshot snapshots.now other)) differing.now }
+    requires differing { All (λ key. DifferAt key (snapshot snapshots.now first) (snapshot snapshots.now other))
+        differing.now }
     ensures { OnOk result ((key : Key) → is_some (entry_at found.new key)
         ≡ (is_some (entry_at found.old key) || has_number_in keys.now differing.now key)) }
 {
@@ -101,7 +102,8 @@ pub(crate) fn changes_of(
     ensures distinct { AreDistinct keys.new }
     ensures below { IfOk result (λ changes. AllBelow (length keys.new) changes.items) }
     ensures found { IfOk result (λ changes. (key : Key) → changes_at keys.new changes.items key
-        ≡ option_or (option_map (λ event. Some event) (entry_at puts.now key)) (option_map (λ event. None) (entry_at taken.now key))) }
+        ≡ option_or (option_map (λ event. Some event) (entry_at puts.now key))
+        (option_map (λ event. None) (entry_at taken.now key))) }
     ensures sorted { T (is_sorted key_cmp puts.now) }
 {
     let mut changes = Vec::new(alloc);
@@ -120,7 +122,8 @@ fn push_puts(
     requires below { AllBelow (length keys.old) changes.old.items }
     ensures grown { AreGrown keys.old keys.new }
     ensures distinct { AreDistinct keys.new }
-    ensures changes { OnOk result (AreChanges keys.old keys.new changes.old.items changes.new.items (λ event. Some event) puts.now) }
+    ensures changes { OnOk result (AreChanges keys.old keys.new changes.old.items changes.new.items
+        (λ event. Some event) puts.now) }
     ensures sorted { T (is_sorted key_cmp puts.now) }
 {
     for entry in puts.entries() {
@@ -140,7 +143,8 @@ fn push_removals(
     requires below { AllBelow (length keys.old) changes.old.items }
     ensures grown { AreGrown keys.old keys.new }
     ensures distinct { AreDistinct keys.new }
-    ensures changes { OnOk result (AreChanges keys.old keys.new changes.old.items changes.new.items (λ event. None) taken.now) }
+    ensures changes { OnOk result (AreChanges keys.old keys.new changes.old.items changes.new.items
+        (λ event. None) taken.now) }
 {
     for entry in taken.entries() {
         let key = keys.number_for(entry.kind(), entry.state_key())?;

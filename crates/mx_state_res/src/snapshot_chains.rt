@@ -118,7 +118,8 @@ pub(crate) fn with_changes(
     requires sound { AllSound stored.now }
     requires in_range { parent < length stored.now }
     ensures sound { IfOk result (IsSound stored.now (length stored.now)) }
-    ensures meant { IfOk result (λ s. meaning (meanings [] stored.now) s ≡ changed changes.items (snapshot (meanings [] stored.now) parent)) }
+    ensures meant { IfOk result (λ s. meaning (meanings [] stored.now) s
+        ≡ changed changes.items (snapshot (meanings [] stored.now) parent)) }
 {
     let depth = depth(&stored[parent]);
     if depth < LONGEST_CHAIN {

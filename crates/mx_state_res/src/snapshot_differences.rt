@@ -41,7 +41,8 @@ fn candidates(
     requires sound { AllSound stored.now }
     requires first_in_range { first < length stored.now }
     requires second_in_range { second < length stored.now }
-    ensures { IfOk result (λ keys. (key : ℕ) → Contains keys.items key ⊎ AgreeAt key (snapshot (meanings [] stored.now) first) (snapshot (meanings [] stored.now) second)) }
+    ensures { IfOk result (λ keys. (key : ℕ) → Contains keys.items key
+        ⊎ AgreeAt key (snapshot (meanings [] stored.now) first) (snapshot (meanings [] stored.now) second)) }
 {
     let mut keys = Vec::new(alloc);
     let mut one = first;
@@ -71,7 +72,8 @@ fn differ_at(stored: &[Stored], first: usize, second: usize, key: u32) -> bool
     requires sound { AllSound stored.now }
     requires first_in_range { first < length stored.now }
     requires second_in_range { second < length stored.now }
-    ensures { IsTrue result ↔ DifferAt key (snapshot (meanings [] stored.now) first) (snapshot (meanings [] stored.now) second) }
+    ensures { IsTrue result
+        ↔ DifferAt key (snapshot (meanings [] stored.now) first) (snapshot (meanings [] stored.now) second) }
 {
     value_at(stored, first, key) != value_at(stored, second, key)
 }
@@ -96,7 +98,8 @@ fn kept_keys(
     requires sound { AllSound stored.now }
     requires first_in_range { first < length stored.now }
     requires second_in_range { second < length stored.now }
-    ensures { IfOk result (λ keys. (key : ℕ) → Contains keys.items key ↔ (Contains candidates.now key × DifferAt key (snapshot (meanings [] stored.now) first) (snapshot (meanings [] stored.now) second))) }
+    ensures { IfOk result (λ keys. (key : ℕ) → Contains keys.items key ↔ (Contains candidates.now key
+        × DifferAt key (snapshot (meanings [] stored.now) first) (snapshot (meanings [] stored.now) second))) }
 {
     let mut keys = Vec::new(alloc);
     for &key in candidates {
@@ -117,7 +120,8 @@ pub(crate) fn differing_keys(
     requires sound { AllSound stored.now }
     requires first_in_range { first < length stored.now }
     requires second_in_range { second < length stored.now }
-    ensures exact { IfOk result (λ keys. (key : ℕ) → Contains keys.items key ↔ DifferAt key (snapshot (meanings [] stored.now) first) (snapshot (meanings [] stored.now) second)) }
+    ensures exact { IfOk result (λ keys. (key : ℕ) → Contains keys.items key
+        ↔ DifferAt key (snapshot (meanings [] stored.now) first) (snapshot (meanings [] stored.now) second)) }
     ensures rising { IfOk result (λ keys. IsStrictlyIncreasing keys.items) }
 {
     let candidates = candidates(alloc, stored, first, second, most)?;

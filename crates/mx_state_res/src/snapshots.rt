@@ -123,8 +123,8 @@ impl Snapshots {
         entries_at(alloc, &self.stored, number.index())
     }
 
-    // The keys at which two snapshots differ, rising. It reads whole maps only where the two share none, or where so many
-    // changes lie between them.
+    // The keys at which two snapshots differ, rising. It reads whole maps only where the two share none, or where so
+    // many changes lie between them.
     pub(crate) fn differences(
         &self,
         alloc: Global,
@@ -134,7 +134,8 @@ impl Snapshots {
     ) -> Result<Vec<u32>, AllocError>
         requires first_is_here { first < length self.now }
         requires second_is_here { second < length self.now }
-        ensures exact { IfOk result (λ keys. (key : ℕ) → Contains keys.items key ↔ DifferAt key (snapshot self.now first) (snapshot self.now second)) }
+        ensures exact { IfOk result (λ keys. (key : ℕ) → Contains keys.items key
+            ↔ DifferAt key (snapshot self.now first) (snapshot self.now second)) }
         ensures rising { IfOk result (λ keys. IsStrictlyIncreasing keys.items) }
     {
         differing_keys(alloc, &self.stored, first.index(), second.index(), most)

@@ -19,6 +19,9 @@ use std::marker::Model;
 
 /// A room's states by number. A state stays as it was added.
 ///
+/// The texts of a key are kept once. A state is kept as what it changes of an earlier one, by the numbers of its keys,
+/// and as a whole map too where 63 such changes would follow one another.
+///
 /// Source: the Matrix specification, Server-Server API, "PDUs".
 #[derive(Debug, Drop)]
 pub struct States {
