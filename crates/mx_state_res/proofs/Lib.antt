@@ -24,3 +24,4 @@ pub mod EntryLemmas
 pub mod DifferingLemmas
 pub mod NumberedConflictLemmas
 pub mod ChangeLemmas
+pub mod SameMembersLemmas
