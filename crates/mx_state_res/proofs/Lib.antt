@@ -32,3 +32,4 @@ pub mod SnapshotTruncateLemmas
 pub mod NumberedConflictLemmas
 pub mod KeyChangeLemmas
 pub mod LongerRecordLemmas
+pub mod SameMembersLemmas
