@@ -1,5 +1,6 @@
 -- States that are made of others by changes.
-use Rattle.std.proofs.Common.{◌≡◌, ℕ, ◌==◌, ◌<◌, Bool, true, false, cond, not, ◌&&◌, ◌||◌, inl, inr, List, [], ◌∷◌, filter, map, Option, Some, None, is_some, is_none, refl, sym, ap, ap₂, subst, ◌∙◌, eqb-true}
+use Rattle.std.proofs.Common.{◌≡◌, ℕ, ◌==◌, ◌<◌, Bool, true, false, cond, not, ◌&&◌, ◌||◌, inl, inr, List, [], ◌∷◌, filter, map, Option, Some, None, is_some, is_none, refl, sym, ap, ap₂, subst, ◌∙◌, eqb-true, ◌≤◌, ◌++◌, get_or, arith}
+use Rattle.std.proofs.lemmas.List.Elements.{All-append}
 use Rattle.std.specs.List.{All}
 use Rattle.std.specs.Option.{option_or}
 use Rattle.std.specs.Ordering.{is_eq}
@@ -18,6 +19,7 @@ use Rattle.mx_state_res.proofs.KeyLemmas.{Sorted, first, second, sorted-filter}
 use Rattle.mx_state_res.proofs.AgreedLemmas.{found-below}
 use Rattle.mx_state_res.proofs.SetLemmas.{all-at, all-of}
 use Rattle.mx_state_res.proofs.EntryLemmas.{entry-edited, entry-overwritten, entry-where, entry-without, equal-keys, same-states, sorted-edited, sorted-overwritten, sorted-without}
+use Rattle.mx_state_res.proofs.DifferingLemmas.{all-only}
 use Rattle.mx_state_res.proofs.EqualStateLemmas.{no_events, resolve-same}
 use Rattle.mx_state_res.proofs.OrderLemmas.{filter-all, overwritten-known, resolve-is}
 use Rattle.mx_state_res.proofs.NumberedConflictLemmas.{alike, at-sorted, unconflicted-is}
@@ -159,3 +161,9 @@ full-none rows =
 pub resolve-none : (rows : List Row) → resolve rows [] ≡ []
 unfolding resolve power_events power_order mainline_order unconflicted
 resolve-none rows = ap (λ full. overwritten (checked rows [] full) []) (full-none rows)
+
+-- ---- the fewest changes
+
+pub least-step : (size : ℕ → ℕ) (xs : List ℕ) (n before after : ℕ) → All (λ x. before ≤ size x) xs → after ≤ before → after ≤ size n → All (λ x. after ≤ size x) (xs ++ n ∷ [])
+least-step size xs n before after h l m =
+    All-append (λ x. after ≤ size x) xs (n ∷ []) (λ k d i. let j : before ≤ size (get_or xs k d) = h k d i in omega arith) (all-only (λ x. after ≤ size x) n m)

@@ -31,3 +31,4 @@ pub mod ChangeLemmas
 pub mod SnapshotTruncateLemmas
 pub mod NumberedConflictLemmas
 pub mod KeyChangeLemmas
+pub mod SameMembersLemmas

@@ -41,7 +41,7 @@ find-in k (f ∷ s) p e = by (is_eq (key_cmp k f.0)) refl e (find-in k s p)
     by true c e later = let q : k ≡ f.0 = equal-keys k f.0 c in let r : p ≡ f.1 = same e in inl (λ i. (q i, r i))
     by false c e later = inr (later e)
 
-every-from : (states : List State) (e : Key × ℕ) → ((t : State) → In t states → has_entry e t ≡ true) → in_every states e ≡ true
+pub every-from : (states : List State) (e : Key × ℕ) → ((t : State) → In t states → has_entry e t ≡ true) → in_every states e ≡ true
 every-from [] e h = refl
 every-from (t ∷ ts) e h = ap₂ (λ a b. a && b) (h t (inl refl)) (every-from ts e (λ u m. h u (inr m)))
 
@@ -49,7 +49,7 @@ filter-same : {A : Type 0} (f g : A → Bool) (xs : List A) → ((x : A) → In 
 filter-same f g [] h = refl
 filter-same f g (x ∷ xs) h = ap (λ b. cond b (x ∷ filter f xs) (filter f xs)) (h x (inl refl)) ∙ ap (λ ys. cond (g x) (x ∷ ys) ys) (filter-same f g xs (λ y m. h y (inr m)))
 
-has-some : (o : Option ℕ) (p : ℕ) → o ≡ Some p → is_some_and (λ q. q == p) o ≡ true
+pub has-some : (o : Option ℕ) (p : ℕ) → o ≡ Some p → is_some_and (λ q. q == p) o ≡ true
 has-some o p e = ap (is_some_and (λ q. q == p)) e ∙ eq-eqb p p refl
 
 none-none : (o : Option ℕ) → is_none o ≡ true → o ≡ None

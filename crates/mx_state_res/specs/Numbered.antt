@@ -1,5 +1,5 @@
 -- Numbered states, for clauses: a state by its place.
-use Rattle.std.specs.Prelude.{◌≡◌, not, ℕ, ◌<◌, ◌++◌, ◌&&◌, ◌||◌, ◌↔◌, List, [], ◌∷◌, All, filter, flat_map, Option, Some, None, is_some, is_none, length, slice_index_or}
+use Rattle.std.specs.Prelude.{◌≡◌, not, ℕ, ◌<◌, ◌+◌, ◌++◌, ◌&&◌, ◌||◌, ◌↔◌, List, [], ◌∷◌, All, filter, flat_map, Option, Some, None, is_some, is_none, length, slice_index_or}
 use Rattle.mx_auth.specs.Rules.{Key}
 use Rattle.mx_graph.specs.Record.{Row, is_in}
 use Rattle.mx_orders.specs.StateMap.{State, entry}
@@ -71,3 +71,7 @@ really_taken keys s puts = filter (λ e. is_some (entry s e.0) && is_none (entry
 
 abbrev pub really_put : State → State → State
 really_put s puts = filter (λ e. not (has_entry e s)) puts
+
+-- how many keys are changed
+abbrev pub change_size : State → State → State → ℕ
+change_size keys s puts = length (really_taken keys s puts) + length (really_put s puts)

@@ -13,6 +13,7 @@ mod event_sets;
 mod judged_states;
 mod laws;
 mod masks;
+mod number_sets;
 mod numbered_conflicts;
 mod numbered_entries;
 mod numbered_resolution;

@@ -5,6 +5,7 @@ ghost use Rattle.mx_state_res.specs.Numbered.{AreAdded, AreKnown, IsDiffering, e
 ghost use Rattle.mx_state_res.specs.Resolution as definition;
 
 use crate::conflict_checks::check_conflicted;
+use crate::number_sets::each_once;
 use crate::numbered_conflicts::{all_are_sorted, full_conflicted_at};
 use crate::state_changes::{StateChange, least_change, restored_puts};
 use crate::state_maps::StateMap;
@@ -20,6 +21,25 @@ use std::alloc::{AllocError, Global};
 ///
 /// Source: the Matrix specification, Room Version 2, "State resolution".
 pub fn resolve_numbered(
+    alloc: Global,
+    graph: &Graph,
+    states: &mut States,
+    numbers: &[StateNo],
+) -> Result<StateNo, AllocError>
+    requires numbers { All (λ number. number < length states.old) numbers.now }
+    requires known { AreKnown graph.now states.old }
+    ensures resolved { IfOk result (λ number. state_at states.new number
+        ≡ definition.resolve graph.now (map (state_at states.old) numbers.now)) }
+    ensures number { IfOk result (λ number. number < length states.new) }
+    ensures added { AreAdded graph.now states.old states.new }
+{
+    all_are_sorted(states, numbers);
+    let each = each_once(alloc, numbers)?;
+    resolve_each(alloc, graph, states, &each)
+}
+
+// The same, in a time that grows with how often a state is named.
+fn resolve_each(
     alloc: Global,
     graph: &Graph,
     states: &mut States,

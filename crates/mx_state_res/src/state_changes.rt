@@ -1,6 +1,6 @@
 // What is to be changed in a state to make another.
-ghost use Rattle.std.specs.Prelude.{◌≡◌, ◌<◌, All, IfOk, IsTrue, [], length};
-ghost use Rattle.mx_state_res.specs.Numbered.{edited, really_put, really_taken, restored, state_at, without};
+ghost use Rattle.std.specs.Prelude.{◌≡◌, ◌<◌, ◌≤◌, ◌+◌, ◌⊎◌, All, IfOk, IsTrue, [], length};
+ghost use Rattle.mx_state_res.specs.Numbered.{change_size, edited, really_put, really_taken, restored, state_at, without};
 
 use crate::state_maps::StateMap;
 use crate::state_numbers::StateNo;
@@ -17,11 +17,10 @@ pub(crate) struct StateChange {
 
 impl StateChange {
     // How many keys are changed.
-    fn len(&self) -> usize {
-        self.taken
-            .entries()
-            .len()
-            .saturating_add(self.puts.entries().len())
+    fn len(&self) -> usize
+        ensures { result ≡ length self.now.taken + length self.now.puts }
+    {
+        self.taken.entries().len() + self.puts.entries().len()
     }
 
     // Whether nothing is changed.
@@ -50,15 +49,24 @@ pub(crate) fn least_change(
     ensures parent { IfOk result (λ change. change.parent < length states.now) }
     ensures made { IfOk result (λ change. edited change.taken (state_at states.now change.parent) change.puts
         ≡ edited taken.now (state_at states.now base) puts.now) }
+    ensures least { IfOk result (λ change. All (λ number. length change.taken + length change.puts
+        ≤ change_size taken.now (state_at states.now number) puts.now) numbers.now) }
 {
     let mut least = change_of(alloc, states, base, taken, puts)?;
     for number in numbers {
         let change = change_of(alloc, states, *number, taken, puts)?;
-        if change.len() < least.len() {
-            least = change;
-        }
+        least = lesser(least, change);
     }
     Ok(least)
+}
+
+// The change of fewer keys.
+fn lesser(one: StateChange, other: StateChange) -> StateChange
+    ensures one_of { (result ≡ one) ⊎ (result ≡ other) }
+    ensures one { length result.taken + length result.puts ≤ length one.taken + length one.puts }
+    ensures other { length result.taken + length result.puts ≤ length other.taken + length other.puts }
+{
+    if other.len() < one.len() { other } else { one }
 }
 
 fn change_of(
@@ -70,6 +78,8 @@ fn change_of(
 ) -> Result<StateChange, AllocError>
     requires { number < length states.now }
     ensures parent { IfOk result (λ change. change.parent ≡ number) }
+    ensures size { IfOk result (λ change. length change.taken + length change.puts
+        ≡ change_size taken.now (state_at states.now number) puts.now) }
     ensures made { IfOk result (λ change. edited change.taken (state_at states.now number) change.puts
         ≡ edited taken.now (state_at states.now number) puts.now) }
 {

@@ -1,18 +1,20 @@
-use Rattle.std.proofs.Common.{length, map, sym, ap, ◌∙◌, eqb-true}
-use Rattle.std.proofs.lemmas.List.{nil_from_length}
+use Rattle.std.proofs.Common.{◌≡◌, ◌<◌, length, map, ap, ◌∙◌}
+use Rattle.std.proofs.lemmas.Result.{IfOk-weaker}
+use Rattle.mx_graph.specs.Record.{is_in}
 use Rattle.mx_state_res.specs.Numbered.{state_at}
 use Rattle.mx_state_res.specs.Resolution.{resolve}
-use Rattle.mx_state_res.proofs.NumberedLemmas.{empty-added}
-use Rattle.mx_state_res.proofs.ChangeLemmas.{nothing-at, resolve-none}
+use Rattle.mx_state_res.proofs.SameMembersLemmas.{all-within, resolve-each}
 use Rattle.mx_state_res.proofs.numbered_resolution.resolve_numbered.Goals as goal
 
-pub returns-in_default-clause-resolved : goal.returns-in_default-clause-resolved
-returns-in_default-clause-resolved c =
-    empty-added c.args.states.now c.add_empty.new.self c.in_ok-number.number c.in_ok-number.ensures.added c.in_ok-number.ensures.number
-    ∙ sym (resolve-none c.args.graph.now) ∙ ap (λ ns. resolve c.args.graph.now (map (state_at c.args.states.now) ns)) (sym (nil_from_length c.args.numbers.now c.in_default.ensures.cases))
+pub resolve_each-requires-clause-numbers : goal.resolve_each-requires-clause-numbers
+resolve_each-requires-clause-numbers c =
+    all-within (λ n. n < length c.args.states.now) c.deref.result.now c.args.numbers.now (λ n. ap (λ xs. is_in xs n) c.deref.ensures.value ∙ c.in_ok-each.ensures n) c.requires.numbers
 
-pub returns-then-is_empty-clause-resolved : goal.returns-then-is_empty-clause-resolved
-returns-then-is_empty-clause-resolved c =
-    nothing-at (state_at c.args.states.now) c.in_ok-differing.differing c.in-Some.first.now c.in-Some.field-0-1.now c.args.numbers.now c.in-Some.ensures.cases.0
-    c.entries.ensures.sorted c.all_are_sorted.ensures c.in_ok-differing.ensures
-    c.args.graph.now (sym c.entries.ensures.entries ∙ nil_from_length c.entries.result.now (eqb-true (length c.entries.result.now) 0 (sym (c.if-is_empty.ensures))))
+pub returns-clause-resolved : goal.returns-clause-resolved
+returns-clause-resolved c =
+    let rows = c.args.graph.now in
+    let at = state_at c.args.states.now in
+    IfOk-weaker c.resolve_each.result (λ number. state_at c.resolve_each.new.states number ≡ resolve rows (map at c.deref.result.now)) (λ number. state_at c.resolve_each.new.states number ≡ resolve rows (map at c.args.numbers.now))
+    (λ number is.
+    is ∙ resolve-each rows (state_at c.args.states.now) c.deref.result.now c.args.numbers.now (λ n. ap (λ xs. is_in xs n) c.deref.ensures.value ∙ c.in_ok-each.ensures n) c.all_are_sorted.ensures)
+    c.resolve_each.ensures.resolved
