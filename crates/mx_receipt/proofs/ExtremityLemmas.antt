@@ -1,10 +1,10 @@
 -- The forward extremities of a record that takes one more event.
-use Rattle.std.proofs.Common.{◌≡◌, ◌<◌, ◌+◌, ◌||◌, ◌++◌, ℕ, zero, suc, Bool, true, false, not, cond, List, [], ◌∷◌, filter, length, refl, sym, ap, ◌∙◌, arith}
+use Rattle.std.proofs.Common.{◌≡◌, ◌<◌, ◌≤◌, ◌+◌, ◌||◌, ◌++◌, ℕ, zero, suc, Bool, true, false, not, cond, List, [], ◌∷◌, filter, length, refl, sym, ap, subst, ◌∙◌, arith}
 use Rattle.std.proofs.lemmas.List.{get_or_append_left, length-append, length-map, map-append, append-nil}
 use Rattle.std.proofs.lemmas.List.Elements.{filter-append}
 use Rattle.std.specs.Prelude.{slice_index_or}
 use Rattle.std.specs.List.{range_with_len}
-use Rattle.mx_graph.specs.Edges.{IsAllFrom}
+use Rattle.mx_graph.specs.Edges.{IsAllFrom, Rises}
 use Rattle.mx_graph.specs.Graph.{IsSound, ancestors}
 use Rattle.mx_graph.specs.Record.{Row, is_in, places, prev_events}
 use Rattle.mx_graph.proofs.Closure.{is_in-from, is_in-to, in_places, range-parts, same_tests}
@@ -13,6 +13,7 @@ use Rattle.mx_receipt.specs.Receipt.{Kept, is_accepted, is_rejected, rows_of, ke
 use Rattle.mx_receipt.specs.Judgements.{Judged, leads_on, kept_of, verdicts_of}
 use Rattle.mx_receipt.specs.declared.verdicts.Verdict.{Verdict}
 use Rattle.mx_receipt.specs.declared.verdicts.Verdict.TheVariants.{Accepted}
+use Rattle.mx_state_res.proofs.SetLemmas.{rises-filter}
 use Rattle.mx_receipt.proofs.GrowthLemmas.{ancestors-below, ancestors-longer, ancestors-with, covered-below}
 use Rattle.mx_receipt.proofs.RecordLemmas.{at-seam}
 
@@ -76,6 +77,16 @@ extremities-below kept x e =
     let l : x < length (rows_of kept) = accepted-below kept (rows_of kept) x (is_in-from x accepted (in_filter-parts (λ p. not (is_in (ancestors (rows_of kept) accepted) p)) x accepted (is_in-to x (extremities_by (rows_of kept) accepted) f)).0) in
     let n : length (rows_of kept) ≡ length kept = length-map kept row_of in
     omega arith
+
+range-rises : (a n : ℕ) → Rises (range_with_len a n)
+range-rises a zero = tt
+range-rises a (suc n) = ((λ y e. let l = range-parts (a + 1) n y (is_in-to y (range_with_len (a + 1) n) e) in let m : a + 1 ≤ y = l.0 in omega arith), range-rises (a + 1) n)
+
+pub extremities-rise : (kept : List Kept) → Rises (forward_extremities kept)
+extremities-rise kept =
+    subst Rises (sym (unfolded kept))
+    (rises-filter (λ p. not (is_in (ancestors (rows_of kept) (accepted_in kept (rows_of kept))) p)) (accepted_in kept (rows_of kept))
+    (rises-filter (accepted_at kept) (places (rows_of kept)) (range-rises 0 (length (rows_of kept)))))
 
 module _ (kept : List Kept) (k : Kept) where
   abbrev rows : List Row

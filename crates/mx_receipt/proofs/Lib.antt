@@ -12,3 +12,4 @@ pub mod ReceiptOnExamples
 pub mod ReceiptRows
 pub mod HeldLemmas
 pub mod HeldGrowth
+pub mod RemovalLemmas

@@ -1,7 +1,8 @@
 // The forward extremities that an event replaces.
-ghost use Rattle.std.specs.Prelude.{◌≡◌, ◌<◌, ◌++◌, ◌∷◌, ◌||◌, [], All, IfOk, OnOk, ℕ, filter, length, not};
+ghost use Rattle.std.specs.Prelude.{◌≡◌, ◌==◌, ◌<◌, ◌||◌, All, IfOk, OnOk, ℕ, filter, length, not};
 ghost use Rattle.std.specs.BTreeSet.{contains};
 ghost use Rattle.std.specs.Ordering.{nat_cmp};
+ghost use Rattle.mx_graph.specs.Edges.{Rises};
 ghost use Rattle.mx_graph.specs.Record.{is_in};
 ghost use Rattle.mx_receipt.specs.Judgements.{AreNext, IsCovered, leads_on, verdicts_in};
 
@@ -13,7 +14,7 @@ use std::collections::BTreeSet;
 /// The forward extremities after an accepted event, which follows some of those before it.
 ///
 /// An extremity is no ancestor of an accepted event, so the event can follow it through events alone that were not
-/// accepted. The time is that of the edges of these, times a logarithm.
+/// accepted. The time is that of the edges of these, and of a copy of the extremities.
 pub(crate) fn next_extremities(
     alloc: Global,
     graph: &Graph,
@@ -24,30 +25,35 @@ pub(crate) fn next_extremities(
 ) -> Result<Vec<EventNo>, AllocError>
     requires rows { length judgements.now ≡ length graph.now }
     requires prev { All (λ prev. prev < length graph.now) prev_events.now }
+    requires rises { Rises extremities.now }
     ensures { IfOk result (λ next.
         AreNext graph.now (verdicts_in judgements.now) prev_events.now extremities.now number next.items) }
 {
     let covered = covered(alloc, graph, judgements, prev_events)?;
-    let mut next = Vec::new(alloc);
-    for extremity in extremities {
-        push_uncovered(&mut next, &covered, *extremity)?;
-    }
+    let mut next = Vec::from_slice(alloc, extremities)?;
+    remove_events(&mut next, &covered);
     next.push(number)?;
     Ok(next)
 }
 
-fn push_uncovered(
-    next: &mut Vec<EventNo>,
-    covered: &BTreeSet<EventNo>,
-    extremity: EventNo,
-) -> Result<(), AllocError>
-    ensures { OnOk result (next.new.items
-        ≡ next.old.items ++ filter (λ p. not (contains nat_cmp covered.now p)) (extremity ∷ [])) }
+// Takes these out of some events that rise, where they are there.
+fn remove_events(events: &mut Vec<EventNo>, covered: &BTreeSet<EventNo>)
+    requires { Rises events.old.items }
+    ensures { events.new.items ≡ filter (λ p. not (contains nat_cmp covered.now p)) events.old.items }
 {
-    if !covered.contains(&extremity) {
-        next.push(extremity)?;
+    for event in covered {
+        remove_event(events, *event);
     }
-    Ok(())
+}
+
+// Takes an event out of some that rise, where it is there.
+fn remove_event(events: &mut Vec<EventNo>, event: EventNo)
+    requires { Rises events.old.items }
+    ensures { events.new.items ≡ filter (λ p. not (event == p)) events.old.items }
+{
+    if let Ok(place) = events.binary_search(&event) {
+        events.remove(place);
+    }
 }
 
 // The events that these lead to, through events that were not accepted. They are taken from the last one down, so that

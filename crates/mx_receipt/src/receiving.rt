@@ -1,6 +1,7 @@
 // The receipt of an event.
 ghost use Rattle.std.specs.Prelude.{◌≡◌, ◌<◌, ◌++◌, ◌∷◌, All, IfOk, None, OnErr, OnOk, [], ℕ, List, length};
 ghost use Rattle.mx_graph.specs.Adding.{add_error};
+ghost use Rattle.mx_graph.specs.Edges.{Rises};
 ghost use Rattle.mx_graph.specs.Graph.{IsSound};
 ghost use Rattle.mx_graph.specs.Record as record_of;
 ghost use Rattle.mx_orders.specs.StateMap.{State};
@@ -67,6 +68,7 @@ fn extremities_after(
 ) -> Result<Vec<EventNo>, AllocError>
     requires rows { length judgements.now ≡ length graph.now }
     requires prev { All (λ prev. prev < length graph.now) prev_events.now }
+    requires rises { Rises extremities.now }
     ensures { IfOk result (λ next.
         AreAfter graph.now (verdicts_in judgements.now) prev_events.now extremities.now number verdict next.items) }
 {

@@ -131,7 +131,7 @@ place-in x [] m = absurd m
 place-in x (y ∷ ys) (inl e) = (zero, omega arith, sym e)
 place-in x (y ∷ ys) (inr m) = let r = place-in x ys m in let l : r.0 < length ys = r.1 in (suc r.0, omega arith, r.2)
 
-rises-places : (xs : List ℕ) → Rises xs → (i j : ℕ) → i ≤ j → j < length xs → get_or xs i 0 ≤ get_or xs j 0
+pub rises-places : (xs : List ℕ) → Rises xs → (i j : ℕ) → i ≤ j → j < length xs → get_or xs i 0 ≤ get_or xs j 0
 rises-places [] r i j h l = absurd (omega arith)
 rises-places (x ∷ xs) r zero zero h l = omega arith
 rises-places (x ∷ xs) r zero (suc j) h l = let m : x < get_or xs j 0 = r.0 (get_or xs j 0) (at-place xs j (omega arith)) in omega arith

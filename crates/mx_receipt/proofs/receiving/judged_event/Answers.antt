@@ -1,6 +1,7 @@
 use Rattle.std.proofs.Common.{◌≡◌, ◌<◌, List, length, refl, sym, ap, subst, ◌∙◌}
 use Rattle.std.specs.Prelude.{if◌then◌else◌}
 use Rattle.mx_auth.specs.Rules.{rules}
+use Rattle.mx_graph.specs.Edges.{Rises}
 use Rattle.mx_graph.specs.Record.{is_in, events_where, prev_events}
 use Rattle.mx_orders.specs.StateMap.{State, with_event, view}
 use Rattle.mx_state_res.specs.Numbered.{AreAdded, state_at}
@@ -8,6 +9,7 @@ use Rattle.mx_state_res.specs.Resolution.{resolve}
 use Rattle.mx_receipt.specs.Judgements.{Judged, judged_in, kept_of, afters, verdicts_of, verdicts_in, AreAfter, Knows}
 use Rattle.mx_receipt.specs.Receipt.{states_at, state_before_next, is_rejected, accept_or, auth_failure}
 use Rattle.mx_receipt.specs.declared.verdicts.Verdict.TheVariants.{Accepted, SoftFailed, Rejected}
+use Rattle.mx_receipt.proofs.ExtremityLemmas.{extremities-rise}
 use Rattle.mx_receipt.proofs.HeldLemmas.{added-state, event-added, grown-state, known-state, same-verdicts}
 use Rattle.mx_receipt.proofs.KeptLemmas.{before-is, current-is, verdict-is}
 use Rattle.mx_receipt.proofs.receiving.judged_event.Goals as goal
@@ -61,3 +63,6 @@ returns-in_err-extremities-clause-added c = λ rows l.
 pub returns-clause-added : goal.returns-clause-added
 returns-clause-added c = λ rows l.
     event-added c.args.graph.now rows c.args.states.now c.state_before.new.states c.state_after.new.states c.next_number-number.result l c.requires.held.known c.state_before.ensures.added c.next_number-number.ensures c.state_after.ensures.added
+
+pub extremities_after-requires-clause-rises : goal.extremities_after-requires-clause-rises
+extremities_after-requires-clause-rises c = subst Rises (sym c.requires.held.is_kept.are_extremities) (extremities-rise (kept_of c.args.graph.now (judged_in c.args.states.now c.args.judgements.now)))
