@@ -1,0 +1,7 @@
+//! What a server may see of a room: server access control lists, whether a server is in the room, which events are
+//! visible to it, and the form in which they are given (Matrix specification, Client-Server API and Server-Server API).
+#![tactic(auto)]
+
+mod globs;
+
+pub use globs::glob_matches;
