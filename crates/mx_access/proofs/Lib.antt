@@ -1,1 +1,2 @@
 pub mod ScanLemmas
+pub mod AclLemmas

@@ -1,1 +1,3 @@
 pub mod Acl
+pub mod Access
+pub mod StateCode

@@ -2,6 +2,9 @@
 //! visible to it, and the form in which they are given (Matrix specification, Client-Server API and Server-Server API).
 #![tactic(auto)]
 
+mod access_lists;
 mod globs;
+mod states;
 
+pub use access_lists::acl_allows;
 pub use globs::glob_matches;
