@@ -1,3 +1,4 @@
 pub mod Acl
 pub mod Access
+pub mod ViewerView
 pub mod StateCode

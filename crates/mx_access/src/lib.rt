@@ -5,6 +5,9 @@
 mod access_lists;
 mod globs;
 mod states;
+mod viewers;
+mod visibilities;
 
 pub use access_lists::acl_allows;
 pub use globs::glob_matches;
+pub use viewers::{Viewer, in_room, visible};
