@@ -1,2 +1,4 @@
 pub mod ScanLemmas
 pub mod AclLemmas
+pub mod RedactionLemmas
+pub mod VisibilityLemmas

@@ -66,14 +66,15 @@ visible kept server p = visible_under kept server (state_before kept p) || visib
 
 -- ---- Client-Server API, redactions; Room Version 3, handling redactions
 
--- an accepted redaction that names the event
-abbrev pub is_redaction_of : List Kept → ℕ → ℕ → Bool
-is_redaction_of kept p r =
+-- an accepted redaction that names an id
+abbrev pub is_redaction_of : List Kept → List ℕ → ℕ → Bool
+is_redaction_of kept id r =
     is_accepted (kept_at kept r).verdict && has_kind (codes "m.room.redaction") (kept_at kept r).event
-    && is_text (kept_at kept p).id (redacts_of (kept_at kept r).event)
+    && is_text id (redacts_of (kept_at kept r).event)
 
+-- the accepted redactions that name the event
 abbrev pub redactions_of : List Kept → ℕ → List ℕ
-redactions_of kept p = events_where (rows_of kept) (is_redaction_of kept p)
+redactions_of kept p = events_where (rows_of kept) (is_redaction_of kept (kept_at kept p).id)
 
 -- the sender has the level for redactions, or is of the server of the other event's sender
 abbrev pub may_redact : StateView → Event → Event → Bool

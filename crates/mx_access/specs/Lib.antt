@@ -2,3 +2,4 @@ pub mod Acl
 pub mod Access
 pub mod ViewerView
 pub mod StateCode
+pub mod Redactions

@@ -4,10 +4,14 @@
 
 mod access_lists;
 mod globs;
+mod redactions;
+mod serving;
 mod states;
 mod viewers;
 mod visibilities;
 
 pub use access_lists::acl_allows;
 pub use globs::glob_matches;
-pub use viewers::{Viewer, in_room, visible};
+pub use redactions::is_redacted;
+pub use serving::served;
+pub use viewers::{Viewer, in_room, shown, visible};

@@ -6,6 +6,7 @@ ghost use Rattle.mx_receipt.specs.Receipt as receipt;
 
 use mx_graph::EventNo;
 use mx_ident::UserId;
+use mx_levels::Levels;
 use mx_pdu::Pdu;
 use mx_receipt::{Timeline, timeline_is_sound};
 use mx_redact::text_field;
@@ -37,6 +38,7 @@ impl<'t> Model for StateInRoom<'t> {
 impl<'t> StateInRoom<'t> {
     ghost use Rattle.std.specs.Prelude.{◌&&◌, IfSome, bytes_eq, codes};
     ghost use Rattle.std.specs.Option.{option_copied};
+    ghost use Rattle.mx_auth.specs.StateView.{create_of, power_of};
     ghost use Rattle.mx_graph.specs.Record.{event as event_of};
     ghost use Rattle.mx_ident.specs.Identifier.{is_user_id, server_of};
     ghost use Rattle.mx_orders.specs.StateMap.{entry as entry_at, view};
@@ -86,6 +88,17 @@ impl<'t> StateInRoom<'t> {
         ensures known { IfSome result (λ n. n < length self.now.0) }
     {
         self.state.get(kind, key)
+    }
+
+    /// The levels in it.
+    pub(crate) fn levels(&self) -> Levels<'t>
+        ensures create { result.create ≡ create_of (view (rows_of self.now.0) self.now.1) }
+        ensures power { result.power ≡ power_of (view (rows_of self.now.0) self.now.1) }
+    {
+        Levels::of(
+            self.event("m.room.create", ""),
+            self.event("m.room.power_levels", ""),
+        )
     }
 
     /// Whether a user of the server has this membership. It goes through all entries: no other function does.

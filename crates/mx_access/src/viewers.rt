@@ -1,12 +1,21 @@
 // What a server sees of a room.
-ghost use Rattle.std.specs.Prelude.{◌≡◌, ◌<◌, length};
+ghost use Rattle.std.specs.Prelude.{◌≡◌, ◌<◌, IfOk, IsTrue, OnErr, false, is_some, length, option_map, true};
+ghost use Rattle.std.specs.Cow.{IsBorrowed, cow_value};
+ghost use Rattle.std.specs.Option.{ForSome};
+ghost use Rattle.mx_pdu.specs.Event.{is_state};
+ghost use Rattle.mx_receipt.specs.Receipt.{kept_at};
 ghost use Rattle.mx_access.specs.Access as definition;
 
+use crate::redactions::kept_event;
+use crate::serving::served;
 use crate::states::StateInRoom;
 use crate::visibilities::{Visibility, visibility_in};
 use mx_graph::EventNo;
 use mx_ident::ServerName;
+use mx_pdu::Pdu;
 use mx_receipt::Timeline;
+use std::alloc::{AllocError, Global};
+use std::borrow::Cow;
 use std::marker::Model;
 
 /// A server that looks at a room. Whether it is in the room is worked out once, where the viewer is made, and not for
@@ -61,7 +70,39 @@ impl<'t, 's> Viewer<'t, 's> {
         ensures { result ≡ definition.visible self.now.kept self.now.server number }
     {
         self.sees_by(&StateInRoom::before(self.timeline, number))
-            || self.sees_by(&StateInRoom::after(self.timeline, number))
+            || (self.may_change_state(number)
+                && self.sees_by(&StateInRoom::after(self.timeline, number)))
+    }
+
+    // Where an event is no state event, the state after it is the one before it.
+    fn may_change_state(&self, number: EventNo) -> bool
+        requires { number < length self.now.kept }
+        ensures { result ≡ is_state (kept_at self.now.kept number).event }
+    {
+        kept_event(self.timeline, number).state_key().is_some()
+    }
+
+    /// What the server is shown of the event with this number ([`shown`]).
+    #[tactic(auto, unfolding(crate::specs::Access::shown))]
+    pub fn shown(&self, alloc: Global, number: EventNo) -> Result<Option<Cow<'t, Pdu>>, AllocError>
+        requires { number < length self.now.kept }
+        ensures event { IfOk result (λ shown. option_map cow_value shown
+            ≡ definition.shown self.now.kept self.now.server number) }
+        ensures lent { definition.visible self.now.kept self.now.server number ≡ true
+            → definition.is_redacted self.now.kept number ≡ false → IfOk result (λ shown. ForSome shown IsBorrowed) }
+        ensures memory { OnErr result (IsTrue (is_some (definition.shown self.now.kept self.now.server number))) }
+    {
+        if self.timeline.verdict(number).is_rejected() {
+            Ok(None)
+        } else if self.sees(number) {
+            let event = served(alloc, self.timeline, number)?;
+            Ok(Some(event))
+        } else if self.in_room {
+            let redacted = kept_event(self.timeline, number).redacted(alloc)?;
+            Ok(Some(Cow::Owned(redacted)))
+        } else {
+            Ok(None)
+        }
     }
 
     // Whether a state of the room lets the server see an event. A state's members are looked at only where its
@@ -105,4 +146,26 @@ pub fn visible(timeline: &Timeline, server: &ServerName, number: EventNo) -> boo
     ensures { result ≡ definition.visible timeline.now.kept server.now number }
 {
     Viewer::of(timeline, server).sees(number)
+}
+
+/// What a server is shown of an event: nothing of a rejected one; of one that it sees ([`visible`]) what is served
+/// ([`served`](crate::served)); of another one the redacted form where the server is in the room, and nothing where it
+/// is not. `AllocError` where the event is shown redacted and no memory is left.
+///
+/// The event is not copied where it is shown as it is kept. Source: the Matrix specification, Server-Server API,
+/// "Backfilling and retrieving missing events", and Client-Server API, "Room History Visibility".
+pub fn shown<'t>(
+    alloc: Global,
+    timeline: &'t Timeline,
+    server: &ServerName,
+    number: EventNo,
+) -> Result<Option<Cow<'t, Pdu>>, AllocError>
+    requires { number < length timeline.now.kept }
+    ensures event { IfOk result (λ shown. option_map cow_value shown
+        ≡ definition.shown timeline.now.kept server.now number) }
+    ensures lent { definition.visible timeline.now.kept server.now number ≡ true
+        → definition.is_redacted timeline.now.kept number ≡ false → IfOk result (λ shown. ForSome shown IsBorrowed) }
+    ensures memory { OnErr result (IsTrue (is_some (definition.shown timeline.now.kept server.now number))) }
+{
+    Viewer::of(timeline, server).shown(alloc, number)
 }
