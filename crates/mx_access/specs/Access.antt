@@ -1,5 +1,5 @@
 -- What a server may see of a room, and what is given in place of a redacted event.
-use Rattle.std.specs.Prelude.{ℕ, int_le, Bool, true, ◌&&◌, ◌||◌, if◌then◌else◌, List, [], codes, bytes_eq, Option, Some, None, unwrap_or, option_and_then}
+use Rattle.std.specs.Prelude.{ℕ, int_le, Bool, true, not, ◌&&◌, ◌||◌, if◌then◌else◌, List, [], codes, bytes_eq, Option, Some, None, unwrap_or, option_and_then}
 use Rattle.std.specs.List.{list_any}
 use Rattle.mx_ident.specs.Identifier.{server_of, is_user_id}
 use Rattle.mx_redact.specs.Fields.{Event, text_field, is_text}
@@ -103,3 +103,9 @@ shown kept server p =
     if is_rejected (kept_at kept p).verdict then None
     else (if visible kept server p then Some (served kept p)
     else (if in_room kept server then Some (redact (kept_at kept p).event) else None))
+
+-- what is shown of the event is its redacted form
+unfoldable pub is_shown_redacted : List Kept → List ℕ → ℕ → Bool
+is_shown_redacted kept server p =
+    not (is_rejected (kept_at kept p).verdict)
+    && (if visible kept server p then is_redacted kept p else in_room kept server)

@@ -23,7 +23,7 @@ pub fn served<'t>(
 ) -> Result<Cow<'t, Pdu>, AllocError>
     requires { number < length timeline.now.kept }
     ensures event { IfOk result (λ event. cow_value event ≡ definition.served timeline.now.kept number) }
-    ensures lent { IfOk result (λ event. definition.is_redacted timeline.now.kept number ≡ false → IsBorrowed event) }
+    ensures lent { definition.is_redacted timeline.now.kept number ≡ false → IfOk result IsBorrowed }
     ensures memory { OnErr result (IsTrue (definition.is_redacted timeline.now.kept number)) }
 {
     let event = kept_event(timeline, number);

@@ -1,5 +1,5 @@
 // What a server sees of a room.
-ghost use Rattle.std.specs.Prelude.{◌≡◌, ◌<◌, IfOk, IsTrue, OnErr, false, is_some, length, option_map, true};
+ghost use Rattle.std.specs.Prelude.{◌≡◌, ◌<◌, IfOk, IsTrue, OnErr, false, length, option_map};
 ghost use Rattle.std.specs.Cow.{IsBorrowed, cow_value};
 ghost use Rattle.std.specs.Option.{ForSome};
 ghost use Rattle.mx_pdu.specs.Event.{is_state};
@@ -83,14 +83,14 @@ impl<'t, 's> Viewer<'t, 's> {
     }
 
     /// What the server is shown of the event with this number ([`shown`]).
-    #[tactic(auto, unfolding(crate::specs::Access::shown))]
+    #[tactic(auto, unfolding(crate::specs::Access::shown, crate::specs::Access::is_shown_redacted))]
     pub fn shown(&self, alloc: Global, number: EventNo) -> Result<Option<Cow<'t, Pdu>>, AllocError>
         requires { number < length self.now.kept }
         ensures event { IfOk result (λ shown. option_map cow_value shown
             ≡ definition.shown self.now.kept self.now.server number) }
-        ensures lent { definition.visible self.now.kept self.now.server number ≡ true
-            → definition.is_redacted self.now.kept number ≡ false → IfOk result (λ shown. ForSome shown IsBorrowed) }
-        ensures memory { OnErr result (IsTrue (is_some (definition.shown self.now.kept self.now.server number))) }
+        ensures lent { definition.is_shown_redacted self.now.kept self.now.server number ≡ false
+            → IfOk result (λ shown. ForSome shown IsBorrowed) }
+        ensures memory { OnErr result (IsTrue (definition.is_shown_redacted self.now.kept self.now.server number)) }
     {
         if self.timeline.verdict(number).is_rejected() {
             Ok(None)
@@ -163,9 +163,9 @@ pub fn shown<'t>(
     requires { number < length timeline.now.kept }
     ensures event { IfOk result (λ shown. option_map cow_value shown
         ≡ definition.shown timeline.now.kept server.now number) }
-    ensures lent { definition.visible timeline.now.kept server.now number ≡ true
-        → definition.is_redacted timeline.now.kept number ≡ false → IfOk result (λ shown. ForSome shown IsBorrowed) }
-    ensures memory { OnErr result (IsTrue (is_some (definition.shown timeline.now.kept server.now number))) }
+    ensures lent { definition.is_shown_redacted timeline.now.kept server.now number ≡ false
+        → IfOk result (λ shown. ForSome shown IsBorrowed) }
+    ensures memory { OnErr result (IsTrue (definition.is_shown_redacted timeline.now.kept server.now number)) }
 {
     Viewer::of(timeline, server).shown(alloc, number)
 }
