@@ -1,3 +1,4 @@
+pub mod GlobLaws
 pub mod ScanLemmas
 pub mod AclLemmas
 pub mod RedactionLemmas

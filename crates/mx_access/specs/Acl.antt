@@ -1,5 +1,5 @@
 -- Server access control lists (Matrix specification, Server-Server API, server access control lists).
-use Rattle.std.specs.Prelude.{ℕ, ◌==◌, Bool, true, false, not, ◌&&◌, ◌||◌, if◌then◌else◌, List, [], ◌∷◌, map, codes, unwrap_or, option_and_then}
+use Rattle.std.specs.Prelude.{ℕ, ◌==◌, Bool, true, false, not, ◌&&◌, ◌||◌, if◌then◌else◌, List, [], ◌∷◌, ◌++◌, map, codes, unwrap_or, option_and_then}
 use Rattle.std.specs.Char.{to_ascii_lowercase}
 use Rattle.std.specs.List.{list_any}
 use Rattle.std.specs.Str.{chars}
@@ -30,6 +30,14 @@ abbrev pub glob_matches : List ℕ → List ℕ → Bool
 glob_matches [] [] = true
 glob_matches [] (c ∷ cs) = false
 glob_matches (p ∷ ps) text = matches_from (p == 42) p (glob_matches ps) text
+
+-- the same as a relation: a pattern ends with its text, `*` is any run of characters, `?` one character, and a character
+-- itself
+pub data Matches : List ℕ → List ℕ → Type 0 where
+  both_end : Matches [] []
+  any_run : (pattern run rest : List ℕ) → Matches pattern rest → Matches (42 ∷ pattern) (run ++ rest)
+  any_one : (pattern text : List ℕ) (c : ℕ) → Matches pattern text → Matches (63 ∷ pattern) (c ∷ text)
+  itself : (pattern text : List ℕ) (c : ℕ) → Matches pattern text → Matches (c ∷ pattern) (c ∷ text)
 
 -- the characters of a text in UTF-8, where the case of ASCII letters is ignored (our own)
 abbrev pub letters : List ℕ → List ℕ

@@ -1,5 +1,5 @@
 // Globs. Nothing here takes memory.
-ghost use Rattle.std.specs.Prelude.{◌≡◌, ◌∷◌, ◌==◌, ◌||◌, IfSome, IsUtf8, MatchOption, [], ℕ};
+ghost use Rattle.std.specs.Prelude.{◌≡◌, ◌↔◌, ◌∷◌, ◌==◌, ◌||◌, IfSome, IsTrue, IsUtf8, List, MatchOption, [], ℕ};
 ghost use Rattle.std.specs.List.{list_all};
 ghost use Rattle.mx_access.specs.Acl as definition;
 
@@ -74,3 +74,10 @@ fn has_only_stars(pattern: &str) -> bool
     }
     true
 }
+
+/// A law: a glob matches a text where the pattern ends with the text, where a `*` and any run of characters, a `?` and
+/// one character, or one character and itself stand before what matches already, and nowhere else.
+pub fn globs_match_by_cases()
+    ensures { (pattern : List ℕ) → (text : List ℕ)
+        → (IsTrue (definition.glob_matches pattern text) ↔ definition.Matches pattern text) }
+{}

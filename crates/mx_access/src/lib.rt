@@ -3,6 +3,7 @@
 #![tactic(auto)]
 
 mod access_lists;
+mod events;
 mod globs;
 mod redactions;
 mod serving;
@@ -11,7 +12,7 @@ mod viewers;
 mod visibilities;
 
 pub use access_lists::acl_allows;
-pub use globs::glob_matches;
+pub use globs::{glob_matches, globs_match_by_cases};
 pub use redactions::is_redacted;
 pub use serving::served;
 pub use viewers::{Viewer, in_room, shown, visible};

@@ -1,10 +1,11 @@
 // Redactions of an event. Nothing here takes memory.
 ghost use Rattle.std.specs.Prelude.{◌≡◌, ◌<◌, length};
 ghost use Rattle.mx_orders.specs.StateMap.{view};
-ghost use Rattle.mx_receipt.specs.Receipt.{kept_at, rows_of};
+ghost use Rattle.mx_receipt.specs.Receipt.{rows_of};
 ghost use Rattle.mx_access.specs.Access as definition;
 ghost use Rattle.mx_access.specs.Redactions.{redactions_left};
 
+use crate::events::kept_event;
 use crate::states::StateInRoom;
 use mx_graph::EventNo;
 use mx_ident::EventId;
@@ -64,14 +65,6 @@ fn is_redaction_of(timeline: &Timeline, target: &EventId, number: EventNo) -> bo
     timeline.verdict(number).is_accepted()
         && event.kind() == "m.room.redaction"
         && event.redacts() == Some(target.as_str())
-}
-
-/// The event with this number, as it is kept.
-pub(crate) fn kept_event(timeline: &Timeline, number: EventNo) -> &Pdu
-    requires { number < length timeline.now.kept }
-    ensures { result.now ≡ (kept_at timeline.now.kept number).event }
-{
-    &timeline.row(number).event
 }
 
 /// Whether an effective redaction names an event: an accepted redaction whose sender has the level for redactions in

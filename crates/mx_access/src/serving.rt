@@ -3,7 +3,8 @@ ghost use Rattle.std.specs.Prelude.{◌≡◌, ◌<◌, IfOk, IsTrue, OnErr, fal
 ghost use Rattle.std.specs.Cow.{IsBorrowed, cow_value};
 ghost use Rattle.mx_access.specs.Access as definition;
 
-use crate::redactions::{is_redacted, kept_event};
+use crate::events::kept_event;
+use crate::redactions::is_redacted;
 use mx_graph::EventNo;
 use mx_pdu::Pdu;
 use mx_receipt::Timeline;

@@ -6,7 +6,7 @@ ghost use Rattle.mx_pdu.specs.Event.{is_state};
 ghost use Rattle.mx_receipt.specs.Receipt.{kept_at};
 ghost use Rattle.mx_access.specs.Access as definition;
 
-use crate::redactions::kept_event;
+use crate::events::kept_event;
 use crate::serving::served;
 use crate::states::StateInRoom;
 use crate::visibilities::{Visibility, visibility_in};
