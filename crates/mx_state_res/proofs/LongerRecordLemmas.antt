@@ -20,7 +20,7 @@ use Rattle.mx_state_res.specs.Numbered.{AreKnown}
 use Rattle.mx_state_res.specs.Resolution.{in_every, unconflicted, conflicted, auth_difference, full_conflicted, usable_auth_event, judged_in, is_allowed, after_check, iterative_auth_checks, is_power_event, power_events, resolve}
 use Rattle.mx_state_res.proofs.ConflictLemmas.{full-known}
 use Rattle.mx_state_res.proofs.KnownLemmas.{find-known, put-known}
-use Rattle.mx_state_res.proofs.OrderLemmas.{overwritten-known, resolve-is}
+use Rattle.mx_state_res.proofs.OrderLemmas.{checked-is, overwritten-known, resolve-is}
 use Rattle.mx_state_res.proofs.SetLemmas.{all-at, all-of, where-known}
 use Rattle.mx_state_res.proofs.TestLemmas.{and-first}
 
@@ -285,8 +285,8 @@ module _ (rows longer : List Row) (l : IsLonger rows longer) where
     pub resolve-in_longer : resolve longer states ≡ resolve rows states
     unfolding resolve
     resolve-in_longer =
-        resolve-is rows states agreed full power others order partial line rest (iterative_auth_checks longer partial rest) (resolve longer states)
-        refl (full-longer states known) power-is refl order-is partial-is line-is rest-is (checks-longer partial rest partial-known rest-are) refl
+        resolve-is rows states agreed full (iterative_auth_checks longer partial rest) (resolve longer states) refl (full-longer states known)
+        (checked-is rows agreed full power others order partial line rest (iterative_auth_checks longer partial rest) power-is refl order-is partial-is line-is rest-is (checks-longer partial rest partial-known rest-are)) refl
 
 -- a row that is added behind changes nothing
 pub resolve-longer : (rows : List Row) (r : Row) (states : List State) → IsSound rows → IsSound (rows ++ r ∷ []) → AreKnown rows states

@@ -1,5 +1,5 @@
 // Sets of numbers of states.
-ghost use Rattle.std.specs.Prelude.{◌≡◌, IfOk, ℕ};
+ghost use Rattle.std.specs.Prelude.{◌≡◌, ◌==◌, ◌||◌, IfOk, IfSome, OnOk, true, ℕ};
 ghost use Rattle.std.specs.BTreeSet.{contains};
 ghost use Rattle.std.specs.Ordering.{nat_cmp};
 ghost use Rattle.mx_graph.specs.Record.{is_in};
@@ -9,7 +9,7 @@ use std::alloc::{AllocError, Global};
 use std::collections::BTreeSet;
 
 /// These numbers, each once: what is in the list is in the answer, and nothing else. The time is that of the list, times
-/// a logarithm.
+/// a logarithm where neighbours differ.
 pub(crate) fn each_once(alloc: Global, numbers: &[StateNo]) -> Result<Vec<StateNo>, AllocError>
     ensures { IfOk result (λ found. (n : ℕ) → is_in found.items n ≡ is_in numbers.now n) }
 {
@@ -22,10 +22,28 @@ fn set_of(alloc: Global, numbers: &[StateNo]) -> Result<BTreeSet<StateNo>, Alloc
     ensures { IfOk result (λ set. (n : ℕ) → contains nat_cmp set n ≡ is_in numbers.now n) }
 {
     let mut set = BTreeSet::new(alloc);
+    let mut last = None;
     for number in numbers {
-        set.insert(*number)?;
+        insert_after(&mut set, last, *number)?;
+        last = Some(*number);
     }
     Ok(set)
+}
+
+// Puts a number that comes after another one. Where both are the same it is there.
+fn insert_after(
+    set: &mut BTreeSet<StateNo>,
+    last: Option<StateNo>,
+    number: StateNo,
+) -> Result<(), AllocError>
+    requires { IfSome last (λ l. contains nat_cmp set.old l ≡ true) }
+    ensures { OnOk result ((n : ℕ) → contains nat_cmp set.new n ≡ (contains nat_cmp set.old n || (number == n))) }
+{
+    if last == Some(number) {
+        return Ok(());
+    }
+    set.insert(number)?;
+    Ok(())
 }
 
 fn list_of(alloc: Global, set: &BTreeSet<StateNo>) -> Result<Vec<StateNo>, AllocError>

@@ -17,6 +17,10 @@ use std::alloc::{AllocError, Global};
 
 /// The one state that some of a room's states resolve to, by its number. See [`resolve`].
 ///
+/// Where it is one of them, it is that one, and nothing is added. Otherwise it is added as a change of the one from
+/// which it differs at the fewest keys. The states are looked at where they differ, beside what the events in conflict
+/// need; one of them is listed whole, to find where their auth chains differ.
+///
 /// `AllocError` where no memory is left.
 ///
 /// Source: the Matrix specification, Room Version 2, "State resolution".
@@ -38,7 +42,7 @@ pub fn resolve_numbered(
     resolve_each(alloc, graph, states, &each)
 }
 
-// The same, in a time that grows with how often a state is named.
+// The same, where each number counts: one that is there twice is looked at twice.
 fn resolve_each(
     alloc: Global,
     graph: &Graph,

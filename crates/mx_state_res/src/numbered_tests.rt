@@ -189,7 +189,7 @@ fn compare(alloc: Global, first: u64) -> Result<(bool, usize), Fail> {
     let one = add(&mut states, &graph, &one)?;
     let two = add(&mut states, &graph, &two)?;
     let three = add(&mut states, &graph, &three)?;
-    let number = resolve_numbered(alloc, &graph, &mut states, &[one, two, three])?;
+    let number = resolve_numbered(alloc, &graph, &mut states, &[two, one, three, one])?;
     let found = states.state(number).map(alloc)?;
     Ok((are_same(&plain, &found), states.len()))
 }
