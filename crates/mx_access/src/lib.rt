@@ -5,6 +5,7 @@
 mod access_lists;
 mod events;
 mod globs;
+mod member_tests;
 mod redactions;
 mod serving;
 mod states;

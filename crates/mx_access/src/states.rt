@@ -1,23 +1,20 @@
 // A state of a room, with the events that it is of.
 ghost use Rattle.std.specs.Prelude.{◌≡◌, ◌<◌, All, length};
-ghost use Rattle.mx_ident.specs.Identifier.{server_of};
-ghost use Rattle.mx_pdu.specs.Event.{has_membership as has_membership_in};
 ghost use Rattle.mx_receipt.specs.Receipt as receipt;
 
+use crate::member_tests::MemberTest;
 use mx_graph::EventNo;
-use mx_ident::UserId;
 use mx_levels::Levels;
 use mx_pdu::Pdu;
 use mx_receipt::{Timeline, timeline_is_sound};
-use mx_redact::text_field;
-use mx_state_res::{StateEntry, StateMap};
+use mx_state_res::StateRef;
 use std::marker::Model;
 
 /// A state of a room, with the timeline that has its events. Nothing here takes memory.
 #[derive(Debug, Drop)]
 pub(crate) struct StateInRoom<'t> {
     timeline: &'t Timeline,
-    state: &'t StateMap,
+    state: StateRef<'t>,
 }
 
 impl<'t> Model for StateInRoom<'t> {
@@ -30,19 +27,16 @@ impl<'t> Model for StateInRoom<'t> {
 
     ghost coded = { state_in_room_code };
 
-    ghost view = { λ s. (s.timeline.now.kept, s.state.now) };
+    ghost view = { λ s. (s.timeline.now.kept, s.state) };
 
-    ghost invariant = { λ s. All (λ e. e.1 < length s.timeline.now.kept) s.state.now };
+    ghost invariant = { λ s. All (λ e. e.1 < length s.timeline.now.kept) s.state };
 }
 
 impl<'t> StateInRoom<'t> {
-    ghost use Rattle.std.specs.Prelude.{◌&&◌, IfSome, bytes_eq, codes};
+    ghost use Rattle.std.specs.Prelude.{IfSome};
     ghost use Rattle.std.specs.Option.{option_copied};
     ghost use Rattle.mx_auth.specs.StateView.{create_of, power_of};
-    ghost use Rattle.mx_graph.specs.Record.{event as event_of};
-    ghost use Rattle.mx_ident.specs.Identifier.{is_user_id, server_of};
     ghost use Rattle.mx_orders.specs.StateMap.{entry as entry_at, view};
-    ghost use Rattle.mx_pdu.specs.Event.{has_membership};
     ghost use Rattle.mx_receipt.specs.Receipt.{rows_of};
     ghost use Rattle.mx_access.specs.Access.{has_member as has_member_in};
 
@@ -101,43 +95,15 @@ impl<'t> StateInRoom<'t> {
         )
     }
 
-    /// Whether a user of the server has this membership. It goes through all entries: no other function does.
+    /// Whether a user of the server has this membership. It goes through all keys of the room's states: no other
+    /// function does.
     pub(crate) fn has_member(&self, membership: &str, server: &str) -> bool
         ensures { result ≡ has_member_in (rows_of self.now.0) self.now.1 membership.now server.now }
     {
-        for entry in self.state.entries() {
-            if self.is_member(entry, membership, server) {
-                return true;
-            }
-        }
-        false
+        self.state.has_entry_where(&MemberTest {
+            timeline: self.timeline,
+            membership,
+            server,
+        })
     }
-
-    fn is_member(&self, entry: &StateEntry, membership: &str, server: &str) -> bool
-        requires { entry.now.1 < length self.now.0 }
-        ensures { result ≡ (bytes_eq entry.now.0.0 (codes "m.room.member") && is_user_id entry.now.0.1
-            && bytes_eq (server_of entry.now.0.1) server.now
-            && has_membership membership.now (event_of (rows_of self.now.0) entry.now.1)) }
-    {
-        entry.kind() == "m.room.member"
-            && UserId::is(entry.state_key())
-            && server_in(entry.state_key()) == server
-            && has_membership(&self.timeline.row(entry.event()).event, membership)
-    }
-}
-
-// The server that a user id names.
-fn server_in(user: &str) -> &str
-    ensures { result.now ≡ server_of user.now }
-{
-    match user.split_once(':') {
-        Some((_, server)) => server,
-        None => "",
-    }
-}
-
-fn has_membership(event: &Pdu, membership: &str) -> bool
-    ensures { result ≡ has_membership_in membership.now event.now }
-{
-    text_field(event.content(), "membership").is_some_and(|found| found == membership)
 }

@@ -8,5 +8,5 @@ pub returns-clause-known : goal.returns-clause-known
 returns-clause-known c =
     let known : IfSome c.get.result (λ n. n < length c.self.inside.timeline.now.kept) =
     subst (λ o. IfSome o (λ n. n < length c.self.inside.timeline.now.kept)) (sym c.get.ensures)
-    (find-known key_cmp (λ n. n < length c.self.inside.timeline.now.kept) (c.args.kind.now, c.args.key.now) c.self.inside.state.now c.self.invariant) in
+    (find-known key_cmp (λ n. n < length c.self.inside.timeline.now.kept) (c.args.kind.now, c.args.key.now) c.self.inside.state c.self.invariant) in
     subst (λ s. IfSome c.get.result (λ n. n < length s.0)) c.self.view_is known
