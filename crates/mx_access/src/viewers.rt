@@ -44,7 +44,7 @@ impl<'t, 's> Model for Viewer<'t, 's> {
 impl<'t, 's> Viewer<'t, 's> {
     /// A server, looking at a room. It takes no memory.
     ///
-    /// The time is that of one walk over the room's current state.
+    /// The time is that of [`in_room`].
     pub fn of(timeline: &'t Timeline, server: &'s ServerName) -> Viewer<'t, 's>
         ensures { result ≡ record { kept = timeline.now.kept; server = server.now } }
     {
@@ -125,7 +125,8 @@ impl<'t, 's> Viewer<'t, 's> {
 
 /// Whether a server is in the room: a user of the server is joined in its current state. It takes no memory.
 ///
-/// The time is that of one walk over the current state. Source: the Matrix specification, Server-Server API.
+/// The time is that of one walk over the keys of the room's states, with a look-up for each member of the server.
+/// Source: the Matrix specification, Server-Server API.
 #[tactic(auto, unfolding(crate::specs::Access::in_room))]
 pub fn in_room(timeline: &Timeline, server: &ServerName) -> bool
     ensures { result ≡ definition.in_room timeline.now.kept server.now }
