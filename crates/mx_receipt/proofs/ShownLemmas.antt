@@ -1,15 +1,18 @@
 -- What a timeline hands out.
-use Rattle.std.proofs.Common.{◌≡◌, ◌<◌, ◌≤◌, ◌+◌, ◌++◌, ◌⊎◌, inl, inr, ℕ, zero, suc, Bool, true, false, List, [], ◌∷◌, length, refl, sym, ap, subst, ◌∙◌, arith, Option, Some, None}
+use Rattle.std.proofs.Common.{◌≡◌, ◌<◌, ◌≤◌, ◌+◌, ◌++◌, ◌⊎◌, inl, inr, ℕ, zero, suc, Bool, true, false, List, [], ◌∷◌, length, refl, sym, ap, subst, ◌∙◌, arith, map, Option, Some, None}
 use Rattle.std.proofs.lemmas.Bool.{cases_lt}
-use Rattle.std.proofs.lemmas.List.{get_or_append_left, length-append, get_or-map, append-nil}
+use Rattle.std.proofs.lemmas.List.{get_or_append_left, length-append, get_or-map, length-map, append-nil}
+use Rattle.std.proofs.lemmas.List.Elements.{All-map}
 use Rattle.std.specs.Prelude.{slice_index_or, option_to_list, bytes_eq, cond}
+use Rattle.std.specs.List.{All}
 use Rattle.std.specs.Option.{option_or}
+use Rattle.mx_auth.specs.Rules.{Key}
 use Rattle.mx_graph.proofs.RowLemmas.{place_of-push, place_of-below}
 use Rattle.mx_graph.specs.Record.{Row, no_row, row, place_of}
 use Rattle.mx_orders.specs.StateMap.{State}
 use Rattle.mx_receipt.specs.Receipt.{Kept, rows_of, kept_at, states_after, state_before, state_after, forward_extremities, current_state}
 use Rattle.mx_state_res.specs.Numbered.{state_at}
-use Rattle.mx_receipt.specs.Judgements.{Judged, judged_by, judged_in, kept_of}
+use Rattle.mx_receipt.specs.Judgements.{Judged, judged_by, judged_in, kept_of, Knows}
 use Rattle.mx_receipt.specs.Timelines.{kept_in, IsTimeline, HasKept}
 use Rattle.mx_receipt.specs.declared.verdicts.Verdict.TheVariants.{Accepted}
 use Rattle.mx_receipt.specs.declared.snapshots.Judgement.{Judgement}
@@ -177,3 +180,27 @@ module _ (rows : List Row) (states : List State) (js : List Judgement) (exts : L
   shown-absent id g =
       sym (ap (λ rs. place_of rs id) shown-rows ∙ found-after h.kept_rows h.next_row id
       (λ p e. let f : length kept ≡ length h.kept_rows = shown-count in let l : length kept ≤ p = g p (ap (λ rs. place_of rs id) h.are_rows ∙ e) in omega arith))
+
+  -- ---- a sound timeline
+
+  below : (f : Judged → State) (p : ℕ) → p < length kept → p < length (map f judged)
+  below f p l = (let k : p < length judged = judged-index p l in let e : length (map f judged) ≡ length judged = length-map judged f in omega arith)
+
+  known-here : (s : State) → Knows h.kept_rows s → All (λ e. e.1 < length kept) s
+  known-here s k = subst (λ n. All (λ (e : Key × ℕ). e.1 < n) s) (sym shown-count) k
+
+  pub known-current : All (λ e. e.1 < length kept) (current_state kept)
+  known-current = known-here (current_state kept) (subst (Knows h.kept_rows) (h.is_held.is_kept.is_current ∙ ap current_state (sym h.shown)) h.is_held.is_kept.knows_current)
+
+  pub known-before : (p : ℕ) → p < length kept → All (λ e. e.1 < length kept) (state_before kept p)
+  known-before p l =
+      known-here (state_before kept p)
+      (subst (Knows h.kept_rows) (h.is_held.is_kept.befores p (judged-index p l) ∙ ap (λ ks. state_before ks p) (sym h.shown))
+      (All-map (Knows h.kept_rows) (λ (j : Judged). j.before) judged h.is_held.is_kept.knows_before p [] (below (λ (j : Judged). j.before) p l)))
+
+  pub known-after : (p : ℕ) → p < length kept → All (λ e. e.1 < length kept) (state_after kept p)
+  known-after p l =
+      known-here (state_after kept p)
+      (subst (Knows h.kept_rows)
+      (ap (λ ss. slice_index_or ss p []) h.is_held.is_kept.afters ∙ states_after-at (kept_of h.kept_rows judged) (length judged) p (judged-index p l) ∙ ap (λ ks. state_after ks p) (sym h.shown))
+      (All-map (Knows h.kept_rows) (λ (j : Judged). j.after) judged h.is_held.is_kept.knows p [] (below (λ (j : Judged). j.after) p l)))

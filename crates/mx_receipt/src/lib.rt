@@ -13,5 +13,5 @@ mod timelines;
 mod verdicts;
 
 pub use refusals::{NotReceived, OfferError};
-pub use timelines::Timeline;
+pub use timelines::{Timeline, timeline_is_sound};
 pub use verdicts::Verdict;

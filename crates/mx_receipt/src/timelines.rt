@@ -1,5 +1,5 @@
 // A room's events under their verdicts.
-ghost use Rattle.std.specs.Prelude.{◌≡◌, ◌<◌, ◌≤◌, ◌↔◌, ◌++◌, ◌∷◌, All, IfOk, IfSome, IsErrOf, None, OnErr, OnOk, Option, Some, [], is_none, length, option_copied, option_map};
+ghost use Rattle.std.specs.Prelude.{◌≡◌, ◌<◌, ◌≤◌, ◌↔◌, ◌++◌, ◌∷◌, All, IfOk, IfSome, IsErrOf, None, OnErr, OnOk, Option, Some, [], ℕ, is_none, length, option_copied, option_map};
 ghost use Rattle.std.specs.List.{list_any};
 ghost use Rattle.std.specs.Result.{result_err};
 ghost use Rattle.mx_graph.specs.Record.{place_of, row as row_at};
@@ -304,4 +304,16 @@ impl Timeline {
             self.states.truncate(prepared.states);
         }
     }
+}
+
+/// A law: a timeline has at most [`MOST_ROWS`] events, and the events of its states are its own.
+pub fn timeline_is_sound(timeline: &Timeline)
+    ensures few { length timeline.now.kept ≤ MOST_ROWS }
+    ensures current { All (λ e. e.1 < length timeline.now.kept) (definition.current_state timeline.now.kept) }
+    ensures before { (number : ℕ) → number < length timeline.now.kept
+        → All (λ e. e.1 < length timeline.now.kept) (definition.state_before timeline.now.kept number) }
+    ensures after { (number : ℕ) → number < length timeline.now.kept
+        → All (λ e. e.1 < length timeline.now.kept) (definition.state_after timeline.now.kept number) }
+{
+    let _ = timeline.graph.len();
 }

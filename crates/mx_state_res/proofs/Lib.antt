@@ -33,3 +33,4 @@ pub mod NumberedConflictLemmas
 pub mod KeyChangeLemmas
 pub mod LongerRecordLemmas
 pub mod SameMembersLemmas
+pub mod EntrySearchLemmas

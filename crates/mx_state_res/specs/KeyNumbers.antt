@@ -1,12 +1,13 @@
 -- For proofs and private clauses alone.
 -- The numbers of a room's keys, and states by these numbers.
-use Rattle.std.specs.Prelude.{◌≡◌, ℕ, ◌+◌, ◌<◌, ◌≤◌, Bool, T, cond, List, [], ◌∷◌, ◌++◌, Option, Some, All, is_some, length, map, option_map, slice_get, slice_index_or, unwrap_or}
+use Rattle.std.specs.Prelude.{◌≡◌, ℕ, ◌+◌, ◌<◌, ◌≤◌, ◌&&◌, Bool, T, cond, List, [], ◌∷◌, ◌++◌, Option, Some, All, is_some, length, map, option_map, slice_get, slice_index_or, unwrap_or}
 use Rattle.std.specs.declared.cmp.Ordering.{Ordering}
 use Rattle.std.specs.declared.cmp.Ordering.TheVariants.{Less}
 use Rattle.std.specs.Option.{option_and_then, option_or}
 use Rattle.std.specs.List.{list_any}
 use Rattle.std.specs.Ordering.{eq_by_cmp, nat_cmp}
 use Rattle.std.specs.FinMap.Entries.{find, is_sorted, put}
+use Rattle.mx_redact.specs.Fields.{is_some_and}
 use Rattle.mx_auth.specs.Rules.{Key}
 use Rattle.mx_orders.specs.StateMap.{State, entry, key_cmp}
 
@@ -54,6 +55,11 @@ pub record AreInOrder (keys : List Key) (numbers : List ℕ) : Type 0 where
 abbrev pub shown : List Key → List (ℕ × ℕ) → State
 shown keys [] = []
 shown keys (e ∷ entries) = put key_cmp (key_at keys e.0) e.1 (shown keys entries)
+
+-- the key with this number passes a test, and the event there another
+abbrev pub passes_at : (Key → Bool) → (ℕ → Bool) → List Key → List (ℕ × ℕ) → ℕ → Bool
+passes_at key_test event_test keys entries number =
+    key_test (key_at keys number) && is_some_and event_test (find nat_cmp number entries)
 
 -- the numbers of keys in entries or changes are below a bound
 abbrev pub AllBelow : {X : Type 0} → ℕ → List (ℕ × X) → Type 0

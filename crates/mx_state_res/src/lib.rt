@@ -9,6 +9,8 @@ mod conflict_checks;
 mod conflicts;
 mod differing_keys;
 mod entries;
+mod entry_search;
+mod entry_tests;
 mod event_sets;
 mod judged_states;
 mod laws;
@@ -34,6 +36,7 @@ mod states;
 mod working_states;
 
 pub use entries::StateEntry;
+pub use entry_tests::EntryTest;
 pub use event_sets::rising;
 pub use laws::{equal_states_resolve_to_themselves, one_state_resolves_to_itself};
 pub use numbered_resolution::resolve_numbered;

@@ -1,8 +1,8 @@
 ghost use Rattle.std.specs.Prelude.{◌<◌, All, IfOk, OnOk, length};
 ghost use Rattle.mx_state_res.specs.Numbered.{AreKnown};
 
-use crate::{StateMap, StateNo, States, resolve, resolve_numbered};
-use mx_graph::{Graph, GraphRow};
+use crate::{EntryTest, StateMap, StateNo, States, resolve, resolve_numbered};
+use mx_graph::{EventNo, Graph, GraphRow};
 use mx_ident::EventId;
 use mx_pdu::Pdu;
 use serde_json::Value;
@@ -212,5 +212,85 @@ fn one_state_by_both_bodies(rt: HostRuntime) -> Result<(), Fail> {
     }
     assert_eq!(rt; kept, 1);
     assert_eq!(rt; added, 1);
+    Ok(())
+}
+
+// Entries of a type whose event is by a sender.
+#[derive(Debug, Drop)]
+struct SentBy<'g> {
+    graph: &'g Graph,
+    kind: &'g str,
+    sender: &'g str,
+}
+
+impl<'g> EntryTest for SentBy<'g> {
+    ghost use Rattle.std.specs.Prelude.{bytes_eq, length};
+    ghost use Rattle.mx_graph.specs.Record.{event as event_of};
+    ghost use Rattle.mx_pdu.specs.Event.{sender_of};
+
+    ghost key_test = { λ test key. bytes_eq key.0 test.kind.now };
+
+    ghost event_test = { λ test number. bytes_eq (sender_of (event_of test.graph.now number)) test.sender.now };
+
+    ghost event_count = { λ test. length test.graph.now };
+
+    fn passes_key(&self, kind: &str, _state_key: &str) -> bool {
+        kind == self.kind
+    }
+
+    fn passes_event(&self, event: EventNo) -> bool {
+        self.graph.row(event).event.sender().as_str() == self.sender
+    }
+}
+
+// The same search, entry by entry.
+fn is_sent_by(map: &StateMap, test: &SentBy<'_>) -> bool
+    requires { All (λ e. e.1 < length test.now.graph.now) map.now }
+{
+    for entry in map.entries() {
+        if test.passes_key(entry.kind(), entry.state_key()) && test.passes_event(entry.event()) {
+            return true;
+        }
+    }
+    false
+}
+
+// Whether two states of one table have a topic by a user, and whether both bodies say the same of them.
+fn search(alloc: Global, first: u64, user: &str) -> Result<([bool; 2], bool), Fail> {
+    let graph = random_room(alloc, first)?;
+    let one = random_state(alloc, &graph, next(first))?;
+    let two = random_state(alloc, &graph, next(next(first)))?;
+    let mut states = States::new(alloc);
+    let first = add(&mut states, &graph, &one)?;
+    let second = add(&mut states, &graph, &two)?;
+    let test = SentBy {
+        graph: &graph,
+        kind: "m.room.topic",
+        sender: user,
+    };
+    let found = [
+        states.state(first).has_entry_where(&test),
+        states.state(second).has_entry_where(&test),
+    ];
+    let plain = [is_sent_by(&one, &test), is_sent_by(&two, &test)];
+    Ok((found, found == plain))
+}
+
+#[test]
+fn topics_by_a_user(rt: HostRuntime) -> Result<(), Fail> {
+    let alloc = rt.alloc();
+    let mut are_apart = false;
+    let mut seed = 3;
+    for _ in 0..40 {
+        for user in [A, B] {
+            let (found, is_same) = search(alloc, seed, user)?;
+            assert!(rt; is_same);
+            if found[0] != found[1] {
+                are_apart = true;
+            }
+        }
+        seed = next(seed);
+    }
+    assert!(rt; are_apart);
     Ok(())
 }

@@ -1,8 +1,10 @@
 // One of a room's states.
-ghost use Rattle.std.specs.Prelude.{◌≡◌, ◌<◌, IfOk, length};
+ghost use Rattle.std.specs.Prelude.{◌≡◌, ◌<◌, ◌&&◌, All, IfOk, length};
+ghost use Rattle.std.specs.List.{list_any};
 ghost use Rattle.mx_orders.specs.StateMap.{entry};
 ghost use Rattle.mx_state_res.specs.Numbered.{state_at};
 
+use crate::entry_tests::EntryTest;
 use crate::state_maps::StateMap;
 use crate::state_numbers::StateNo;
 use crate::states::States;
@@ -48,6 +50,16 @@ impl<'s> StateRef<'s> {
         ensures { result ≡ entry self.now (kind.now, state_key.now) }
     {
         self.states.get(self.number, kind, state_key)
+    }
+
+    /// Whether an entry passes a test. It takes no memory.
+    ///
+    /// The key is tested of each key that any of the room's states has; the event is looked up where the key passes.
+    pub fn has_entry_where<E: EntryTest>(&self, test: &E) -> bool
+        requires { All (λ e. e.1 < E.event_count test.now) self.now }
+        ensures { result ≡ list_any (λ e. E.key_test test.now e.0 && E.event_test test.now e.1) self.now }
+    {
+        self.states.has_entry_where(self.number, test)
     }
 
     /// The state as a map of its own, whose entries are in the order of their keys.

@@ -1,5 +1,6 @@
 // A room's states by number.
-ghost use Rattle.std.specs.Prelude.{◌≡◌, ◌<◌, ◌++◌, ◌∷◌, ◌↔◌, [], All, IfOk, None, OnErr, OnOk, T, ◌||◌, is_some, length, map, take};
+ghost use Rattle.std.specs.Prelude.{◌≡◌, ◌<◌, ◌++◌, ◌∷◌, ◌↔◌, ◌&&◌, [], All, IfOk, None, OnErr, OnOk, T, ◌||◌, is_some, length, map, take};
+ghost use Rattle.std.specs.List.{list_any};
 ghost use Rattle.std.specs.FinMap.Entries.{is_sorted, put};
 ghost use Rattle.mx_auth.specs.Rules.{Key};
 ghost use Rattle.mx_orders.specs.StateMap.{entry, key_cmp};
@@ -7,6 +8,8 @@ ghost use Rattle.mx_state_res.specs.Agreed.{has_missed};
 ghost use Rattle.mx_state_res.specs.Numbered.{AllAlike, state_at, without};
 ghost use Rattle.mx_state_res.specs.Resolution.{overwritten};
 
+use crate::entry_search::has_match;
+use crate::entry_tests::EntryTest;
 use crate::numbered_entries::{changes_of, entries_of, map_of, put_differing};
 use crate::snapshots::Snapshots;
 use crate::state_keys::Keys;
@@ -127,6 +130,16 @@ impl States {
             Some(key) => self.snapshots.get(number, key),
             None => None,
         }
+    }
+
+    // Whether an entry of a state passes a test. It takes no memory.
+    pub(crate) fn has_entry_where<E: EntryTest>(&self, number: StateNo, test: &E) -> bool
+        requires number { number < length self.now }
+        requires known { All (λ e. e.1 < E.event_count test.now) (state_at self.now number) }
+        ensures { result
+            ≡ list_any (λ e. E.key_test test.now e.0 && E.event_test test.now e.1) (state_at self.now number) }
+    {
+        has_match(&self.keys, &self.snapshots, number, test)
     }
 
     // A state as a map of its own.

@@ -1,0 +1,5 @@
+pub mod Acl
+pub mod Access
+pub mod ViewerView
+pub mod StateCode
+pub mod Redactions
