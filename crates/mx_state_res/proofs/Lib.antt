@@ -34,3 +34,5 @@ pub mod KeyChangeLemmas
 pub mod LongerRecordLemmas
 pub mod SameMembersLemmas
 pub mod EntrySearchLemmas
+pub mod StateSetLemmas
+pub mod RowWalkLemmas

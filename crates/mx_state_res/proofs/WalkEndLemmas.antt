@@ -8,7 +8,7 @@ use Rattle.mx_graph.specs.Graph.{auth_chain, IsSound}
 use Rattle.mx_graph.proofs.Closure.{or_cases}
 use Rattle.mx_state_res.proofs.SetLemmas.{is_in-append, list_any-map, list_all-map, rising-is}
 use Rattle.mx_state_res.specs.ChainDifference.{chain_difference, cites, is_cited}
-use Rattle.mx_state_res.specs.Masks.{Masks, is_due, IsApart, ArePart}
+use Rattle.mx_state_res.specs.Masks.{IsApart, ArePartOf}
 use Rattle.mx_state_res.proofs.TestLemmas.{and-first, and-second, and-make, and-cases, not-true, one-answer, or-turned, lt-from, lt-to}
 use Rattle.mx_state_res.proofs.CitedLemmas.{all-from}
 use Rattle.mx_state_res.proofs.ChainLemmas.{chain-least, difference-test}
@@ -68,17 +68,17 @@ module _ (rows : List Row) (sound : IsSound rows) (shared : List ℕ) (lists : L
       (list_all-map (λ others. shared ++ others) (λ s. is_in (auth_chain rows s) p) lists ∙ list_all-map (auth_chain rows) (λ chain. is_in chain p) (map (λ others. shared ++ others) lists))
       ∙ difference-test rows shared lists (map (λ others. shared ++ others) lists) sound (zipped lists) p
 
-  pub found-is : (start : Masks) (starts : List ℕ) (states : ℕ) (found : List ℕ) → states ≡ length lists → Rises found → ((p i : ℕ) → i < length lists → is_due (cites rows) start starts p i ≡ (is_cited rows (get_or lists i []) p || is_cited rows shared p))
-      → ArePart states (cites rows) start starts found → found ≡ chain_difference rows shared lists
+  pub found-is : (first : ℕ → ℕ → Bool) (states : ℕ) (found : List ℕ) → states ≡ length lists → Rises found → ((p i : ℕ) → i < length lists → first p i ≡ (is_cited rows (get_or lists i []) p || is_cited rows shared p))
+      → ArePartOf states (cites rows) first found → found ≡ chain_difference rows shared lists
   unfolding chain_difference
-  found-is start starts states found long rises due part = rising-is rows found _ rises known (λ p. same p ∙ test-is p)
+  found-is first states found long rises due part = rising-is rows found _ rises known (λ p. same p ∙ test-is p)
     where
-      here : ArePart (length lists) (cites rows) start starts found
-      here = subst (λ n. ArePart n (cites rows) start starts found) long part
+      here : ArePartOf (length lists) (cites rows) first found
+      here = subst (λ n. ArePartOf n (cites rows) first found) long part
 
-      all : (i : ℕ) → i < length lists → IsAllFrom (cites rows) (λ p. is_due (cites rows) start starts p i) (reach i)
+      all : (i : ℕ) → i < length lists → IsAllFrom (cites rows) (λ p. first p i) (reach i)
       all i l =
-          all-from rows (shared ++ get_or lists i []) (λ p. is_due (cites rows) start starts p i) (reach i)
+          all-from rows (shared ++ get_or lists i []) (λ p. first p i) (reach i)
           (λ p. due p i l ∙ or-turned (is_cited rows (get_or lists i []) p) (is_cited rows shared p) ∙ sym (list_any-append (λ s. is_in (cites rows s) p) shared (get_or lists i [])))
           (chain-least rows (shared ++ get_or lists i []) sound)
 

@@ -8,3 +8,4 @@ pub mod Numbered
 pub mod SnapshotEntries
 pub mod SnapshotChains
 pub mod KeyNumbers
+pub mod RowSets

@@ -68,7 +68,11 @@ pub record IsApart (states : ℕ) (reach : ℕ → ℕ → Bool) (p : ℕ) : Typ
   pub not_in_all : (i : ℕ) × (i < states) × (reach i p ≡ false)
 
 -- of sets, one for each state, that have what is due for it and what that leads to: the events that are in some and not in all
-abbrev pub ArePart : ℕ → (ℕ → List ℕ) → Masks → List ℕ → List ℕ → Type 0
-ArePart states cites masks starts found =
-    (reach : ℕ → ℕ → Bool) → ((i : ℕ) → i < states → IsAllFrom cites (λ p. is_due cites masks starts p i) (reach i))
+abbrev pub ArePartOf : ℕ → (ℕ → List ℕ) → (ℕ → ℕ → Bool) → List ℕ → Type 0
+ArePartOf states cites due found =
+    (reach : ℕ → ℕ → Bool) → ((i : ℕ) → i < states → IsAllFrom cites (λ p. due p i) (reach i))
     → (p : ℕ) → (is_in found p ≡ true) ↔ IsApart states reach p
+
+-- so for what waits and what the starts cite
+abbrev pub ArePart : ℕ → (ℕ → List ℕ) → Masks → List ℕ → List ℕ → Type 0
+ArePart states cites masks starts found = ArePartOf states cites (is_due cites masks starts) found

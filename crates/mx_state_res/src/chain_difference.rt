@@ -7,18 +7,41 @@ ghost use Rattle.mx_state_res.specs.ChainDifference as definition;
 ghost use Rattle.mx_state_res.specs.Masks.{has, waits, is_due, is_there, AreKept, AreLow, ArePart};
 
 use crate::chain_walks::{ChainWalk, Taken};
+use crate::dense_difference::dense_chain_difference;
 use crate::event_sets::set_of;
 use crate::masks::{differs, every, only};
+use crate::state_sets::MOST_STATES;
 use mx_graph::{EventNo, Graph, graph_is_sound};
 use std::alloc::{AllocError, Global};
 
 /// The events that are in the auth chains of some of these sets, and not of all, and not in the chain of what all sets
 /// share, rising.
 ///
+/// Of at most 64 sets see [`dense_chain_difference`] for the time, of more [`sparse_chain_difference`]. Source: the
+/// Matrix specification, Room Version 2, "State resolution", auth difference.
+pub(crate) fn chain_difference(
+    alloc: Global,
+    graph: &Graph,
+    shared: &[EventNo],
+    apart: &[Vec<EventNo>],
+) -> Result<Vec<EventNo>, AllocError>
+    requires shared { All (λ s. s < length graph.now) shared.now }
+    requires apart { All (λ others. All (λ s. s < length graph.now) others.items) apart.now }
+    ensures { IfOk result (λ found. found.items
+        ≡ definition.chain_difference graph.now shared.now (map (λ others. others.items) apart.now)) }
+{
+    if apart.len() > MOST_STATES {
+        return sparse_chain_difference(alloc, graph, shared, apart);
+    }
+    dense_chain_difference(alloc, graph, shared, apart)
+}
+
+/// The same, of any number of sets, by a map of the events that wait.
+///
 /// It walks from the last event down, and ends where every set reaches all that is left: no event is visited below the
 /// place where the chains meet. The time is that of the edges from there up, times the sets and a logarithm, and that of
-/// a sort of the shared events. Source: the Matrix specification, Room Version 2, "State resolution", auth difference.
-pub(crate) fn chain_difference(
+/// a sort of the shared events.
+pub(crate) fn sparse_chain_difference(
     alloc: Global,
     graph: &Graph,
     shared: &[EventNo],

@@ -3,12 +3,13 @@ use Rattle.std.proofs.lemmas.List.{length-map}
 use Rattle.std.specs.declared.alloc.Global.{Global}
 use Rattle.mx_graph.specs.Record.{is_in}
 use Rattle.mx_state_res.specs.ChainDifference.{cites, is_cited}
+use Rattle.mx_state_res.specs.Masks.{is_due}
 use Rattle.mx_state_res.proofs.SetLemmas.{contains-is}
 use Rattle.mx_state_res.proofs.CitedLemmas.{cited-same}
 use Rattle.mx_state_res.proofs.WalkStartLemmas.{starts-known, start-known, start-waits}
 use Rattle.mx_state_res.proofs.WalkStepLemmas.{starts-there}
 use Rattle.mx_state_res.proofs.WalkEndLemmas.{found-is}
-use Rattle.mx_state_res.proofs.chain_difference.chain_difference.Goals as goal
+use Rattle.mx_state_res.proofs.chain_difference.sparse_chain_difference.Goals as goal
 
 pub mark_starts-requires-clause-known : goal.mark_starts-requires-clause-known
 mark_starts-requires-clause-known c =
@@ -43,7 +44,7 @@ returns c =
     let same : (p : ℕ) → is_cited rows before.starts.keys p ≡ is_cited rows shared p =
     cited-same (cites rows) before.starts.keys shared (λ p. ap (λ ks. is_in ks p) starts ∙ sym (contains-is c.in_ok-starts.starts.keys p) ∙ c.in_ok-starts.ensures p) in
     c.reverse.ensures.items
-    ∙ found-is rows c.graph_is_sound.ensures shared lists after.masks after.starts.keys after.states (reverse c.in_ok-found.found.items) (c.in_ok-mark_starts.ensures.states ∙ count ∙ sym long) c.in_ok-found.ensures.falls
+    ∙ found-is rows c.graph_is_sound.ensures shared lists (is_due (cites rows) after.masks after.starts.keys) after.states (reverse c.in_ok-found.found.items) (c.in_ok-mark_starts.ensures.states ∙ count ∙ sym long) c.in_ok-found.ensures.falls
     (λ p i l. c.in_ok-mark_starts.ensures.due p i (subst (λ n. i < n) (long ∙ sym count) l)
     ∙ start-waits rows shared before.starts.keys lists (length c.args.apart.now) (sym long) c.new-walk.result.masks before.masks c.new-walk.ensures.none same c.in_ok-mark_apart.ensures.marked p i l)
     c.in_ok-found.ensures.part
