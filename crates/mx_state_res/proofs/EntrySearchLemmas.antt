@@ -63,7 +63,7 @@ module _ (test : Key × ℕ → Bool) where
 -- ---- keys by their numbers
 
 -- what stands at the number of a key stands at the key
-find-here : (keys : List Key) (m : List (ℕ × ℕ)) (n : ℕ) → AreDistinct keys → AllBelow (length keys) m → n < length keys → find key_cmp (key_at keys n) (shown keys m) ≡ find nat_cmp n m
+pub find-here : (keys : List Key) (m : List (ℕ × ℕ)) (n : ℕ) → AreDistinct keys → AllBelow (length keys) m → n < length keys → find key_cmp (key_at keys n) (shown keys m) ≡ find nat_cmp n m
 find-here keys m n d b l = find-shown keys m (key_at keys n) d b ∙ ap (option_and_then (λ j. find nat_cmp j m)) (d n l)
 
 pub known-here : (P : ℕ → Type 0) (keys : List Key) (m : List (ℕ × ℕ)) (n v : ℕ) → AreDistinct keys → AllBelow (length keys) m → n < length keys → find nat_cmp n m ≡ Some v

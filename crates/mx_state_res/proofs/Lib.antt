@@ -36,3 +36,4 @@ pub mod SameMembersLemmas
 pub mod EntrySearchLemmas
 pub mod StateSetLemmas
 pub mod RowWalkLemmas
+pub mod SharedEventLemmas

@@ -25,6 +25,7 @@ mod plain_states;
 mod powers;
 mod resolving;
 mod row_sets;
+mod shared_events;
 mod snapshot_chains;
 mod snapshot_differences;
 mod snapshot_edits;

@@ -8,8 +8,7 @@ ghost use Rattle.mx_state_res.specs.Numbered.{AreKnown, IsDiffering, events_at, 
 ghost use Rattle.mx_state_res.specs.Resolution as definition;
 
 use crate::chain_difference::chain_difference;
-use crate::conflicts::{events_of, joined};
-use crate::differing_keys::without_keys;
+use crate::conflicts::joined;
 use crate::event_sets::rising;
 use crate::state_maps::StateMap;
 use crate::state_numbers::StateNo;
@@ -113,8 +112,8 @@ fn apart_chains(
         ≡ differences.chain_difference graph.now (events_in (without differing.now (state_at states.now base)))
         (map (λ others. others.items) apart.now)) }
 {
-    let state = states.map(alloc, base)?;
-    let agreed = without_keys(alloc, differing, &state)?;
-    let shared = events_of(alloc, &agreed)?;
-    chain_difference(alloc, graph, &shared, apart)
+    graph_is_sound(graph);
+    let shared = states.events_at_other_keys(alloc, base, differing)?;
+    let found = chain_difference(alloc, graph, &shared, apart)?;
+    Ok(found)
 }

@@ -1,9 +1,10 @@
 // A room's states by number.
-ghost use Rattle.std.specs.Prelude.{◌≡◌, ◌<◌, ◌++◌, ◌∷◌, ◌↔◌, ◌&&◌, [], All, IfOk, None, OnErr, OnOk, T, ◌||◌, is_some, length, map, take};
+ghost use Rattle.std.specs.Prelude.{◌≡◌, ◌<◌, ◌++◌, ◌∷◌, ◌↔◌, ◌&&◌, [], All, IfOk, None, OnErr, OnOk, T, ◌||◌, ℕ, is_some, length, map, take};
 ghost use Rattle.std.specs.List.{list_any};
 ghost use Rattle.std.specs.FinMap.Entries.{is_sorted, put};
 ghost use Rattle.mx_auth.specs.Rules.{Key};
-ghost use Rattle.mx_orders.specs.StateMap.{entry, key_cmp};
+ghost use Rattle.mx_graph.specs.Record.{is_in};
+ghost use Rattle.mx_orders.specs.StateMap.{entry, events_of, key_cmp};
 ghost use Rattle.mx_state_res.specs.Agreed.{has_missed};
 ghost use Rattle.mx_state_res.specs.Numbered.{AllAlike, state_at, without};
 ghost use Rattle.mx_state_res.specs.Resolution.{overwritten};
@@ -11,6 +12,7 @@ ghost use Rattle.mx_state_res.specs.Resolution.{overwritten};
 use crate::entry_search::has_match;
 use crate::entry_tests::EntryTest;
 use crate::numbered_entries::{changes_of, entries_of, map_of, put_differing};
+use crate::shared_events::events_at_other_keys;
 use crate::snapshots::Snapshots;
 use crate::state_keys::Keys;
 use crate::state_maps::StateMap;
@@ -149,6 +151,22 @@ impl States {
     {
         let entries = self.snapshots.entries(alloc, number)?;
         map_of(alloc, &self.keys, &entries)
+    }
+
+    // The events of a state at the keys that a map lacks, in no order that is told.
+    pub(crate) fn events_at_other_keys(
+        &self,
+        alloc: Global,
+        number: StateNo,
+        taken: &StateMap,
+    ) -> Result<Vec<EventNo>, AllocError>
+        requires { number < length self.now }
+        ensures { IfOk result (λ events. (p : ℕ) → is_in events.items p
+            ≡ is_in (events_of (without taken.now (state_at self.now number))) p) }
+    {
+        let entries = self.snapshots.entries(alloc, number)?;
+        let events = events_at_other_keys(alloc, &self.keys, &entries, taken)?;
+        Ok(events)
     }
 
     // The keys at which states are not all alike: it has an event at each of them, and none elsewhere.

@@ -1,0 +1,12 @@
+use Rattle.std.proofs.Common.{length, sym, ap, subst, ◌∙◌}
+use Rattle.mx_graph.specs.Record.{is_in}
+use Rattle.mx_orders.specs.StateMap.{events_of}
+use Rattle.mx_state_res.specs.KeyNumbers.{AllBelow, shown}
+use Rattle.mx_state_res.specs.Numbered.{without}
+use Rattle.mx_state_res.proofs.ShownLemmas.{below-at, state-shown}
+use Rattle.mx_state_res.proofs.states.States.events_at_other_keys.Goals as goal
+
+pub events_at_other_keys-requires-clause-below : goal.events_at_other_keys-requires-clause-below
+events_at_other_keys-requires-clause-below c =
+    let keys = c.self.inside.keys in
+    subst (AllBelow (length keys)) (sym (c.deref.ensures.value ∙ c.in_ok-entries.ensures.entries)) (below-at (length keys) c.self.inside.snapshots c.args.number c.self.invariant.below)
