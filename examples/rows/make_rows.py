@@ -344,6 +344,34 @@ def refusals_in_their_order(log):
     )
 
 
+def access_list(log):
+    """The list of a room's current state is asked first, of that room alone, and by the server that sends."""
+    base = Base(log)
+    second = create("!s:a.example")
+    other = join(A, [second], [second], room="!s:a.example")
+    log.host(second)
+    denied = "A.EVIL.example:8448"
+    log.transaction(denied, "t1", (message(B, [base.join_c], base.of_b, "before"), ACCEPTED))
+    content = {"allow": ["*"], "allow_ip_literals": False, "deny": ["*.evil.example"]}
+    listed = event("m.room.server_acl", A, [base.join_c], base.of_a, content, "")
+    log.transaction("a.example", "t1", (listed, ACCEPTED))
+    # The list is in force, though the event follows one that came before it.
+    said = message(B, [base.join_c], base.of_b)
+    log.transaction(denied, "t2", (said, error("server acl")), (other, ACCEPTED))
+    for origin in ("1.2.3.4", "[::1]:80", "b.evil.example"):
+        log.transaction(origin, "t1", (said, error("server acl")))
+    # It is asked before anything of the event.
+    log.transaction(
+        denied, "t3", (listed, error("server acl")), (base.create, error("server acl")),
+        (unsigned(message(B, [listed], base.of_b)), error("server acl")))
+    log.transaction("evil.example", "t1", (said, ACCEPTED))
+    # Without an entry that allows, and with lists of a wrong kind, nobody is let in, and nobody can undo it.
+    closed = event("m.room.server_acl", A, [listed, said], base.of_a, {"allow": "*", "deny": ["*"]}, "")
+    log.transaction("a.example", "t2", (closed, ACCEPTED))
+    undone = event("m.room.server_acl", A, [closed], base.of_a, content, "")
+    log.transaction("a.example", "t3", (undone, error("server acl")))
+
+
 def malformed_events(log):
     """Malformed events of a transaction have no entry."""
     base = Base(log)
@@ -770,12 +798,12 @@ def bad_lines(log):
 
 ROWS = (
     host_refusals, join_before_join_rules, child_before_parent, steps_out_of_turn, last_text_stands, altered_content,
-    two_rooms_one_transaction, one_of_two_rooms_alone, refusals_in_their_order, malformed_events, format_limits,
-    signatures, level_texts, power_level_changes, notification_levels, join_on_an_invite, ban_and_invite_rules,
-    auth_events_check, closed_to_other_servers, other_rules, demotion_race, demotion_before_the_topic, soft_failure,
-    soft_failed_invite, rejected_parent, state_before_rejects, create_in_the_auth_difference, invited_after_leaving,
-    left_after_the_invite, invited_by_newer_power_levels, invited_by_equal_power_levels, resolution_of_65_states,
-    bad_lines,
+    two_rooms_one_transaction, one_of_two_rooms_alone, refusals_in_their_order, access_list, malformed_events,
+    format_limits, signatures, level_texts, power_level_changes, notification_levels, join_on_an_invite,
+    ban_and_invite_rules, auth_events_check, closed_to_other_servers, other_rules, demotion_race,
+    demotion_before_the_topic, soft_failure, soft_failed_invite, rejected_parent, state_before_rejects,
+    create_in_the_auth_difference, invited_after_leaving, left_after_the_invite, invited_by_newer_power_levels,
+    invited_by_equal_power_levels, resolution_of_65_states, bad_lines,
 )
 
 

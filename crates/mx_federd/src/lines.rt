@@ -1,4 +1,6 @@
 // The lines of a log.
+use crate::line_texts::{LineTexts, texts_in};
+use json::Scratch;
 use mx_ident::{IdError, ServerName};
 use mx_keeper::TransactionId;
 use mx_pdu::{Offered, Pdu, PduError, PresenceVerifier};
@@ -67,9 +69,32 @@ fn of_json(error: serde_json::Error) -> LineError {
 }
 
 /// What a line asks for. A key beyond its form makes it bad, and of a key that is repeated the last value stands.
-pub(crate) fn read_line(alloc: Global, line: &[u8]) -> Result<Line, LineError> {
+///
+/// A line that names a transaction and nothing else, as most do, is read without a JSON value of it.
+pub(crate) fn read_line(
+    alloc: Global,
+    scratch: &mut Scratch,
+    line: &[u8],
+) -> Result<Line, LineError> {
+    if let Some(texts) = texts_in(scratch, line) {
+        return read_texts(alloc, &texts);
+    }
     match Value::from_slice(alloc, line).map_err(of_json)? {
         Value::Object(members) => read_members(alloc, members),
+        _ => Err(LineError::Bad),
+    }
+}
+
+fn read_texts(alloc: Global, texts: &LineTexts<'_>) -> Result<Line, LineError> {
+    match texts.step {
+        "next" => {
+            let key = transaction_key(alloc, texts.origin, texts.txn)?;
+            Ok(Line::Step(Step::Next(key)))
+        }
+        "close" => {
+            let key = transaction_key(alloc, texts.origin, texts.txn)?;
+            Ok(Line::Step(Step::Close(key)))
+        }
         _ => Err(LineError::Bad),
     }
 }
@@ -134,6 +159,10 @@ fn transaction_of(
     let Some(txn) = text_field(members, "txn") else {
         return Err(LineError::Bad);
     };
+    transaction_key(alloc, origin, txn)
+}
+
+fn transaction_key(alloc: Global, origin: &str, txn: &str) -> Result<TransactionKey, LineError> {
     match ServerName::parse(alloc, origin) {
         Ok(origin) => {
             let txn = TransactionId::new(String::from_str(alloc, txn)?);

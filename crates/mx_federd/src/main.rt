@@ -6,6 +6,7 @@
 mod checking;
 mod command_line;
 mod input;
+mod line_texts;
 mod lines;
 mod output;
 mod replaying;

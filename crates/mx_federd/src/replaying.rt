@@ -5,6 +5,7 @@ use crate::lines::{Line, LineError, of_step, read_line};
 use crate::output::{Failure, flushed};
 use crate::reply_lines::{BAD_LINE, MALFORMED, NO_MEMORY, STORAGE, reply_line};
 use crate::shard_counts::ShardCount;
+use json::Scratch;
 use mx_keeper::{BookRow, MemoryKeeper, ShardRow, Storable};
 use mx_world::{CallError, World};
 use std::alloc::{AllocError, Global};
@@ -23,10 +24,11 @@ pub(crate) fn replay<W: Write>(
 ) -> Result<(), Failure> {
     let mut world = server(alloc, shards)?;
     let mut answers = BufWriter::new(alloc, out).map_err(Failure::of_io)?;
+    let mut scratch = Scratch::new(alloc);
     let mut rest = log;
     while !rest.is_empty() {
         let (line, after) = first_line(rest);
-        write_answer(alloc, &mut world, line, &mut answers)?;
+        write_answer(alloc, &mut world, &mut scratch, line, &mut answers)?;
         rest = after;
     }
     flushed(&mut answers)
@@ -69,10 +71,11 @@ fn first_line(bytes: &[u8]) -> (&[u8], &[u8])
 fn write_answer<W: Write>(
     alloc: Global,
     world: &mut Server,
+    scratch: &mut Scratch,
     line: &[u8],
     out: &mut W,
 ) -> Result<(), Failure> {
-    match answer_to(alloc, world, line) {
+    match answer_to(alloc, world, scratch, line) {
         Ok(answer) => write_line(out, &answer),
         Err(LineError::Bad) => write_line(out, BAD_LINE),
         Err(LineError::Memory) => write_line(out, NO_MEMORY),
@@ -80,8 +83,13 @@ fn write_answer<W: Write>(
     }
 }
 
-fn answer_to(alloc: Global, world: &mut Server, line: &[u8]) -> Result<Vec<u8>, LineError> {
-    match read_line(alloc, line)? {
+fn answer_to(
+    alloc: Global,
+    world: &mut Server,
+    scratch: &mut Scratch,
+    line: &[u8],
+) -> Result<Vec<u8>, LineError> {
+    match read_line(alloc, scratch, line)? {
         Line::Step(step) => {
             let reply = world.step(alloc, &step).map_err(of_step)?;
             let answer = reply_line(alloc, &reply)?;
