@@ -79,6 +79,17 @@ pub enum Fault {
     Busy,
 }
 
+impl From<AllocError> for Fault {
+    ghost use Rattle.std.specs.Prelude.{◌≡◌};
+    ghost use Rattle.mx_wire.specs.declared.faults.Fault.TheVariants.{Memory};
+
+    ghost from_gives = { λ _ fault. fault ≡ Memory };
+
+    fn from(_refused: AllocError) -> Fault {
+        Fault::Memory
+    }
+}
+
 impl MissingParameter {
     /// The parameter's name.
     pub fn name(self) -> &'static str
