@@ -14,3 +14,5 @@ pub mod HeldLemmas
 pub mod HeldGrowth
 pub mod RemovalLemmas
 pub mod ClosureLemmas
+pub mod SortedStateLemmas
+pub mod ResolutionLemmas

@@ -1,9 +1,10 @@
 -- What is kept beside the rows of a record, for private clauses.
-use Rattle.std.specs.Prelude.{◌≡◌, ℕ, ◌<◌, ◌++◌, ◌∷◌, Bool, true, false, not, List, [], All, length, map, filter, slice_index_or, if◌then◌else◌}
+use Rattle.std.specs.Prelude.{◌≡◌, ℕ, ◌<◌, ◌++◌, ◌∷◌, Bool, true, false, not, List, [], All, T, length, map, filter, slice_index_or, if◌then◌else◌}
+use Rattle.std.specs.FinMap.Entries.{is_sorted}
 use Rattle.mx_redact.specs.Fields.{Event}
 use Rattle.mx_graph.specs.Edges.{IsAllFrom}
 use Rattle.mx_graph.specs.Record.{Row, event, is_in, prev_events}
-use Rattle.mx_orders.specs.StateMap.{State}
+use Rattle.mx_orders.specs.StateMap.{State, key_cmp}
 use Rattle.mx_state_res.specs.Numbered.{AreKnown, state_at}
 use Rattle.mx_receipt.specs.Receipt.{Kept, verdict, is_accepted, is_rejected, rows_of, with_kept, states_after, state_before, state_before_next, forward_extremities, current_state}
 use Rattle.mx_receipt.specs.declared.verdicts.Verdict.{Verdict}
@@ -26,6 +27,10 @@ judged_in states = map (judged_by states)
 -- their numbers are those of some first states
 abbrev pub AreBelow : ℕ → List Judgement → Type 0
 AreBelow count = All (λ j. (j.before < count) × (j.after < count))
+
+-- the states after the events are in the order of their keys
+abbrev pub AreSorted : List State → List Judgement → Type 0
+AreSorted states = All (λ j. T (is_sorted key_cmp (state_at states j.after)))
 
 abbrev pub verdicts_in : List Judgement → List Verdict
 verdicts_in = map (λ j. j.verdict)

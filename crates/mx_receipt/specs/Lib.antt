@@ -3,4 +3,5 @@ pub mod KeptCode
 pub mod TimelineView
 pub mod Citing
 pub mod Judgements
+pub mod Resolutions
 pub mod Timelines

@@ -8,6 +8,7 @@ mod covering;
 mod judging;
 mod receiving;
 mod refusals;
+mod resolution_cache;
 mod room_states;
 mod snapshots;
 mod timelines;

@@ -7,8 +7,9 @@ ghost use Rattle.mx_graph.specs.Record as record_of;
 ghost use Rattle.mx_orders.specs.StateMap.{State};
 ghost use Rattle.mx_state_res.specs.Resolution as resolution;
 ghost use Rattle.mx_state_res.specs.Numbered.{AreAdded, AreKnown, state_at};
-ghost use Rattle.mx_receipt.specs.Judgements.{AreAfter, AreBelow, IsAdded, IsHeld, IsJudged, afters, judged_by, judged_in, kept_of, verdicts_in};
+ghost use Rattle.mx_receipt.specs.Judgements.{AreAfter, AreBelow, AreSorted, IsAdded, IsHeld, IsJudged, afters, judged_by, judged_in, kept_of, verdicts_in};
 ghost use Rattle.mx_receipt.specs.Receipt as definition;
+ghost use Rattle.mx_receipt.specs.Resolutions.{AreRight};
 ghost use Rattle.mx_graph.specs.Record.{Row};
 ghost use Rattle.mx_receipt.specs.TimelineView.{IsSoundCreate};
 ghost use Rattle.mx_receipt.specs.declared.snapshots.Judgement.{Judgement as Judged};
@@ -16,6 +17,7 @@ ghost use Rattle.mx_receipt.specs.declared.snapshots.Judgement.{Judgement as Jud
 use crate::citing::{Cited, cited_by};
 use crate::covering::next_extremities;
 use crate::judging::judged;
+use crate::resolution_cache::ResolutionCache;
 use crate::snapshots::{Judgement, resolved_after, state_after};
 use crate::timelines::Prepared;
 use crate::verdicts::Verdict;
@@ -31,6 +33,7 @@ fn state_before(
     alloc: Global,
     graph: &Graph,
     states: &mut States,
+    resolutions: &mut ResolutionCache,
     judgements: &[Judgement],
     prev_events: &[EventNo],
     extremities: &[EventNo],
@@ -39,7 +42,9 @@ fn state_before(
     requires rows { length graph.now ≡ length judgements.now }
     requires prev { All (λ prev. prev < length graph.now) prev_events.now }
     requires below { AreBelow (length states.old) judgements.now }
+    requires sorted { AreSorted states.old judgements.now }
     requires known { AreKnown graph.now states.old }
+    requires right { AreRight graph.now states.old resolutions.old }
     requires current { state_at states.old current
         ≡ resolution.resolve graph.now (definition.states_at (afters (judged_in states.old judgements.now)) extremities.now) }
     requires below_current { current < length states.old }
@@ -47,12 +52,13 @@ fn state_before(
         (definition.states_at (afters (judged_in states.old judgements.now)) (record_of.events_where graph.now (record_of.is_in prev_events.now)))) }
     ensures below { IfOk result (λ before. before < length states.new) }
     ensures added { AreAdded graph.now states.old states.new }
+    ensures right { OnOk result (AreRight graph.now states.new resolutions.new) }
 {
     let prev_events = rising(alloc, prev_events)?;
     if prev_events.as_slice() == extremities {
         return Ok(current);
     }
-    let before = resolved_after(alloc, graph, states, judgements, &prev_events)?;
+    let before = resolved_after(alloc, graph, states, resolutions, judgements, &prev_events)?;
     Ok(before)
 }
 
@@ -92,6 +98,7 @@ fn judged_event(
     alloc: Global,
     graph: &Graph,
     states: &mut States,
+    resolutions: &mut ResolutionCache,
     judgements: &[Judgement],
     extremities: &[EventNo],
     current: StateNo,
@@ -99,6 +106,7 @@ fn judged_event(
     cited: &Cited,
 ) -> Result<JudgedEvent, AllocError>
     requires held { IsHeld graph.now states.old judgements.now extremities.now current }
+    requires right { AreRight graph.now states.old resolutions.old }
     requires prev { cited.now.prev_events.items ≡ record_of.prev_events graph.now event.now }
     requires auth { cited.now.auth_events.items ≡ record_of.auth_events graph.now event.now }
     requires known_prev { All (λ number. number < length graph.now) cited.now.prev_events.items }
@@ -111,11 +119,13 @@ fn judged_event(
         (judged_by states.new judged.judgement) judged.extremities.items) }
     ensures below { IfOk result (λ judged. (judged.judgement.before < length states.new) × (judged.judgement.after < length states.new)) }
     ensures added { (rows : List Row) → length graph.now < length rows → AreAdded rows states.old states.new }
+    ensures right { OnOk result (AreRight graph.now states.new resolutions.new) }
 {
     let before = state_before(
         alloc,
         graph,
         states,
+        resolutions,
         judgements,
         &cited.prev_events,
         extremities,
@@ -164,6 +174,7 @@ fn add(
     alloc: Global,
     graph: &mut Graph,
     states: &mut States,
+    resolutions: &mut ResolutionCache,
     judgements: &mut Vec<Judgement>,
     row: GraphRow,
     cited: Cited,
@@ -174,7 +185,9 @@ fn add(
     requires prev { cited.prev_events.items ≡ record_of.prev_events graph.old row.event }
     requires auth { cited.auth_events.items ≡ record_of.auth_events graph.old row.event }
     requires known { AreKnown (graph.old ++ row ∷ []) states.old }
+    requires right { AreRight graph.old states.old resolutions.old }
     requires numbers { AreBelow (length states.old) (judgements.old.items ++ event.judgement ∷ []) }
+    requires sorted { AreSorted states.old (judgements.old.items ++ event.judgement ∷ []) }
     requires below { All (λ p. p < length (judgements.old.items ++ event.judgement ∷ [])) event.extremities.items }
     ensures rows { OnOk result (graph.new ≡ graph.old ++ row ∷ []) }
     ensures judgements { OnOk result (judgements.new.items ≡ judgements.old.items ++ event.judgement ∷ []) }
@@ -184,6 +197,7 @@ fn add(
     ensures below_current { IfOk result (λ prepared. prepared.current < length states.new) }
     ensures count { IfOk result (λ prepared. prepared.states ≡ count) }
     ensures added { AreAdded (graph.old ++ row ∷ []) states.old states.new }
+    ensures right { OnOk result (AreRight graph.new states.new resolutions.new) }
     ensures err_rows { OnErr result (graph.new ≡ graph.old) }
     ensures err_judgements { OnErr result (judgements.new.items ≡ judgements.old.items) }
 {
@@ -192,9 +206,11 @@ fn add(
         extremities,
     } = event;
     judgements.reserve(1)?;
+    graph_is_sound(graph);
     graph.add_checked(row, cited.prev_events, cited.auth_events)?;
+    graph_is_sound(graph);
     judgements.push_reserved(judgement);
-    match resolved_after(alloc, graph, states, judgements, &extremities) {
+    match resolved_after(alloc, graph, states, resolutions, judgements, &extremities) {
         Ok(current) => Ok(Prepared {
             extremities,
             current,
@@ -229,6 +245,7 @@ pub(crate) fn prepare_in(
     alloc: Global,
     graph: &mut Graph,
     states: &mut States,
+    resolutions: &mut ResolutionCache,
     judgements: &mut Vec<Judgement>,
     extremities: &[EventNo],
     current: StateNo,
@@ -236,12 +253,14 @@ pub(crate) fn prepare_in(
     id: EventId,
 ) -> Result<(Verdict, Prepared), AllocError>
     requires held { IsHeld graph.old states.old judgements.old.items extremities.now current }
+    requires right { AreRight graph.old states.old resolutions.old }
     requires free { definition.offer_error graph.old id event ≡ None }
     ensures verdict { IfOk result (λ made. made.0
         ≡ definition.verdict (kept_of graph.old (judged_in states.old judgements.old.items)) event) }
     ensures added { IfOk result (λ made. IsAdded graph.old states.old judgements.old.items id event
         graph.new states.new judgements.new.items made.1.extremities.items made.1.current) }
     ensures count { IfOk result (λ made. made.1.states ≡ length states.old) }
+    ensures right { OnOk result (AreRight graph.new states.new resolutions.new) }
     ensures err_rows { OnErr result (graph.new ≡ graph.old) }
     ensures grown { (more : List State) × (states.new ≡ states.old ++ more) }
     ensures err_judgements { OnErr result (judgements.new.items ≡ judgements.old.items) }
@@ -253,6 +272,7 @@ pub(crate) fn prepare_in(
         alloc,
         graph,
         states,
+        resolutions,
         judgements,
         extremities,
         current,
@@ -265,7 +285,17 @@ pub(crate) fn prepare_in(
         event,
         rejected: verdict.is_rejected(),
     };
-    let prepared = add(alloc, graph, states, judgements, row, cited, judged, count)?;
+    let prepared = add(
+        alloc,
+        graph,
+        states,
+        resolutions,
+        judgements,
+        row,
+        cited,
+        judged,
+        count,
+    )?;
     graph_is_sound(graph);
     Ok((verdict, prepared))
 }
@@ -275,6 +305,7 @@ pub(crate) fn begin_in(
     alloc: Global,
     graph: &mut Graph,
     states: &mut States,
+    resolutions: &mut ResolutionCache,
     judgements: &mut Vec<Judgement>,
     event: Pdu,
     id: EventId,
@@ -283,7 +314,9 @@ pub(crate) fn begin_in(
     requires rows { graph.old ≡ [] }
     requires states { states.old ≡ [] }
     requires judgements { judgements.old.items ≡ [] }
+    requires right { AreRight [] [] resolutions.old }
     ensures held { IfOk result (λ first. IsHeld graph.new states.new judgements.new.items first.extremities.items first.current) }
+    ensures right { OnOk result (AreRight graph.new states.new resolutions.new) }
     ensures begun { OnOk result (kept_of graph.new (judged_in states.new judgements.new.items) ≡ definition.begun id event) }
 {
     graph_is_sound(graph);
@@ -306,7 +339,17 @@ pub(crate) fn begin_in(
         event,
         rejected: false,
     };
-    let prepared = add(alloc, graph, states, judgements, row, cited, judged, 0)?;
+    let prepared = add(
+        alloc,
+        graph,
+        states,
+        resolutions,
+        judgements,
+        row,
+        cited,
+        judged,
+        0,
+    )?;
     graph_is_sound(graph);
     Ok(prepared)
 }

@@ -1,16 +1,18 @@
 // The states before and after the events of a room.
-ghost use Rattle.std.specs.Prelude.{◌≡◌, ◌<◌, ◌++◌, List, slice_index_or, All, IfOk, if◌then◌else◌, length, map};
+ghost use Rattle.std.specs.Prelude.{◌≡◌, ◌<◌, ◌++◌, List, slice_index_or, All, IfOk, OnOk, if◌then◌else◌, length, map};
 ghost use Rattle.mx_orders.specs.StateMap.{State, with_event};
 ghost use Rattle.mx_graph.specs.Record.{Row};
 ghost use Rattle.mx_state_res.specs.Numbered.{AreAdded, AreKnown, state_at};
 ghost use Rattle.mx_state_res.specs.Resolution as resolution;
-ghost use Rattle.mx_receipt.specs.Judgements.{AreBelow, afters, judged_in, numbers_after};
+ghost use Rattle.mx_receipt.specs.Judgements.{AreBelow, AreSorted, afters, judged_in, numbers_after};
 ghost use Rattle.mx_receipt.specs.Receipt as definition;
+ghost use Rattle.mx_receipt.specs.Resolutions.{AreRight};
 
+use crate::resolution_cache::{ResolutionCache, each_once, resolve_cached};
 use crate::verdicts::Verdict;
 use mx_graph::{EventNo, Graph};
 use mx_pdu::Pdu;
-use mx_state_res::{StateNo, States, resolve_numbered};
+use mx_state_res::{StateNo, States};
 use std::alloc::{AllocError, Global};
 
 // What a room found of an event, and the states before and after it.
@@ -26,19 +28,24 @@ pub(crate) fn resolved_after(
     alloc: Global,
     graph: &Graph,
     states: &mut States,
+    resolutions: &mut ResolutionCache,
     judgements: &[Judgement],
     events: &[EventNo],
 ) -> Result<StateNo, AllocError>
     requires events { All (λ event. event < length judgements.now) events.now }
     requires below { AreBelow (length states.old) judgements.now }
+    requires sorted { AreSorted states.old judgements.now }
     requires known { AreKnown graph.now states.old }
+    requires right { AreRight graph.now states.old resolutions.old }
     ensures resolved { IfOk result (λ state. state_at states.new state
         ≡ resolution.resolve graph.now (definition.states_at (afters (judged_in states.old judgements.now)) events.now)) }
     ensures below { IfOk result (λ state. state < length states.new) }
     ensures added { AreAdded graph.now states.old states.new }
+    ensures right { OnOk result (AreRight graph.now states.new resolutions.new) }
 {
     let numbers = states_after(alloc, judgements, events)?;
-    let state = resolve_numbered(alloc, graph, states, &numbers)?;
+    let each = each_once(numbers);
+    let state = resolve_cached(alloc, graph, states, resolutions, each)?;
     Ok(state)
 }
 

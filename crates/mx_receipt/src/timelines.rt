@@ -14,6 +14,7 @@ ghost use Rattle.mx_receipt.specs.declared.refusals.NotReceived.{NotReceived as 
 use crate::closures::{earlier_ancestors, earlier_auth_chain};
 use crate::receiving::{begin_in, last_event, prepare_in, remove_last};
 use crate::refusals::{NotReceived, OfferError};
+use crate::resolution_cache::ResolutionCache;
 use crate::snapshots::Judgement;
 use crate::verdicts::Verdict;
 use mx_graph::{EventNo, Graph, GraphRow, MOST_ROWS};
@@ -44,6 +45,7 @@ pub struct Timeline {
     alloc: Global,
     graph: Graph,
     states: States,
+    resolutions: ResolutionCache,
     // One for each row of the graph.
     judgements: Vec<Judgement>,
     extremities: Vec<EventNo>,
@@ -54,6 +56,7 @@ pub struct Timeline {
 
 impl Model for Timeline {
     ghost use Rattle.mx_receipt.specs.Judgements.{judged_in};
+    ghost use Rattle.mx_receipt.specs.Resolutions.{AreRight};
     ghost use Rattle.mx_receipt.specs.TimelineView.{TimelineView, timeline_code};
     ghost use Rattle.mx_receipt.specs.Timelines.{IsTimeline, kept_in, prepared_in};
 
@@ -66,7 +69,8 @@ impl Model for Timeline {
       prepared = prepared_in t.graph (judged_in t.states t.judgements.items) t.prepared;
     } };
 
-    ghost invariant = { λ t. IsTimeline t.graph t.states t.judgements.items t.extremities.items t.current t.prepared };
+    ghost invariant = { λ t. IsTimeline t.graph t.states t.judgements.items t.extremities.items t.current t.prepared
+        × AreRight t.graph t.states t.resolutions };
 }
 
 impl Timeline {
@@ -77,12 +81,22 @@ impl Timeline {
     {
         let mut graph = Graph::new(alloc);
         let mut states = States::new(alloc);
+        let mut resolutions = ResolutionCache::new(alloc)?;
         let mut judgements = Vec::new(alloc);
-        let first = begin_in(alloc, &mut graph, &mut states, &mut judgements, event, id)?;
+        let first = begin_in(
+            alloc,
+            &mut graph,
+            &mut states,
+            &mut resolutions,
+            &mut judgements,
+            event,
+            id,
+        )?;
         Ok(Timeline {
             alloc,
             graph,
             states,
+            resolutions,
             judgements,
             extremities: first.extremities,
             current: first.current,
@@ -301,6 +315,7 @@ impl Timeline {
             self.alloc,
             &mut self.graph,
             &mut self.states,
+            &mut self.resolutions,
             &mut self.judgements,
             &self.extremities,
             self.current,
@@ -313,6 +328,7 @@ impl Timeline {
             }
             Err(refused) => {
                 self.states.truncate(count);
+                self.resolutions.clear();
                 Err(refused)
             }
         }
@@ -335,6 +351,7 @@ impl Timeline {
         if let Some(prepared) = self.prepared.take() {
             remove_last(&mut self.graph, &mut self.judgements);
             self.states.truncate(prepared.states);
+            self.resolutions.clear();
         }
     }
 }

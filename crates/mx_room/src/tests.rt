@@ -13,9 +13,9 @@ use std::test::Fail;
 // crate with tests is proved twice, and this one is soon proved.
 
 // Events by their ids. A creates the room and joins it, and then sets a topic, `$3`, and beside it takes her own level,
-// `$4`; `$5` follows both. `$6` is a topic by B, who is no member. Content hashes are by Python's json, hashlib and
+// `$4`; `$5` follows both. `$6` is a topic by B, who is no member. `$7` is a message that follows the topic. Content hashes are by Python's json, hashlib and
 // base64.
-const EVENTS: [(&str, &str); 6] = [
+const EVENTS: [(&str, &str); 7] = [
     (
         "$1",
         r#"{"auth_events":[],"content":{"creator":"@a:a.example","room_version":"6"},"depth":1,"hashes":{"sha256":"zibTlrvpTSp/W5vkL4NdWNTuf4IhaqcyDIAshZlSXI4"},"origin_server_ts":10,"prev_events":[],"room_id":"!r:a.example","sender":"@a:a.example","signatures":{"a.example":{"ed25519:1":"s"}},"state_key":"","type":"m.room.create"}"#,
@@ -39,6 +39,10 @@ const EVENTS: [(&str, &str); 6] = [
     (
         "$6",
         r#"{"auth_events":["$1"],"content":{"topic":"u"},"depth":2,"hashes":{"sha256":"VL2o7RnukfNuzvhLsiOrjUcxlAEW90oNV/dwcWjt9eU"},"origin_server_ts":60,"prev_events":["$1"],"room_id":"!r:a.example","sender":"@b:b.example","signatures":{"b.example":{"ed25519:1":"s"}},"state_key":"","type":"m.room.topic"}"#,
+    ),
+    (
+        "$7",
+        r#"{"auth_events":["$1","$2"],"content":{"body":"n"},"depth":4,"hashes":{"sha256":"PKNw8cONonCBwotE+tHEbg49sNhuu/4aFymC6T9ZaO4"},"origin_server_ts":70,"prev_events":["$3"],"room_id":"!r:a.example","sender":"@a:a.example","signatures":{"a.example":{"ed25519:1":"s"}},"type":"m.room.message"}"#,
     ),
 ];
 
@@ -113,10 +117,36 @@ const TOPIC_LAST: [Arrival; 5] = [
     ("$5", ACCEPTED, [false, false, false], &[5]),
 ];
 
+// The states after `$3` and after `$4` resolve three times: as the current state with `$4` and with `$7`, and as the
+// state before `$5`.
+const MERGED_TWICE: [Arrival; 5] = [
+    ("$2", ACCEPTED, [false, false, false], &[1]),
+    ("$3", ACCEPTED, [false, true, true], &[2]),
+    ("$4", ACCEPTED, [false, false, false], &[2, 3]),
+    ("$7", ACCEPTED, [true, true, false], &[3, 4]),
+    ("$5", ACCEPTED, [false, false, false], &[4, 5]),
+];
+
+// Prepares an event and gives it up, so that a timeline looks no resolution up that it has found.
+fn forget(alloc: Global, timeline: &mut Timeline) -> Result<(), OfferError> {
+    let Offered { pdu, id, .. } = offered(alloc, "$6", true)?;
+    timeline.prepare(pdu, id)?;
+    timeline.discard();
+    Ok(())
+}
+
 // Offers these events to a timeline, and looks at what it is after each.
-fn all_offered<R: Abort>(rt: &R, alloc: Global, arrivals: &[Arrival]) -> Result<(), Fail> {
+fn all_offered<R: Abort>(
+    rt: &R,
+    alloc: Global,
+    arrivals: &[Arrival],
+    forgets: bool,
+) -> Result<(), Fail> {
     let mut timeline = begun(alloc)?;
     for (id, verdict, topics, places) in arrivals {
+        if forgets {
+            forget(alloc, &mut timeline)?;
+        }
         assert_eq!(rt; offer(alloc, &mut timeline, id)?, *verdict, "at {id}");
         let number = timeline.find(&EventId::parse(alloc, id)?).ok_or("lost")?;
         let found = [
@@ -133,8 +163,14 @@ fn all_offered<R: Abort>(rt: &R, alloc: Global, arrivals: &[Arrival]) -> Result<
 
 #[test]
 fn a_topic_before_power_levels_and_after_them(rt: HostRuntime) -> Result<(), Fail> {
-    all_offered(&rt, rt.alloc(), &TOPIC_FIRST)?;
-    all_offered(&rt, rt.alloc(), &TOPIC_LAST)
+    all_offered(&rt, rt.alloc(), &TOPIC_FIRST, false)?;
+    all_offered(&rt, rt.alloc(), &TOPIC_LAST, false)
+}
+
+#[test]
+fn states_that_resolve_again(rt: HostRuntime) -> Result<(), Fail> {
+    all_offered(&rt, rt.alloc(), &MERGED_TWICE, false)?;
+    all_offered(&rt, rt.alloc(), &MERGED_TWICE, true)
 }
 
 #[test]
@@ -154,6 +190,24 @@ fn events_prepared_by_a_timeline(rt: HostRuntime) -> Result<(), Fail> {
     timeline.prepare(pdu, id)?;
     timeline.install();
     assert_eq!(rt; timeline.extremities(), [EventNo::at(1)].as_slice());
+    Ok(())
+}
+
+#[test]
+fn closures_of_a_timeline(rt: HostRuntime) -> Result<(), Fail> {
+    let alloc = rt.alloc();
+    let mut timeline = begun(alloc)?;
+    for (id, _, _, _) in &TOPIC_FIRST {
+        offer(alloc, &mut timeline, id)?;
+    }
+    // An event that is prepared changes none of them.
+    let Offered { pdu, id, .. } = offered(alloc, "$6", true)?;
+    timeline.prepare(pdu, id)?;
+    let last = timeline.extremities();
+    let ancestors = timeline.ancestors(alloc, last)?;
+    assert_eq!(rt; ancestors, numbers(alloc, &[0, 1, 2, 3])?);
+    let chain = timeline.auth_chain(alloc, last)?;
+    assert_eq!(rt; chain, numbers(alloc, &[0, 1, 3])?);
     Ok(())
 }
 

@@ -12,11 +12,18 @@ use Rattle.mx_receipt.specs.declared.verdicts.Verdict.TheVariants.{Accepted}
 use Rattle.mx_receipt.proofs.BeginLemmas.{sound-free, held-empty, begin-judged}
 use Rattle.mx_receipt.proofs.HeldGrowth.{held-push}
 use Rattle.mx_receipt.proofs.HeldLemmas.{grown-length, grown-state, known-longer}
+use Rattle.mx_receipt.specs.Resolutions.{AreRight}
+use Rattle.mx_receipt.proofs.ResolutionLemmas.{right-grown}
 use Rattle.mx_receipt.proofs.receiving.begin_in.Goals as goal
 
 pub add-requires-clause-free : goal.add-requires-clause-free
 add-requires-clause-free c =
     subst (λ (rs : List Row). add_error rs (record { id = c.args.id; event = c.args.event; rejected = false }) ≡ None) (sym c.requires.rows) (sound-free c.args.event c.args.id c.requires.sound)
+
+pub add-requires-clause-right : goal.add-requires-clause-right
+add-requires-clause-right c =
+    subst (λ rows. AreRight rows c.state_after.new.states c.args.resolutions.now) (sym c.requires.rows)
+    (right-grown [] [] c.state_after.new.states c.state_after.new.states c.args.resolutions.now refl c.requires.right)
 
 pub returns-clause-held : goal.returns-clause-held
 returns-clause-held c =

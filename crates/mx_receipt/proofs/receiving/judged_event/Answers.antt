@@ -12,7 +12,12 @@ use Rattle.mx_receipt.specs.declared.verdicts.Verdict.TheVariants.{Accepted, Sof
 use Rattle.mx_receipt.proofs.ExtremityLemmas.{extremities-rise}
 use Rattle.mx_receipt.proofs.HeldLemmas.{added-state, event-added, grown-state, known-state, same-verdicts}
 use Rattle.mx_receipt.proofs.KeptLemmas.{before-is, current-is, verdict-is}
+use Rattle.mx_receipt.proofs.ResolutionLemmas.{right-grown}
+use Rattle.mx_receipt.proofs.SortedStateLemmas.{held-sorted}
 use Rattle.mx_receipt.proofs.receiving.judged_event.Goals as goal
+
+pub state_before-requires-clause-sorted : goal.state_before-requires-clause-sorted
+state_before-requires-clause-sorted c = held-sorted c.args.graph.now c.args.states.now c.args.judgements.now c.args.extremities.now c.args.current c.requires.held
 
 pub state_before-requires-clause-current : goal.state_before-requires-clause-current
 state_before-requires-clause-current c =
@@ -66,3 +71,7 @@ returns-clause-added c = λ rows l.
 
 pub extremities_after-requires-clause-rises : goal.extremities_after-requires-clause-rises
 extremities_after-requires-clause-rises c = subst Rises (sym c.requires.held.is_kept.are_extremities) (extremities-rise (kept_of c.args.graph.now (judged_in c.args.states.now c.args.judgements.now)))
+
+pub returns-clause-right : goal.returns-clause-right
+returns-clause-right c =
+    right-grown c.args.graph.now c.state_before.new.states c.in_ok-after.ensures.grown.0 c.state_after.new.states c.state_before.new.resolutions c.in_ok-after.ensures.grown.1 c.in_ok-before.ensures.right

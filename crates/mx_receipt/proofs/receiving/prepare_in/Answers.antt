@@ -9,6 +9,7 @@ use Rattle.mx_receipt.specs.Receipt.{states_at, verdict, is_rejected}
 use Rattle.mx_receipt.specs.declared.snapshots.Judgement.{Judgement}
 use Rattle.mx_receipt.proofs.HeldGrowth.{known-mid, numbers-mid, extremities-mid, held-push}
 use Rattle.mx_receipt.proofs.HeldLemmas.{added-twice, grown-by-event, one-longer}
+use Rattle.mx_receipt.proofs.SortedStateLemmas.{held-sorted, judged-sorted, sorted-push}
 use Rattle.mx_receipt.proofs.TimelineLemmas.{taken-free}
 use Rattle.mx_receipt.proofs.receiving.prepare_in.Goals as goal
 
@@ -34,6 +35,18 @@ add-requires-clause-numbers c =
     (subst (λ (js : List Judgement). IsJudged c.args.graph.now (judged_in c.args.states.now js) c.args.extremities.now (record { id = c.args.id; event = c.args.event; rejected = is_rejected c.in_ok-judged.judged.judgement.verdict }) (judged_by c.judged_event.new.states c.in_ok-judged.judged.judgement) c.in_ok-judged.judged.extremities.items)
     c.deref.ensures.value (c.in_ok-judged.ensures.judged c.args.id)))
     c.in_ok-judged.ensures.below c.in_ok-judged.ensures.added
+
+pub add-requires-clause-sorted : goal.add-requires-clause-sorted
+add-requires-clause-sorted c =
+    let js = c.args.judgements.now.items in
+    let r : Row = record { id = c.args.id; event = c.args.event; rejected = is_rejected c.in_ok-judged.judged.judgement.verdict } in
+    let same : IsJudged c.args.graph.now (judged_in c.args.states.now js) c.args.extremities.now r (judged_by c.judged_event.new.states c.in_ok-judged.judged.judgement) c.in_ok-judged.judged.extremities.items =
+    subst (λ (is : List Judgement). IsJudged c.args.graph.now (judged_in c.args.states.now is) c.args.extremities.now r (judged_by c.judged_event.new.states c.in_ok-judged.judged.judgement) c.in_ok-judged.judged.extremities.items)
+    c.deref.ensures.value (c.in_ok-judged.ensures.judged c.args.id) in
+    sorted-push (c.args.graph.now ++ r ∷ []) c.args.states.now c.judged_event.new.states js c.in_ok-judged.judged.judgement
+    (c.in_ok-judged.ensures.added (c.args.graph.now ++ r ∷ []) (one-longer c.args.graph.now r)) c.requires.held.below
+    (held-sorted c.args.graph.now c.args.states.now js c.args.extremities.now c.args.current c.requires.held)
+    (judged-sorted c.args.graph.now c.args.states.now js c.args.extremities.now c.args.current c.requires.held r (judged_by c.judged_event.new.states c.in_ok-judged.judged.judgement) c.in_ok-judged.judged.extremities.items same)
 
 pub add-requires-clause-below : goal.add-requires-clause-below
 add-requires-clause-below c =

@@ -9,7 +9,7 @@ returns-clause-current c =
     let t = c.timeline.inside in
     let h : HasKept t.graph t.states t.judgements.items t.extremities.items t.current c.args.timeline.now.kept =
     subst (HasKept t.graph t.states t.judgements.items t.extremities.items t.current) (ap (λ (v : TimelineView). v.kept) c.timeline.view_is)
-    (has-kept t.graph t.states t.judgements.items t.extremities.items t.current t.prepared c.timeline.invariant) in
+    (has-kept t.graph t.states t.judgements.items t.extremities.items t.current t.prepared c.timeline.invariant.0) in
     known-current t.graph t.states t.judgements.items t.extremities.items t.current c.args.timeline.now.kept h
 
 pub returns-clause-before : goal.returns-clause-before
@@ -17,7 +17,7 @@ returns-clause-before c =
     let t = c.timeline.inside in
     let h : HasKept t.graph t.states t.judgements.items t.extremities.items t.current c.args.timeline.now.kept =
     subst (HasKept t.graph t.states t.judgements.items t.extremities.items t.current) (ap (λ (v : TimelineView). v.kept) c.timeline.view_is)
-    (has-kept t.graph t.states t.judgements.items t.extremities.items t.current t.prepared c.timeline.invariant) in
+    (has-kept t.graph t.states t.judgements.items t.extremities.items t.current t.prepared c.timeline.invariant.0) in
     known-before t.graph t.states t.judgements.items t.extremities.items t.current c.args.timeline.now.kept h
 
 pub returns-clause-after : goal.returns-clause-after
@@ -25,5 +25,5 @@ returns-clause-after c =
     let t = c.timeline.inside in
     let h : HasKept t.graph t.states t.judgements.items t.extremities.items t.current c.args.timeline.now.kept =
     subst (HasKept t.graph t.states t.judgements.items t.extremities.items t.current) (ap (λ (v : TimelineView). v.kept) c.timeline.view_is)
-    (has-kept t.graph t.states t.judgements.items t.extremities.items t.current t.prepared c.timeline.invariant) in
+    (has-kept t.graph t.states t.judgements.items t.extremities.items t.current t.prepared c.timeline.invariant.0) in
     known-after t.graph t.states t.judgements.items t.extremities.items t.current c.args.timeline.now.kept h

@@ -13,7 +13,7 @@ returns-clause-set c =
     let t = c.self.inside in
     let h : HasKept t.graph t.states t.judgements.items t.extremities.items t.current c.args.self.now.kept =
     subst (HasKept t.graph t.states t.judgements.items t.extremities.items t.current) (ap (λ (v : TimelineView). v.kept) c.self.view_is)
-    (has-kept t.graph t.states t.judgements.items t.extremities.items t.current t.prepared c.self.invariant) in
+    (has-kept t.graph t.states t.judgements.items t.extremities.items t.current t.prepared c.self.invariant.0) in
     c.in_ok-found.ensures.set h.kept_rows h.next_row h.are_rows
     (subst (λ n. All (λ p. p < n) c.args.starts.now) (shown-count t.graph t.states t.judgements.items t.extremities.items t.current c.args.self.now.kept h) c.requires)
     ∙ ap (λ rows. ancestors rows c.args.starts.now) (sym (shown-rows t.graph t.states t.judgements.items t.extremities.items t.current c.args.self.now.kept h))

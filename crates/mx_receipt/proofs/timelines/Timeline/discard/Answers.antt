@@ -9,7 +9,7 @@ pub returns-in-Some : goal.returns-in-Some
 returns-in-Some c =
     let was : c.self.inside.prepared ≡ Some c.in-Some.prepared = sym c.take.ensures.value ∙ c.in-Some.is in
     let h : IsPrepared c.self.inside.graph c.self.inside.states c.self.inside.judgements.items c.self.inside.extremities.items c.self.inside.current c.in-Some.prepared =
-    subst (IsTimeline c.self.inside.graph c.self.inside.states c.self.inside.judgements.items c.self.inside.extremities.items c.self.inside.current) was c.self.invariant in
+    subst (IsTimeline c.self.inside.graph c.self.inside.states c.self.inside.judgements.items c.self.inside.extremities.items c.self.inside.current) was c.self.invariant.0 in
     (λ i. record { kept = kept_in c.remove_last.new.graph (judged_in c.truncate.new.self c.remove_last.new.judgements.items) (c.take.ensures.after i); prepared = prepared_in c.remove_last.new.graph (judged_in c.truncate.new.self c.remove_last.new.judgements.items) (c.take.ensures.after i) })
     ∙ λ i. record {
       kept = (discarded-shown c.self.inside.graph c.self.inside.states c.self.inside.judgements.items c.self.inside.extremities.items c.self.inside.current c.in-Some.prepared h c.remove_last.new.graph c.truncate.new.self c.remove_last.new.judgements.items c.remove_last.ensures.rows c.truncate.ensures c.remove_last.ensures.judgements

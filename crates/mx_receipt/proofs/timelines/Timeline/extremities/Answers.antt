@@ -10,7 +10,7 @@ returns-clause-forward c =
     let t = c.self.inside in
     let h : HasKept t.graph t.states t.judgements.items t.extremities.items t.current c.args.self.now.kept =
     subst (HasKept t.graph t.states t.judgements.items t.extremities.items t.current) (ap (λ (v : TimelineView). v.kept) c.self.view_is)
-    (has-kept t.graph t.states t.judgements.items t.extremities.items t.current t.prepared c.self.invariant) in
+    (has-kept t.graph t.states t.judgements.items t.extremities.items t.current t.prepared c.self.invariant.0) in
     c.deref.ensures.value ∙ shown-extremities t.graph t.states t.judgements.items t.extremities.items t.current c.args.self.now.kept h
 
 pub returns-clause-below : goal.returns-clause-below
@@ -18,6 +18,6 @@ returns-clause-below c =
     let t = c.self.inside in
     let h : HasKept t.graph t.states t.judgements.items t.extremities.items t.current c.args.self.now.kept =
     subst (HasKept t.graph t.states t.judgements.items t.extremities.items t.current) (ap (λ (v : TimelineView). v.kept) c.self.view_is)
-    (has-kept t.graph t.states t.judgements.items t.extremities.items t.current t.prepared c.self.invariant) in
+    (has-kept t.graph t.states t.judgements.items t.extremities.items t.current t.prepared c.self.invariant.0) in
     subst (All (λ p. p < length c.args.self.now.kept)) (sym c.deref.ensures.value)
     (extremities-below t.graph t.states t.judgements.items t.extremities.items t.current c.args.self.now.kept h)

@@ -1,0 +1,20 @@
+-- For proofs and private clauses alone.
+-- What a cache of resolutions says of a room's states.
+use Rattle.std.specs.Prelude.{◌≡◌, ◌<◌, ℕ, List, All, Contains, Vec, length, map}
+use Rattle.std.specs.declared.alloc.Global.{Global}
+use Rattle.mx_graph.specs.Record.{Row}
+use Rattle.mx_orders.specs.StateMap.{State}
+use Rattle.mx_state_res.specs.Numbered.{AreKnown, state_at}
+use Rattle.mx_state_res.specs.Resolution.{resolve}
+use Rattle.mx_receipt.specs.declared.resolution_cache.ResolutionCache.{ResolutionCache}
+
+-- states by their numbers, and the one that they resolve to
+pub record IsResolution (rows : List Row) (states : List State) (numbers : List ℕ) (state : ℕ) : Type 0 where
+  pub below : All (λ n. n < length states) numbers
+  pub state_below : state < length states
+  pub known : AreKnown rows (map (state_at states) numbers)
+  pub resolved : state_at states state ≡ resolve rows (map (state_at states) numbers)
+
+-- each entry is a resolution
+abbrev pub AreRight : List Row → List State → ResolutionCache → Type 0
+AreRight rows states cache = (e : Vec ℕ Global × ℕ) → Contains cache.resolutions.entries e → IsResolution rows states e.0.items e.1
