@@ -1,5 +1,5 @@
 pub mod Offer
 pub mod Hosting
-pub mod Asking
+pub mod Queries
 pub mod RoomView
 pub mod Refusals

@@ -2,14 +2,19 @@
 //! Server-Server API).
 #![tactic(auto)]
 
+mod answering;
+mod event_lists;
 mod forms;
 mod hosting;
+mod moments;
 mod outcomes;
 mod queries;
 mod rooms;
 
+pub use event_lists::{EventIdList, EventList};
 pub use forms::kept_form;
 pub use hosting::{HostError, NotARoom, hosting_fault};
+pub use moments::{LATEST_MILLISECONDS, Moment};
 pub use outcomes::{Outcome, Refusal};
 pub use queries::{Denied, Query, QueryReply};
 pub use rooms::Room;
