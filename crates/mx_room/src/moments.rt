@@ -1,5 +1,6 @@
 // Moments of time.
-ghost use Rattle.std.specs.Prelude.{◌≡◌, ◌≤◌, IfNone, IfSome, nat_lt, IsTrue};
+ghost use Rattle.std.specs.Prelude.{◌≡◌, ◌≤◌, IfNone, IfSome, nat_lt, IsTrue, ℕ};
+ghost use Rattle.mx_room.specs.declared.moments.TheConstants.{LATEST_MILLISECONDS};
 
 use std::marker::Model;
 
@@ -15,8 +16,6 @@ pub struct Moment {
 }
 
 impl Model for Moment {
-    ghost use Rattle.std.specs.Prelude.{ℕ, ◌≤◌};
-
     ghost Value = { ℕ };
 
     ghost view = { λ moment. moment.milliseconds };
