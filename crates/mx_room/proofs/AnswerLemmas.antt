@@ -11,11 +11,13 @@ use Rattle.mx_graph.specs.Graph.{ancestors}
 use Rattle.mx_graph.specs.Record.{Row, row, event, place_of, events_where, is_in}
 use Rattle.mx_receipt.specs.Receipt.{Kept, rows_of, kept_at, is_rejected}
 use Rattle.mx_access.specs.Access.{in_room, visible, is_redacted, served, shown, is_shown_redacted}
-use Rattle.mx_room.specs.Answers.{behind, is_marked, is_taken}
+use Rattle.mx_access.specs.Acl.{acl_allows}
+use Rattle.mx_room.specs.Answers.{allowed_answer, backfill_answer, behind, is_marked, is_taken}
 use Rattle.mx_orders.specs.Mainline.{sorted}
-use Rattle.mx_room.specs.Queries.{held, given_or, backfill, missing_events, depth_falling, depth_rising}
-use Rattle.mx_room.specs.declared.queries.QueryReply.{QueryReply}
-use Rattle.mx_room.specs.declared.queries.Denied.{Denied}
+use Rattle.mx_room.specs.Queries.{Answered, events_reply, query_answer, room_named, unless, held, backfill, missing_events, depth_falling, depth_rising}
+use Rattle.mx_room.specs.declared.queries.Query.{Query}
+use Rattle.mx_room.specs.declared.queries.Query.TheVariants as ask
+use Rattle.mx_room.specs.declared.queries.Denied.TheVariants.{AccessList, NotInRoom, NotFound}
 
 -- ---- what is shown redacted is shown
 
@@ -155,10 +157,54 @@ pub missing-is : (kept : List Kept) (earliest latest : List (List ℕ)) (limit m
 unfolding missing_events
 missing-is kept earliest latest limit min_depth = refl
 
--- ---- answers
+-- ---- what is denied, and what is not
 
-pub given-Some : (o : Option ℕ) (p : ℕ) (f : ℕ → QueryReply) (d : Denied) → o ≡ Some p → given_or d (option_map f o) ≡ Ok (f p)
-given-Some o p f d e = ap (λ w. given_or d (option_map f w)) e
+abbrev gated : Bool → Bool → Answered → Answered
+gated allows member rest = unless (not allows) AccessList (unless (not member) NotInRoom rest)
 
-pub given-None : (o : Option ℕ) (f : ℕ → QueryReply) (d : Denied) → o ≡ None → given_or d (option_map f o) ≡ Err d
-given-None o f d e = ap (λ w. given_or d (option_map f w)) e
+module _ (kept : List Kept) (origin : List ℕ) (now : ℕ) where
+  -- a query that names a room is asked of its members
+  of-members : (q : Query) → is_some (room_named q) ≡ true → query_answer kept origin now q ≡ gated (acl_allows kept origin) (in_room kept origin) (allowed_answer kept origin q)
+  unfolding query_answer
+  of-members (ask.Event id) e = absurd (cc e)
+  of-members (ask.State room id) e = refl
+  of-members (ask.StateIds room id) e = refl
+  of-members (ask.EventAuth room id) e = refl
+  of-members (ask.Backfill room from limit) e = refl
+  of-members (ask.Missing room earliest latest limit min_depth) e = refl
+
+  pub answer-not_allowed : (q : Query) → is_some (room_named q) ≡ true → acl_allows kept origin ≡ false → Err AccessList ≡ query_answer kept origin now q
+  answer-not_allowed q e a = sym (of-members q e ∙ λ i. gated (a i) (in_room kept origin) (allowed_answer kept origin q))
+
+  pub answer-not_in_room : (q : Query) → is_some (room_named q) ≡ true → (is_some (room_named q) ≡ true → acl_allows kept origin ≡ true) → in_room kept origin ≡ false
+      → Err NotInRoom ≡ query_answer kept origin now q
+  answer-not_in_room q e a m = sym (of-members q e ∙ λ i. gated (a e i) (m i) (allowed_answer kept origin q))
+
+  pub answer-allowed : (q : Query) → (is_some (room_named q) ≡ true → acl_allows kept origin ≡ true) → (is_some (room_named q) ≡ true → in_room kept origin ≡ true)
+      → allowed_answer kept origin q ≡ query_answer kept origin now q
+  unfolding query_answer
+  answer-allowed (ask.Event id) a m = refl
+  answer-allowed (ask.State room id) a m = sym (λ i. gated (a refl i) (m refl i) (allowed_answer kept origin (ask.State room id)))
+  answer-allowed (ask.StateIds room id) a m = sym (λ i. gated (a refl i) (m refl i) (allowed_answer kept origin (ask.StateIds room id)))
+  answer-allowed (ask.EventAuth room id) a m = sym (λ i. gated (a refl i) (m refl i) (allowed_answer kept origin (ask.EventAuth room id)))
+  answer-allowed (ask.Backfill room from limit) a m = sym (λ i. gated (a refl i) (m refl i) (allowed_answer kept origin (ask.Backfill room from limit)))
+  answer-allowed (ask.Missing room earliest latest limit min_depth) a m =
+      sym (λ i. gated (a refl i) (m refl i) (allowed_answer kept origin (ask.Missing room earliest latest limit min_depth)))
+
+-- ---- backfill
+
+module _ (kept : List Kept) (server : List ℕ) (from : List (List ℕ)) (limit : ℕ) where
+  abbrev any_held : Bool
+  any_held = list_any (λ id. is_some (place_of (rows_of kept) id)) from
+
+  abbrev backfill_by : Bool → Answered
+  backfill_by none = unless none NotFound (events_reply kept server (backfill (rows_of kept) from limit))
+
+  pub backfill-none : any_held ≡ false → Err NotFound ≡ backfill_answer kept server from limit
+  backfill-none e = sym (ap backfill_by (sym (none-held (place_of (rows_of kept)) from) ∙ ap not e))
+
+  pub backfill-some : any_held ≡ true → backfill_answer kept server from limit ≡ events_reply kept server (backfill (rows_of kept) from limit)
+  backfill-some e = ap backfill_by (sym (none-held (place_of (rows_of kept)) from) ∙ ap not e)
+
+  pub backfill-told : any_held ≡ true → IsTrue (is_ok (backfill_answer kept server from limit))
+  backfill-told e = ap is_ok (backfill-some e)
