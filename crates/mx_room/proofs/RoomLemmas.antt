@@ -16,13 +16,13 @@ use Rattle.mx_graph.specs.Adding.{most_rows}
 use Rattle.mx_graph.specs.Record.{Row, place_of}
 use Rattle.mx_orders.specs.StateMap.{view}
 use Rattle.mx_receipt.specs.Receipt.{Kept, rows_of, kept_at, lacks_cited, verdict, offer_error}
-use Rattle.mx_receipt.specs.TimelineView.{IsSoundCreate}
+use Rattle.mx_receipt.specs.TimelineView.{IsSoundCreate, TimelineView}
 use Rattle.mx_receipt.specs.declared.refusals.NotReceived.{NotReceived}
 use Rattle.mx_receipt.specs.declared.refusals.NotReceived.TheVariants as received
 use Rattle.mx_receipt.specs.declared.verdicts.Verdict.{Verdict}
 use Rattle.mx_receipt.proofs.BeginLemmas.{no_ids}
 use Rattle.mx_room.specs.Hosting.{host_error}
-use Rattle.mx_room.specs.Offer.{Offered, as_kept, is_kept, new_outcome, offer_outcome, refusal_by, refusal_error}
+use Rattle.mx_room.specs.Offer.{Offered, as_kept, is_kept, new_outcome, allowed_outcome, refusal_by, refusal_error}
 use Rattle.mx_room.specs.declared.hosting.NotARoom.TheVariants.{BreaksRule}
 use Rattle.mx_room.specs.declared.outcomes.Outcome.{Outcome}
 use Rattle.mx_room.specs.declared.outcomes.Outcome.TheVariants as outcome
@@ -124,8 +124,8 @@ module _ (kept : List Kept) (o : Offered) (new : place_of (rows_of kept) o.id �
   full-same : nat_le most_rows (length (rows_of kept)) ≡ full
   full-same = ap (nat_le most_rows) (length-map kept _)
 
-  outcome-is : offer_outcome kept o ≡ outcome_by create o.signed lacks full (verdict kept (as_kept o))
-  unfolding offer_outcome
+  outcome-is : allowed_outcome kept o ≡ outcome_by create o.signed lacks full (verdict kept (as_kept o))
+  unfolding allowed_outcome
   outcome-is =
       ap (λ w. elim w [ None ↦ new_outcome kept o.signed (as_kept o) | Some p ↦ outcome.Known (kept_at kept p).verdict ]) new
       ∙ λ i. outcome_by (create-same i) o.signed (lacks-same i) full (verdict kept (as_kept o))
@@ -138,16 +138,16 @@ module _ (kept : List Kept) (o : Offered) (new : place_of (rows_of kept) o.id �
   unfolding offer_error
   error-is = λ i. error_by (ap is_some new i) (create-same i) (lacks-same i) (full-same i)
 
-  pub kept-outcome : refusal_error kept o ≡ None → offer_outcome kept o ≡ outcome.Kept (verdict kept (as_kept o))
+  pub kept-outcome : refusal_error kept o ≡ None → allowed_outcome kept o ≡ outcome.Kept (verdict kept (as_kept o))
   kept-outcome e = outcome-is ∙ by-none create o.signed lacks full (verdict kept (as_kept o)) (sym refusal-is ∙ e)
 
-  pub refused-outcome : (refusal : Refusal) → refusal_error kept o ≡ Some refusal → offer_outcome kept o ≡ outcome.Refused refusal
+  pub refused-outcome : (refusal : Refusal) → refusal_error kept o ≡ Some refusal → allowed_outcome kept o ≡ outcome.Refused refusal
   refused-outcome refusal e = outcome-is ∙ by-some create o.signed lacks full (verdict kept (as_kept o)) refusal (sym refusal-is ∙ e)
 
   pub kept-error : refusal_error kept o ≡ None → offer_error (rows_of kept) o.id (as_kept o) ≡ None
   kept-error e = error-is ∙ no-error create o.signed lacks full (sym refusal-is ∙ e)
 
-  pub kept-told : refusal_error kept o ≡ None → IsTrue (is_kept (offer_outcome kept o))
+  pub kept-told : refusal_error kept o ≡ None → IsTrue (is_kept (allowed_outcome kept o))
   kept-told e = ap is_kept (kept-outcome e)
 
 -- ---- results
@@ -155,3 +155,9 @@ module _ (kept : List Kept) (o : Offered) (new : place_of (rows_of kept) o.id �
 pub at-error : {X E P : Type 0} (r : Result X E) → P → OnErr r P
 at-error (Ok x) p = tt
 at-error (Err e) p = p
+
+-- ---- timelines
+
+-- one with no event prepared
+pub stays : (t : TimelineView) → t.prepared ≡ None → t ≡ record { kept = t.kept; prepared = None }
+stays t e = λ i. record { kept = t.kept; prepared = e i }

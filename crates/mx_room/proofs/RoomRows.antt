@@ -14,9 +14,9 @@ use Rattle.mx_auth.proofs.RulesOnExamples.{rules_on_examples}
 use Rattle.mx_orders.specs.StateMap.{view}
 use Rattle.mx_receipt.specs.Receipt.{Kept, received}
 use Rattle.mx_receipt.specs.declared.verdicts.Verdict.TheVariants.{Accepted, Rejected}
-use Rattle.mx_room.specs.Asking.{query_answer}
+use Rattle.mx_room.specs.Queries.{query_answer}
 use Rattle.mx_room.specs.Hosting.{host_error}
-use Rattle.mx_room.specs.Offer.{Offered, as_kept, offer_outcome}
+use Rattle.mx_room.specs.Offer.{Offered, as_kept, allowed_outcome}
 use Rattle.mx_room.specs.declared.hosting.NotARoom.TheVariants.{NotACreateEvent, CitesAuthEvents, Unsigned, BadContentHash, BreaksRule}
 use Rattle.mx_room.specs.declared.outcomes.Outcome.TheVariants.{Kept as now_kept, Known, Refused}
 use Rattle.mx_room.specs.declared.outcomes.Refusal.TheVariants.{SecondCreate, Signature, MissingEvents}
@@ -76,23 +76,23 @@ abbrev altered : Event
 altered = message (fields ((codes "body", text "x") ∷ [])) (codes "$6" ∷ [])
 
 -- a known id is told first, whatever comes with it
-offered-known : offer_outcome base (unsigned "$6" e1) ≡ Known Accepted
+offered-known : allowed_outcome base (unsigned "$6" e1) ≡ Known Accepted
 unfolding room_on_examples
 offered-known = refl
 
-offered-second_create : offer_outcome base (unsigned "$7" e1) ≡ Refused SecondCreate
+offered-second_create : allowed_outcome base (unsigned "$7" e1) ≡ Refused SecondCreate
 unfolding room_on_examples
 offered-second_create = refl
 
-offered-unsigned : offer_outcome base (unsigned "$7" (message no_fields (codes "$9" ∷ []))) ≡ Refused Signature
+offered-unsigned : allowed_outcome base (unsigned "$7" (message no_fields (codes "$9" ∷ []))) ≡ Refused Signature
 unfolding room_on_examples
 offered-unsigned = refl
 
-offered-missing : offer_outcome base (offer "$7" (message no_fields (codes "$9" ∷ []))) ≡ Refused MissingEvents
+offered-missing : allowed_outcome base (offer "$7" (message no_fields (codes "$9" ∷ []))) ≡ Refused MissingEvents
 unfolding room_on_examples
 offered-missing = refl
 
-offered-altered : offer_outcome base (offer "$7" altered) ≡ now_kept Accepted
+offered-altered : allowed_outcome base (offer "$7" altered) ≡ now_kept Accepted
 unfolding room_on_examples
 offered-altered = refl
 
@@ -103,22 +103,25 @@ altered-as_kept = refl
 
 -- ---- what is shown
 
+abbrev a_server : List ℕ
+a_server = codes "a.example"
+
 abbrev topic_by_D : Event
 topic_by_D = event 7 "m.room.topic" (keyed "") "@d:d.example" no_fields (codes "$6" ∷ []) (codes "$1" ∷ codes "$3" ∷ [])
 
-stranger-rejected : offer_outcome base (offer "$7" topic_by_D) ≡ now_kept (Rejected SenderNotJoined)
+stranger-rejected : allowed_outcome base (offer "$7" topic_by_D) ≡ now_kept (Rejected SenderNotJoined)
 unfolding room_on_examples
 stranger-rejected = refl
 
-shown-create : query_answer base (ask_event (codes "$1")) ≡ Ok (gives_event e1)
+shown-create : query_answer base a_server 0 (ask_event (codes "$1")) ≡ Ok (gives_event e1)
 unfolding room_on_examples
 shown-create = refl
 
-shown-unknown : query_answer base (ask_event (codes "$7")) ≡ Err NotFound
+shown-unknown : query_answer base a_server 0 (ask_event (codes "$7")) ≡ Err NotFound
 unfolding room_on_examples
 shown-unknown = refl
 
 -- a rejected event is not shown
-shown-rejected : query_answer (received base (codes "$7", topic_by_D)) (ask_event (codes "$7")) ≡ Err NotFound
+shown-rejected : query_answer (received base (codes "$7", topic_by_D)) a_server 0 (ask_event (codes "$7")) ≡ Err NotFound
 unfolding room_on_examples
 shown-rejected = refl

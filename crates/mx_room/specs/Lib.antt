@@ -1,5 +1,7 @@
 pub mod Offer
 pub mod Hosting
-pub mod Asking
+pub mod Queries
 pub mod RoomView
 pub mod Refusals
+pub mod Answers
+pub mod EventOrders

@@ -1,6 +1,6 @@
 -- An offered event, and what a room does with it (Matrix specification, Server-Server API, checks performed on receipt
 -- of a PDU).
-use Rattle.std.specs.Prelude.{nat_le, Bool, true, false, not, if◌then◌else◌, List, codes, length, Option, None, Some, option_map}
+use Rattle.std.specs.Prelude.{ℕ, nat_le, Bool, true, false, not, if◌then◌else◌, List, codes, length, Option, None, Some, option_map}
 use Rattle.mx_redact.specs.Fields.{Event}
 use Rattle.mx_redact.specs.Redaction.{redact}
 use Rattle.mx_redact.specs.Hashes.{hash_holds}
@@ -15,7 +15,8 @@ use Rattle.mx_receipt.specs.declared.refusals.NotReceived.TheVariants as receive
 use Rattle.mx_room.specs.declared.outcomes.Refusal.{Refusal}
 use Rattle.mx_room.specs.declared.outcomes.Outcome.{Outcome}
 use Rattle.mx_room.specs.declared.outcomes.Outcome.TheVariants as outcome
-use Rattle.mx_room.specs.declared.outcomes.Refusal.TheVariants.{SecondCreate, Signature, MissingEvents, RoomFull}
+use Rattle.mx_access.specs.Acl.{acl_allows}
+use Rattle.mx_room.specs.declared.outcomes.Refusal.TheVariants.{AccessList, SecondCreate, Signature, MissingEvents, RoomFull}
 
 -- Server-Server API, checks performed on receipt of a PDU, 3: redacted where its content hash is wrong
 abbrev pub as_kept : Offered → Event
@@ -29,9 +30,14 @@ new_outcome kept signed e =
     else (if lacks_cited (rows_of kept) e then outcome.Refused MissingEvents
     else (if nat_le most_rows (length kept) then outcome.Refused RoomFull else outcome.Kept (verdict kept e))))
 
-unfoldable pub offer_outcome : List Kept → Offered → Outcome
-offer_outcome kept o =
+-- what becomes of an event that a server offers which the access control list allows
+unfoldable pub allowed_outcome : List Kept → Offered → Outcome
+allowed_outcome kept o =
     elim (place_of (rows_of kept) o.id) [ None ↦ new_outcome kept o.signed (as_kept o) | Some p ↦ outcome.Known (kept_at kept p).verdict ]
+
+-- by the access control list of the current state, whatever the event would make of it
+unfoldable pub offer_outcome : List Kept → List ℕ → Offered → Outcome
+offer_outcome kept origin o = if acl_allows kept origin then allowed_outcome kept o else outcome.Refused AccessList
 
 -- the event is kept by the call that offers it
 abbrev pub is_kept : Outcome → Bool

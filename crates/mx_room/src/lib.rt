@@ -2,14 +2,24 @@
 //! Server-Server API).
 #![tactic(auto)]
 
+mod answering;
+mod event_lists;
+mod event_marks;
+mod event_orders;
 mod forms;
+mod given_events;
+mod history_queries;
 mod hosting;
+mod moments;
 mod outcomes;
 mod queries;
 mod rooms;
+mod state_queries;
 
+pub use event_lists::{EventIdList, EventList};
 pub use forms::kept_form;
 pub use hosting::{HostError, NotARoom, hosting_fault};
+pub use moments::{LATEST_MILLISECONDS, Moment};
 pub use outcomes::{Outcome, Refusal};
 pub use queries::{Denied, Query, QueryReply};
 pub use rooms::Room;

@@ -5,12 +5,14 @@ use mx_receipt::Verdict;
 
 /// Why a room does not keep an offered event, in the order in which it is asked.
 ///
-/// `SecondCreate`: it is a create event. `Signature`: its signatures were refused. `MissingEvents`: an event that it
-/// follows or rests on is not held. `RoomFull`: the room has 50,000 events.
+/// `AccessList`: the room's access control list denies the server that offers it. `SecondCreate`: it is a create event.
+/// `Signature`: its signatures were refused. `MissingEvents`: an event that it follows or rests on is not held.
+/// `RoomFull`: the room has 50,000 events.
 ///
 /// Source: the Matrix specification, Server-Server API, "Checks performed on receipt of a PDU".
 #[derive(Clone, Copy, Debug, PartialEq, Eq)]
 pub enum Refusal {
+    AccessList,
     SecondCreate,
     Signature,
     MissingEvents,
@@ -25,6 +27,7 @@ impl Refusal {
         ensures { result.now ≡ refusal_text self }
     {
         match self {
+            Refusal::AccessList => "server acl",
             Refusal::SecondCreate => "second create",
             Refusal::Signature => "signature",
             Refusal::MissingEvents => "missing events",

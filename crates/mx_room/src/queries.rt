@@ -1,23 +1,76 @@
 // Queries and what they give.
-use mx_ident::EventId;
+use crate::event_lists::{EventIdList, EventList};
+use mx_ident::{EventId, RoomId};
 use mx_pdu::Pdu;
 
-/// A query of another server: `Event`, an event by its id alone, whatever room holds it.
+/// A query of another server.
 ///
-/// Source: the Matrix specification, Server-Server API, "Retrieving events".
+/// `Event`: an event by its id alone, whatever room holds it. `State`: the state of a room before an event, and its auth
+/// chain. `StateIds`: the same, by ids. `EventAuth`: the auth chain of an event. `Backfill`: the events with these ids
+/// and their ancestors, at most `limit` of them, and never more than 100. `Missing`: the ancestors of the latest events
+/// that are neither among the earliest events nor their ancestors, each at least `min_depth` deep, at most `limit` of
+/// them, and never more than 20.
+///
+/// Source: the Matrix specification, Server-Server API, "Retrieving events" and "Backfilling and retrieving missing
+/// events".
 #[derive(Debug, Drop)]
 pub enum Query {
     Event(EventId),
+    State {
+        room: RoomId,
+        event: EventId,
+    },
+    StateIds {
+        room: RoomId,
+        event: EventId,
+    },
+    EventAuth {
+        room: RoomId,
+        event: EventId,
+    },
+    Backfill {
+        room: RoomId,
+        from: EventIdList,
+        limit: u64,
+    },
+    Missing {
+        room: RoomId,
+        earliest: EventIdList,
+        latest: EventIdList,
+        limit: u64,
+        min_depth: u64,
+    },
 }
 
-/// What a query gives: `Event`, the event as it is kept.
+/// What a query gives.
+///
+/// `Event`: the event, as it is shown. `State`: the events of a state in the order of their keys, and their auth chain in
+/// the order of its ids, each as it is served. `StateIds`: the ids of these. `EventAuth`: the auth chain of an event, in
+/// the order of its ids, each as it is served. `Events`: events as they are shown; for `Backfill` the deepest first, for
+/// `Missing` the deepest last, and of one depth in the order of their ids.
 #[derive(Debug, Drop)]
 pub enum QueryReply {
     Event(Pdu),
+    State {
+        state: EventList,
+        auth_chain: EventList,
+    },
+    StateIds {
+        state: EventIdList,
+        auth_chain: EventIdList,
+    },
+    EventAuth(EventList),
+    Events(EventList),
 }
 
-/// Why a query gives nothing: `NotFound`, no such event is shown.
+/// Why a query gives nothing, in the order in which it is asked.
+///
+/// `AccessList`: the room's access control list denies the server. `NotInRoom`: no user of the server is joined in the
+/// room. `NotFound`: the event is not held, or was rejected, or is not shown; for `Backfill`, none of the events is held.
+/// A query for an event by its id alone is refused by the last of these alone.
 #[derive(Clone, Copy, Debug, PartialEq, Eq)]
 pub enum Denied {
+    AccessList,
+    NotInRoom,
     NotFound,
 }

@@ -4,18 +4,22 @@ ghost use Rattle.mx_pdu.specs.Event.{has_kind, room_of};
 ghost use Rattle.mx_graph.specs.Record.{place_of};
 ghost use Rattle.mx_receipt.specs.Receipt as receipt;
 ghost use Rattle.mx_receipt.specs.Receipt.{Kept, rows_of};
-ghost use Rattle.mx_room.specs.Asking.{event_shown, query_answer};
 ghost use Rattle.mx_room.specs.Hosting.{host_error};
-ghost use Rattle.mx_room.specs.Offer.{is_kept, offer_outcome, refusal_by, refusal_error, row_by};
+ghost use Rattle.mx_access.specs.Acl as access;
+ghost use Rattle.mx_room.specs.Offer.{allowed_outcome, is_kept, offer_outcome, refusal_by, refusal_error, row_by};
+ghost use Rattle.mx_room.specs.Queries.{query_answer};
 ghost use Rattle.mx_room.specs.RoomView.{IsHosted, create_id};
 ghost use Rattle.mx_room.specs.declared.hosting.NotARoom.{NotARoom as Cause};
 
+use crate::answering::answer_in;
 use crate::forms::kept_form;
 use crate::hosting::{HostError, hosting_fault};
+use crate::moments::Moment;
 use crate::outcomes::{Outcome, Refusal};
 use crate::queries::{Denied, Query, QueryReply};
+use mx_access::acl_allows;
 use mx_graph::EventNo;
-use mx_ident::{EventId, RoomId};
+use mx_ident::{EventId, RoomId, ServerName};
 use mx_pdu::{Offered, Pdu};
 use mx_receipt::{NotReceived, Timeline};
 use std::alloc::{AllocError, Global};
@@ -63,42 +67,52 @@ impl Room {
         Ok(room)
     }
 
-    /// What becomes of an offered event, which is kept where it can be.
+    /// What becomes of an event that a server offers, which is kept where it can be.
     ///
     /// `AllocError` where the event is kept and no memory is left for it; the room stays. Any other outcome takes no
     /// memory.
     ///
     /// Source: the Matrix specification, Server-Server API, "Checks performed on receipt of a PDU".
-    pub fn receive(&mut self, alloc: Global, offered: &Offered) -> Result<Outcome, AllocError>
-        ensures outcome { IfOk result (λ outcome. outcome ≡ offer_outcome self.old.kept offered.now) }
+    pub fn receive(
+        &mut self,
+        alloc: Global,
+        origin: &ServerName,
+        offered: &Offered,
+    ) -> Result<Outcome, AllocError>
+        ensures outcome { IfOk result (λ outcome. outcome ≡ offer_outcome self.old.kept origin.now offered.now) }
         ensures received { OnOk result (self.new ≡ record {
           id = self.old.id;
-          kept = receipt.installed self.old.kept (row_by offered.now (offer_outcome self.old.kept offered.now));
+          kept = receipt.installed self.old.kept (row_by offered.now (offer_outcome self.old.kept origin.now offered.now));
           prepared = None;
         }) }
-        ensures memory { OnErr result (IsTrue (is_kept (offer_outcome self.old.kept offered.now))) }
+        ensures memory { OnErr result (IsTrue (is_kept (offer_outcome self.old.kept origin.now offered.now))) }
         ensures err { OnErr result (self.new ≡ record { id = self.old.id; kept = self.old.kept; prepared = None }) }
     {
-        let outcome = self.prepare(alloc, offered);
+        let outcome = self.prepare(alloc, origin, offered);
         self.install();
         outcome
     }
 
-    /// What becomes of an offered event: whatever needs memory to keep it is made, and nothing else changes. An event
-    /// that was prepared before is given up.
+    /// What becomes of an event that a server offers: whatever needs memory to keep it is made, and nothing else changes.
+    /// An event that was prepared before is given up.
     ///
     /// The error is that of [`receive`](Room::receive).
-    pub fn prepare(&mut self, alloc: Global, offered: &Offered) -> Result<Outcome, AllocError>
-        ensures outcome { IfOk result (λ outcome. outcome ≡ offer_outcome self.old.kept offered.now) }
+    pub fn prepare(
+        &mut self,
+        alloc: Global,
+        origin: &ServerName,
+        offered: &Offered,
+    ) -> Result<Outcome, AllocError>
+        ensures outcome { IfOk result (λ outcome. outcome ≡ offer_outcome self.old.kept origin.now offered.now) }
         ensures prepared { OnOk result (self.new ≡ record {
           id = self.old.id;
           kept = self.old.kept;
-          prepared = row_by offered.now (offer_outcome self.old.kept offered.now);
+          prepared = row_by offered.now (offer_outcome self.old.kept origin.now offered.now);
         }) }
-        ensures memory { OnErr result (IsTrue (is_kept (offer_outcome self.old.kept offered.now))) }
+        ensures memory { OnErr result (IsTrue (is_kept (offer_outcome self.old.kept origin.now offered.now))) }
         ensures err { OnErr result (self.new ≡ record { id = self.old.id; kept = self.old.kept; prepared = None }) }
     {
-        prepare_in(alloc, &mut self.timeline, offered)
+        prepare_in(alloc, &mut self.timeline, origin, offered)
     }
 
     /// Adds the event that is prepared. It takes no memory.
@@ -146,19 +160,23 @@ impl Room {
         &self.timeline.row(EventNo::at(0)).id
     }
 
-    /// The answer to a query. `AllocError` where it shows an event and no memory is left for it.
-    pub fn ask(&self, query: &Query) -> Result<Result<QueryReply, Denied>, AllocError>
-        ensures reply { IfOk result (λ reply. reply ≡ query_answer self.now.kept query.now) }
-        ensures memory { OnErr result (IsTrue (is_ok (query_answer self.now.kept query.now))) }
+    /// The answer to a server's query, at a moment. `AllocError` where it gives something and no memory is left for it:
+    /// whatever denies it is asked first, and takes no memory.
+    ///
+    /// The room's access control list is asked for every query but one for an event by its id alone, then whether the
+    /// server is in the room, then whether the event is held. Source: the Matrix specification, Server-Server API,
+    /// "Retrieving events", "Backfilling and retrieving missing events", and "Server Access Control Lists".
+    pub fn ask(
+        &self,
+        alloc: Global,
+        origin: &ServerName,
+        now: Moment,
+        query: &Query,
+    ) -> Result<Result<QueryReply, Denied>, AllocError>
+        ensures reply { IfOk result (λ reply. reply ≡ query_answer self.now.kept origin.now now query.now) }
+        ensures memory { OnErr result (IsTrue (is_ok (query_answer self.now.kept origin.now now query.now))) }
     {
-        answer_in(&self.timeline, query)
-    }
-
-    /// The event with this id, as it is kept; none where the room has none or has rejected it. It takes no memory.
-    pub fn event(&self, id: &EventId) -> Option<&Pdu>
-        ensures { option_copied result ≡ event_shown self.now.kept id.now }
-    {
-        event_in(&self.timeline, id)
+        answer_in(alloc, &self.timeline, origin, now, query)
     }
 }
 
@@ -181,17 +199,40 @@ fn begun(alloc: Global, offered: &Offered) -> Result<Room, AllocError>
 fn prepare_in(
     alloc: Global,
     timeline: &mut Timeline,
+    origin: &ServerName,
     offered: &Offered,
 ) -> Result<Outcome, AllocError>
-    ensures outcome { IfOk result (λ outcome. outcome ≡ offer_outcome timeline.old.kept offered.now) }
+    ensures outcome { IfOk result (λ outcome. outcome ≡ offer_outcome timeline.old.kept origin.now offered.now) }
     ensures prepared { OnOk result (timeline.new ≡ record {
       kept = timeline.old.kept;
-      prepared = row_by offered.now (offer_outcome timeline.old.kept offered.now);
+      prepared = row_by offered.now (offer_outcome timeline.old.kept origin.now offered.now);
     }) }
-    ensures memory { OnErr result (IsTrue (is_kept (offer_outcome timeline.old.kept offered.now))) }
+    ensures memory { OnErr result (IsTrue (is_kept (offer_outcome timeline.old.kept origin.now offered.now))) }
     ensures err { OnErr result (timeline.new ≡ record { kept = timeline.old.kept; prepared = None }) }
 {
     timeline.discard();
+    if !acl_allows(timeline, origin) {
+        return Ok(Outcome::Refused(Refusal::AccessList));
+    }
+    prepare_allowed(alloc, timeline, offered)
+}
+
+// What becomes of an event of a server that the access control list allows.
+#[tactic(auto, unfolding(crate::specs::Offer::allowed_outcome))]
+fn prepare_allowed(
+    alloc: Global,
+    timeline: &mut Timeline,
+    offered: &Offered,
+) -> Result<Outcome, AllocError>
+    requires { timeline.old.prepared ≡ None }
+    ensures outcome { IfOk result (λ outcome. outcome ≡ allowed_outcome timeline.old.kept offered.now) }
+    ensures prepared { OnOk result (timeline.new ≡ record {
+      kept = timeline.old.kept;
+      prepared = row_by offered.now (allowed_outcome timeline.old.kept offered.now);
+    }) }
+    ensures memory { OnErr result (IsTrue (is_kept (allowed_outcome timeline.old.kept offered.now))) }
+    ensures err { OnErr result (timeline.new ≡ record { kept = timeline.old.kept; prepared = None }) }
+{
     if let Some(number) = timeline.find(&offered.id) {
         return Ok(Outcome::Known(timeline.verdict(number)));
     }
@@ -224,10 +265,10 @@ fn keep_in(alloc: Global, timeline: &mut Timeline, offered: &Offered) -> Result<
     requires new { place_of (rows_of timeline.old.kept) offered.now.id ≡ None }
     requires free { refusal_error timeline.old.kept offered.now ≡ None }
     requires ready { timeline.old.prepared ≡ None }
-    ensures outcome { IfOk result (λ outcome. outcome ≡ offer_outcome timeline.old.kept offered.now) }
+    ensures outcome { IfOk result (λ outcome. outcome ≡ allowed_outcome timeline.old.kept offered.now) }
     ensures prepared { OnOk result (timeline.new ≡ record {
       kept = timeline.old.kept;
-      prepared = row_by offered.now (offer_outcome timeline.old.kept offered.now);
+      prepared = row_by offered.now (allowed_outcome timeline.old.kept offered.now);
     }) }
     ensures err { OnErr result (timeline.new ≡ record { kept = timeline.old.kept; prepared = None }) }
 {
@@ -235,19 +276,6 @@ fn keep_in(alloc: Global, timeline: &mut Timeline, offered: &Offered) -> Result<
     let id = offered.id.clone()?;
     let verdict = timeline.prepare_checked(event, id)?;
     Ok(Outcome::Kept(verdict))
-}
-
-#[tactic(auto, unfolding(crate::specs::Asking::query_answer))]
-fn answer_in(timeline: &Timeline, query: &Query) -> Result<Result<QueryReply, Denied>, AllocError>
-    ensures reply { IfOk result (λ reply. reply ≡ query_answer timeline.now.kept query.now) }
-    ensures memory { OnErr result (IsTrue (is_ok (query_answer timeline.now.kept query.now))) }
-{
-    match query {
-        Query::Event(id) => match event_in(timeline, id) {
-            Some(event) => Ok(Ok(QueryReply::Event(event.clone()?))),
-            None => Ok(Err(Denied::NotFound)),
-        },
-    }
 }
 
 fn is_of_create_kind(event: &Pdu) -> bool
@@ -265,15 +293,4 @@ fn refusal_of(cause: NotReceived) -> Refusal
         NotReceived::MissingEvents => Refusal::MissingEvents,
         NotReceived::RoomFull => Refusal::RoomFull,
     }
-}
-
-#[tactic(auto, unfolding(crate::specs::Asking::event_shown))]
-fn event_in<'t>(timeline: &'t Timeline, id: &EventId) -> Option<&'t Pdu>
-    ensures { option_copied result ≡ event_shown timeline.now.kept id.now }
-{
-    let number = timeline.find(id)?;
-    if timeline.verdict(number).is_rejected() {
-        return None;
-    }
-    Some(&timeline.row(number).event)
 }

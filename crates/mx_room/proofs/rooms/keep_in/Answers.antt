@@ -1,6 +1,6 @@
 use Rattle.std.proofs.Common.{◌≡◌, Some, sym, ap, ◌∙◌}
 use Rattle.mx_receipt.specs.Receipt.{rows_of, verdict, judged, offer_error}
-use Rattle.mx_room.specs.Offer.{as_kept, offer_outcome, row_by}
+use Rattle.mx_room.specs.Offer.{as_kept, allowed_outcome, row_by}
 use Rattle.mx_room.specs.declared.outcomes.Outcome.TheVariants as outcome
 use Rattle.mx_room.proofs.RoomLemmas.{kept-outcome, kept-error}
 use Rattle.mx_room.proofs.rooms.keep_in.Goals as goal
@@ -26,5 +26,5 @@ returns-clause-prepared c =
     let o = c.args.offered.now in
     let event : c.in_ok-event.event ≡ as_kept o = c.in_ok-event.ensures in
     let id : c.in_ok-id.id ≡ o.id = c.in_ok-id.ensures.cases in
-    let is : offer_outcome kept o ≡ outcome.Kept (verdict kept (as_kept o)) = kept-outcome kept o c.requires.new c.requires.free in
+    let is : allowed_outcome kept o ≡ outcome.Kept (verdict kept (as_kept o)) = kept-outcome kept o c.requires.new c.requires.free in
     c.in_ok-verdict.ensures.prepared ∙ (λ i. record { kept = kept; prepared = Some (judged kept (id i) (event i)) }) ∙ λ i. record { kept = kept; prepared = row_by o (sym is i) }
