@@ -169,7 +169,7 @@ module _ (rows : List Row) (states : List State) (js : List Judgement) (exts : L
       let f : length h.kept_rows ≡ length h.kept_judgements = h.is_held.is_kept.count ∙ judged-length h.kept_states h.kept_judgements in
       ap (λ rs. row rs p) h.are_rows ∙ get_or_append_left h.kept_rows (option_to_list h.next_row) no_row p (omega arith) ∙ ap (λ rs. row rs p) (sym shown-rows)
 
-  shown-count : length kept ≡ length h.kept_rows
+  pub shown-count : length kept ≡ length h.kept_rows
   shown-count = shown-length ∙ sym (h.is_held.is_kept.count ∙ judged-length h.kept_states h.kept_judgements)
 
   pub shown-found : (id : List ℕ) (p : ℕ) → place_of rows id ≡ Some p → p < length kept → Some p ≡ place_of (rows_of kept) id

@@ -6,6 +6,7 @@ mod citing;
 mod covering;
 mod judging;
 mod receiving;
+mod redactions;
 mod refusals;
 mod room_states;
 mod snapshots;
