@@ -17,13 +17,15 @@ use Rattle.mx_graph.specs.Edges.{cited, LeadDown}
 use Rattle.mx_graph.specs.Graph.{CitesDown, IsSound}
 use Rattle.mx_graph.specs.Inside.{IsIndexed}
 use Rattle.mx_graph.specs.Record.{Row, row, event, place_of, is_in, prev_events, auth_events}
+use Rattle.mx_graph.specs.Redactions.{with_event}
 use Rattle.mx_graph.proofs.Closure.{all-in}
+use Rattle.mx_graph.proofs.RedactionLemmas.{redactions-push}
 use Rattle.mx_graph.proofs.RowLemmas.{place_of-push, place_of-known, row-new, row-other, places-known, all-known, places-below}
 
 -- ---- no rows
 
-pub indexed-empty : IsIndexed [] [] [] []
-indexed-empty =
+pub indexed-empty : (naming : List ℕ → List ℕ) → ((id : List ℕ) → naming id ≡ []) → IsIndexed [] [] [] [] naming
+indexed-empty naming none =
     record {
       few = omega arith;
       own_place = λ p h. absurd (omega arith);
@@ -36,6 +38,7 @@ indexed-empty =
       prev_edges = λ p. refl;
       auth_edges = λ p. refl;
       numbered = λ id. refl;
+      redactions = none;
     }
 
 -- ---- a row that may be added
@@ -145,6 +148,16 @@ module _ (rows : List Row) (r : Row) (fresh : is_known rows r.id ≡ false) wher
       place_of-push rows r r.id ∙ ap (λ o. option_or o (cond (bytes_eq r.id r.id) (Some (length rows)) None)) (nowhere (place_of rows r.id) fresh)
       ∙ ap (λ b. cond b (Some (length rows)) None) ((bytes_eq-Decides r.id r.id).1 refl)
 
+  -- what was put in for its id and taken out again
+  pub numbered-back : (old new back : List ℕ → Option ℕ) → ((id : List ℕ) → old id ≡ place_of rows id) → (n : ℕ) → ((id : List ℕ) → new id ≡ cond (is_eq (slice_cmp nat_cmp r.id id)) (Some n) (old id))
+      → ((id : List ℕ) → back id ≡ cond (is_eq (slice_cmp nat_cmp r.id id)) None (new id)) → (id : List ℕ) → back id ≡ place_of rows id
+  numbered-back old new back agree n put out id =
+      out id ∙ ap (cond (is_eq (slice_cmp nat_cmp r.id id)) None) (put id) ∙ ap (λ b. cond b None (cond b (Some n) (old id))) (is_eq-slice_cmp r.id id) ∙ by (bytes_eq r.id id) refl
+    where
+      by : (b : Bool) → bytes_eq r.id id ≡ b → cond b None (cond b (Some n) (old id)) ≡ place_of rows id
+      by true e = sym (subst (λ i. place_of rows i ≡ None) ((bytes_eq-Decides r.id id).0 e) (nowhere (place_of rows r.id) fresh))
+      by false e = agree id
+
   pub own_place-push : ((p : ℕ) → p < length rows → place_of rows (row rows p).id ≡ Some p) → (p : ℕ) → p < length (rows ++ r ∷ []) → place_of (rows ++ r ∷ []) (row (rows ++ r ∷ []) p).id ≡ Some p
   own_place-push own p h = by (p == length rows) refl
     where
@@ -175,11 +188,12 @@ module _ (rows : List Row) (r : Row) (fresh : is_known rows r.id ≡ false) wher
 
 -- ---- one row more
 
-pub indexed-push : (rows : List Row) (r : Row) (prev auth : List (Vec ℕ Global)) (numbers after : List (List ℕ × ℕ)) (v w : Vec ℕ Global) → IsIndexed rows prev auth numbers → add_error rows r ≡ None
+pub indexed-push : (rows : List Row) (r : Row) (prev auth : List (Vec ℕ Global)) (numbers after : List (List ℕ × ℕ)) (naming naming_after : List ℕ → List ℕ) (v w : Vec ℕ Global) → IsIndexed rows prev auth numbers naming → add_error rows r ≡ None
     → v.items ≡ prev_events rows r.event → w.items ≡ auth_events rows r.event
     → ((id : List ℕ) → lookup (λ k. is_eq (slice_cmp nat_cmp id k)) after ≡ cond (is_eq (slice_cmp nat_cmp r.id id)) (Some (length rows)) (lookup (λ k. is_eq (slice_cmp nat_cmp id k)) numbers))
-    → IsIndexed (rows ++ r ∷ []) (prev ++ v ∷ []) (auth ++ w ∷ []) after
-indexed-push rows r prev auth numbers after v w indexed h prev_items auth_items step =
+    → ((id : List ℕ) → naming_after id ≡ with_event r.event (length rows) id (naming id))
+    → IsIndexed (rows ++ r ∷ []) (prev ++ v ∷ []) (auth ++ w ∷ []) after naming_after
+indexed-push rows r prev auth numbers after naming naming_after v w indexed h prev_items auth_items step named =
     let f : IsFree rows r = free rows r h in
     let more : length (rows ++ r ∷ []) ≡ length rows + 1 = length-append rows (r ∷ []) in
     record {
@@ -194,6 +208,26 @@ indexed-push rows r prev auth numbers after v w indexed h prev_items auth_items 
       prev_edges = edges-push rows r prev_ids f.prev indexed.prev_known prev v indexed.prev_len prev_items indexed.prev_edges;
       auth_edges = edges-push rows r auth_ids f.auth indexed.auth_known auth w indexed.auth_len auth_items indexed.auth_edges;
       numbered = numbered-push rows r f.fresh (λ id. lookup (λ k. is_eq (slice_cmp nat_cmp id k)) numbers) (λ id. lookup (λ k. is_eq (slice_cmp nat_cmp id k)) after) indexed.numbered step;
+      redactions = λ id. named id ∙ ap (with_event r.event (length rows) id) (indexed.redactions id) ∙ sym (redactions-push rows r id);
+    }
+
+-- the same rows, with other numbers and redactions that agree with them
+pub indexed-again : (rows : List Row) (prev auth : List (Vec ℕ Global)) (numbers after : List (List ℕ × ℕ)) (naming naming_after : List ℕ → List ℕ) → IsIndexed rows prev auth numbers naming
+    → ((id : List ℕ) → lookup (λ k. is_eq (slice_cmp nat_cmp id k)) after ≡ place_of rows id) → ((id : List ℕ) → naming_after id ≡ naming id) → IsIndexed rows prev auth after naming_after
+indexed-again rows prev auth numbers after naming naming_after indexed step named =
+    record {
+      few = indexed.few;
+      own_place = indexed.own_place;
+      prev_known = indexed.prev_known;
+      auth_known = indexed.auth_known;
+      prev_down = indexed.prev_down;
+      auth_down = indexed.auth_down;
+      prev_len = indexed.prev_len;
+      auth_len = indexed.auth_len;
+      prev_edges = indexed.prev_edges;
+      auth_edges = indexed.auth_edges;
+      numbered = step;
+      redactions = λ id. named id ∙ indexed.redactions id;
     }
 
 -- ---- what follows for the rows
@@ -201,8 +235,8 @@ indexed-push rows r prev auth numbers after v w indexed h prev_items auth_items 
 pub some-same : (x y : ℕ) → Some x ≡ Some y → x ≡ y
 some-same x y e = cc
 
-pub indexed-sound : (rows : List Row) (prev auth : List (Vec ℕ Global)) (numbers : List (List ℕ × ℕ)) → IsIndexed rows prev auth numbers → IsSound rows
-indexed-sound rows prev auth numbers indexed =
+pub indexed-sound : (rows : List Row) (prev auth : List (Vec ℕ Global)) (numbers : List (List ℕ × ℕ)) (naming : List ℕ → List ℕ) → IsIndexed rows prev auth numbers naming → IsSound rows
+indexed-sound rows prev auth numbers naming indexed =
     record {
       ids = λ x y h k e. some-same x y (sym (indexed.own_place x h) ∙ ap (place_of rows) e ∙ indexed.own_place y k);
       prev = indexed.prev_down;

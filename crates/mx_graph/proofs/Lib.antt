@@ -8,3 +8,4 @@ pub mod RemovalLemmas
 pub mod GraphRows
 pub mod MarkLemmas
 pub mod LongerRecordLemmas
+pub mod RedactionLemmas

@@ -18,8 +18,10 @@ use Rattle.mx_graph.specs.Edges.{cited}
 use Rattle.mx_graph.specs.Graph.{CitesDown}
 use Rattle.mx_graph.specs.Inside.{IsIndexed}
 use Rattle.mx_graph.specs.Record.{Row, no_row, row, event, place_of, is_in}
+use Rattle.mx_graph.specs.Redactions.{without_event}
 use Rattle.mx_graph.proofs.Closure.{or_left, or_right}
 use Rattle.mx_graph.proofs.IndexLemmas.{some-same}
+use Rattle.mx_graph.proofs.RedactionLemmas.{redactions-pop}
 use Rattle.mx_graph.proofs.RowLemmas.{place_of-push, place_of-below, row-new, row-other}
 
 -- ---- places of ids
@@ -174,11 +176,12 @@ pub one_less : {A X : Type 0} (removed : Option A) (before after : Vec X Global)
 one_less None before after n h e = let none : vec_len before ≡ 0 = h.0 in absurd (omega (arith, before.ok.0))
 one_less (Some x) before after n h e = omega (arith, h, before.ok.0, after.ok.0)
 
-pub indexed-pop : (rows : List Row) (r : Row) (prev auth more_prev more_auth : List (Vec ℕ Global)) (numbers after : List (List ℕ × ℕ)) → IsIndexed (rows ++ r ∷ []) (prev ++ more_prev) (auth ++ more_auth) numbers
+pub indexed-pop : (rows : List Row) (r : Row) (prev auth more_prev more_auth : List (Vec ℕ Global)) (numbers after : List (List ℕ × ℕ)) (naming naming_after : List ℕ → List ℕ) → IsIndexed (rows ++ r ∷ []) (prev ++ more_prev) (auth ++ more_auth) numbers naming
     → length prev ≡ length rows → length auth ≡ length rows
     → ((id : List ℕ) → lookup (λ k. is_eq (slice_cmp nat_cmp id k)) after ≡ cond (is_eq (slice_cmp nat_cmp r.id id)) None (lookup (λ k. is_eq (slice_cmp nat_cmp id k)) numbers))
-    → IsIndexed rows prev auth after
-indexed-pop rows r prev auth more_prev more_auth numbers after indexed prev_len auth_len step =
+    → ((id : List ℕ) → naming_after id ≡ without_event r.event id (naming id))
+    → IsIndexed rows prev auth after naming_after
+indexed-pop rows r prev auth more_prev more_auth numbers after naming naming_after indexed prev_len auth_len step named =
     record {
       few =
           let m : length (rows ++ r ∷ []) ≡ length rows + 1 = length-append rows (r ∷ []) in
@@ -193,4 +196,5 @@ indexed-pop rows r prev auth more_prev more_auth numbers after indexed prev_len 
       prev_edges = edges-pop rows r prev_ids refl indexed.prev_down prev more_prev prev_len indexed.prev_edges;
       auth_edges = edges-pop rows r auth_ids refl indexed.auth_down auth more_auth auth_len indexed.auth_edges;
       numbered = numbered-pop rows r indexed.own_place (λ id. lookup (λ k. is_eq (slice_cmp nat_cmp id k)) numbers) (λ id. lookup (λ k. is_eq (slice_cmp nat_cmp id k)) after) indexed.numbered step;
+      redactions = λ id. named id ∙ ap (without_event r.event id) (indexed.redactions id) ∙ redactions-pop rows r id;
     }

@@ -5,3 +5,4 @@ pub mod RowCode
 pub mod Edges
 pub mod Inside
 pub mod Closing
+pub mod Redactions

@@ -1,10 +1,10 @@
 -- The record of a room: a row for each event that it holds, in order of arrival, the create event first.
 -- An event of the record is named by its place, from 0. A set of events is the list of its places, rising.
-use Rattle.std.specs.Prelude.{ℕ, ◌==◌, Bool, true, List, [], bytes_eq, length, slice_index_or, filter, filter_map, position, Option}
+use Rattle.std.specs.Prelude.{ℕ, ◌==◌, ◌&&◌, Bool, true, List, [], bytes_eq, codes, length, slice_index_or, filter, filter_map, position, Option}
 use Rattle.std.specs.List.{range_with_len, list_any}
 use Rattle.serde_json.specs.Data.{null}
-use Rattle.mx_redact.specs.Fields.{Event}
-use Rattle.mx_pdu.specs.Event.{prev_ids, auth_ids}
+use Rattle.mx_redact.specs.Fields.{Event, is_text}
+use Rattle.mx_pdu.specs.Event.{prev_ids, auth_ids, has_kind, redacts_of}
 use Rattle.mx_graph.specs.declared.rows.GraphRow.{GraphRow}
 
 -- an event as it is kept, with its id, and whether it was rejected
@@ -42,3 +42,10 @@ prev_events rows e = filter_map (place_of rows) (prev_ids e)
 
 abbrev pub auth_events : List Row → Event → List ℕ
 auth_events rows e = filter_map (place_of rows) (auth_ids e)
+
+-- Room Version 6, redactions: the event is a redaction that names the id
+abbrev pub names_id : List ℕ → Event → Bool
+names_id id e = has_kind (codes "m.room.redaction") e && is_text id (redacts_of e)
+
+abbrev pub names_in_redaction : List Row → List ℕ → ℕ → Bool
+names_in_redaction rows id p = names_id id (event rows p)

@@ -12,6 +12,7 @@ ghost use Rattle.mx_graph.specs.declared.refusals.NotAdded.{NotAdded as Cause};
 use crate::closing::reached;
 use crate::closing_above::reached_above;
 use crate::numbers::EventNo;
+use crate::redactions::RedactionIndex;
 use crate::refusals::{GraphError, NotAdded};
 use crate::rows::GraphRow;
 use mx_ident::EventId;
@@ -36,6 +37,7 @@ pub struct Graph {
     prev_edges: Vec<Vec<EventNo>>,
     auth_edges: Vec<Vec<EventNo>>,
     numbers: BTreeMap<EventId, EventNo>,
+    redactions: RedactionIndex,
 }
 
 impl Model for Graph {
@@ -48,10 +50,12 @@ impl Model for Graph {
     ghost coded = { rows_code };
 
     ghost use Rattle.mx_graph.specs.Inside.{IsIndexed};
+    ghost use Rattle.mx_graph.specs.Redactions.{naming};
 
     ghost view = { λ g. g.rows.items };
 
-    ghost invariant = { λ g. IsIndexed g.rows.items g.prev_edges.items g.auth_edges.items g.numbers.entries };
+    ghost invariant = { λ g. IsIndexed g.rows.items g.prev_edges.items g.auth_edges.items g.numbers.entries
+        (naming g.redactions) };
 }
 
 impl Graph {
@@ -65,6 +69,7 @@ impl Graph {
             prev_edges: Vec::new(alloc),
             auth_edges: Vec::new(alloc),
             numbers: BTreeMap::new(alloc),
+            redactions: RedactionIndex::new(alloc),
         }
     }
 
@@ -164,6 +169,10 @@ impl Graph {
         self.prev_edges.reserve(1)?;
         self.auth_edges.reserve(1)?;
         self.numbers.insert(id, number)?;
+        if let Err(refused) = self.redactions.add(self.alloc, &row.event, number) {
+            self.numbers.remove(&row.id);
+            return Err(refused);
+        }
         self.rows.push(row).unwrap();
         self.prev_edges.push(prev_events).unwrap();
         self.auth_edges.push(auth_events).unwrap();
@@ -179,6 +188,7 @@ impl Graph {
         self.prev_edges.pop();
         self.auth_edges.pop();
         self.numbers.remove(&row.id);
+        self.redactions.remove_last(&row.event);
         Some(row)
     }
 
@@ -214,6 +224,19 @@ impl Graph {
         ensures lower { All (λ other. other < number) result.now }
     {
         &self.auth_edges[number.index()]
+    }
+
+    /// The redactions that name an event, rising, whether or not they were rejected. The event need not be there. It
+    /// takes no memory, and the time is logarithmic in the redactions.
+    ///
+    /// Source: the Matrix specification, Room Version 6, "Redactions".
+    pub fn redactions_of(&self, id: &EventId) -> &[EventNo]
+        ensures named { result.now
+            ≡ definition.events_where self.now (definition.names_in_redaction self.now id.now) }
+        ensures rises { Rises result.now }
+        ensures below { All (λ number. number < length self.now) result.now }
+    {
+        self.redactions.get(id)
     }
 
     /// The prev events of these events, their prev events, and so on, rising. A given event is among them only where

@@ -6,6 +6,7 @@ mod closing;
 mod closing_above;
 mod graphs;
 mod numbers;
+mod redactions;
 mod refusals;
 mod rows;
 

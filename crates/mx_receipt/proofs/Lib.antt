@@ -16,3 +16,4 @@ pub mod RemovalLemmas
 pub mod ClosureLemmas
 pub mod SortedStateLemmas
 pub mod ResolutionLemmas
+pub mod NamingLemmas

@@ -7,6 +7,7 @@ mod closures;
 mod covering;
 mod judging;
 mod receiving;
+mod redactions;
 mod refusals;
 mod resolution_cache;
 mod room_states;

@@ -4,6 +4,7 @@ ghost use Rattle.std.specs.List.{list_any};
 ghost use Rattle.std.specs.Result.{result_err};
 ghost use Rattle.mx_graph.specs.Edges.{Rises};
 ghost use Rattle.mx_graph.specs.Graph as closure;
+ghost use Rattle.mx_graph.specs.Record as record_of;
 ghost use Rattle.mx_graph.specs.Record.{place_of, row as row_at};
 ghost use Rattle.mx_receipt.specs.Receipt as definition;
 ghost use Rattle.mx_receipt.specs.Receipt.{Kept};
@@ -13,6 +14,7 @@ ghost use Rattle.mx_receipt.specs.declared.refusals.NotReceived.{NotReceived as 
 
 use crate::closures::{earlier_ancestors, earlier_auth_chain};
 use crate::receiving::{begin_in, last_event, prepare_in, remove_last};
+use crate::redactions::below_count;
 use crate::refusals::{NotReceived, OfferError};
 use crate::resolution_cache::ResolutionCache;
 use crate::snapshots::Judgement;
@@ -129,6 +131,18 @@ impl Timeline {
             }
             None => None,
         }
+    }
+
+    /// The redactions that name an event, rising, whatever the verdicts on them. The event need not be there. It takes
+    /// no memory, and the time is logarithmic in the redactions.
+    ///
+    /// Source: the Matrix specification, Room Version 6, "Redactions".
+    pub fn redactions_naming(&self, id: &EventId) -> &[EventNo]
+        ensures named { result.now ≡ record_of.events_where (definition.rows_of self.now.kept)
+            (record_of.names_in_redaction (definition.rows_of self.now.kept) id.now) }
+        ensures below { All (λ number. number < length self.now.kept) result.now }
+    {
+        below_count(self.graph.redactions_of(id), self.len())
     }
 
     /// The event with this number as it is kept, with its id, and whether it was rejected.

@@ -2,4 +2,4 @@ use Rattle.mx_graph.proofs.IndexLemmas.{indexed-empty}
 use Rattle.mx_graph.proofs.graphs.Graph.new.Goals as goal
 
 pub invariant_of-result : goal.invariant_of-result
-invariant_of-result c = rw (c.new.ensures.items, c.new-2.ensures.items, c.new-3.ensures.items, c.new-4.ensures.empty) indexed-empty
+invariant_of-result c = rw (c.new.ensures.items, c.new-2.ensures.items, c.new-3.ensures.items, c.new-4.ensures.empty) (indexed-empty _ c.new-5.ensures)
