@@ -1,3 +1,5 @@
 pub mod BodyLemmas
 pub mod ReadingLemmas
 pub mod PartLemmas
+pub mod ParameterLemmas
+pub mod SegmentLemmas

@@ -3,6 +3,12 @@
 
 mod authorization;
 mod faults;
+mod parameters;
+mod routes;
+mod targets;
 
 pub use authorization::origin_of;
 pub use faults::{Denial, Fault, InvalidPart, MissingParameter, memory_body, storage_body};
+pub use parameters::{Parameter, all_named, first_named, parameters_of};
+pub use routes::{Route, Routes};
+pub use targets::{event_at, path_of, query_of, room_at, txn_at, user_at};

@@ -1,0 +1,132 @@
+// The routes of the Server-Server API, and the route of a path.
+ghost use Rattle.std.specs.Prelude.{◌≡◌, IfOk, OnOk};
+ghost use Rattle.mx_wire.specs.Targets as definition;
+
+use matchit::Router;
+use std::alloc::{AllocError, Global};
+
+/// What a request asks: one of the routes under `/_matrix/federation`.
+#[derive(Clone, Copy, Debug, PartialEq, Eq, Drop)]
+pub enum Route {
+    // v1/send/{txn_id}
+    Send,
+    // v1/event/{event_id}
+    Event,
+    // v1/state/{room_id}
+    State,
+    // v1/state_ids/{room_id}
+    StateIds,
+    // v1/event_auth/{room_id}/{event_id}
+    EventAuth,
+    // v1/backfill/{room_id}
+    Backfill,
+    // v1/get_missing_events/{room_id}
+    GetMissingEvents,
+    // v1/make_join/{room_id}/{user_id}
+    MakeJoin,
+    // v2/send_join/{room_id}/{event_id}
+    SendJoin,
+}
+
+impl Route {
+    ghost use Rattle.std.specs.Prelude.{◌≡◌};
+    ghost use Rattle.mx_wire.specs.Targets.{method_of};
+
+    /// The one method of the route.
+    pub fn method(self) -> &'static str
+        ensures { result.now ≡ method_of self }
+    {
+        match self {
+            Route::Send | Route::SendJoin => "PUT",
+            Route::GetMissingEvents => "POST",
+            Route::Event | Route::State | Route::StateIds | Route::EventAuth => "GET",
+            Route::Backfill | Route::MakeJoin => "GET",
+        }
+    }
+}
+
+/// The table of the routes, made once.
+#[derive(Drop)]
+pub struct Routes {
+    router: Router<Route>,
+    ghost is_table: { router ≡ definition.table },
+}
+
+impl Routes {
+    ghost use Rattle.std.specs.Prelude.{◌≡◌};
+    ghost use Rattle.mx_wire.specs.Targets.{route_of, table};
+
+    /// The table. `AllocError` is its one error.
+    pub fn new(alloc: Global) -> Result<Routes, AllocError> {
+        let mut router = Router::new(alloc);
+        add(
+            &mut router,
+            "/_matrix/federation/v1/send/{txn_id}",
+            Route::Send,
+        )?;
+        add(
+            &mut router,
+            "/_matrix/federation/v1/event/{event_id}",
+            Route::Event,
+        )?;
+        add(
+            &mut router,
+            "/_matrix/federation/v1/state/{room_id}",
+            Route::State,
+        )?;
+        add(
+            &mut router,
+            "/_matrix/federation/v1/state_ids/{room_id}",
+            Route::StateIds,
+        )?;
+        add(
+            &mut router,
+            "/_matrix/federation/v1/event_auth/{room_id}/{event_id}",
+            Route::EventAuth,
+        )?;
+        add(
+            &mut router,
+            "/_matrix/federation/v1/backfill/{room_id}",
+            Route::Backfill,
+        )?;
+        add(
+            &mut router,
+            "/_matrix/federation/v1/get_missing_events/{room_id}",
+            Route::GetMissingEvents,
+        )?;
+        add(
+            &mut router,
+            "/_matrix/federation/v1/make_join/{room_id}/{user_id}",
+            Route::MakeJoin,
+        )?;
+        add(
+            &mut router,
+            "/_matrix/federation/v2/send_join/{room_id}/{event_id}",
+            Route::SendJoin,
+        )?;
+        Ok(Routes { router })
+    }
+
+    /// The route of a path, before anything in it is decoded. It takes no memory.
+    ///
+    /// The constant parts match byte for byte, and a parameter is one segment of at least one byte, so that a slash at
+    /// the end is part of no route.
+    #[tactic(auto, unfolding(crate::specs::Targets::route_of))]
+    pub fn route_of(&self, path: &str) -> Option<Route>
+        ensures { result ≡ route_of path.now }
+    {
+        match self.router.at(path) {
+            Ok(found) => Some(*found.value),
+            Err(_) => None,
+        }
+    }
+}
+
+fn add(router: &mut Router<Route>, path: &str, route: Route) -> Result<(), AllocError>
+    ensures { OnOk result (router.new ≡ definition.with_route path.now route router.old) }
+{
+    match router.insert(path, route) {
+        Ok(()) => Ok(()),
+        Err(_) => Err(AllocError),
+    }
+}
