@@ -3,3 +3,4 @@ pub mod OrderLemmas
 pub mod AnswerLemmas
 pub mod RoomOnExamples
 pub mod RoomRows
+pub mod QueryRows

@@ -15,7 +15,7 @@ use Rattle.mx_graph.specs.Record.{Row}
 use Rattle.mx_graph.proofs.Members.{in_filter-parts}
 use Rattle.mx_orders.specs.Mainline.{put_in_order, sorted}
 use Rattle.mx_orders.proofs.Members.{In}
-use Rattle.mx_orders.proofs.SortedLaws.{Below, Rising, sorted-rising}
+use Rattle.mx_orders.proofs.SortedLaws.{Rising, sorted-rising}
 use Rattle.mx_orders.proofs.CountLemmas.{all-at, rising-sorted}
 use Rattle.mx_receipt.specs.Receipt.{Kept, rows_of}
 use Rattle.mx_room.specs.EventOrders.{IsListed, listed_id_rising, listed_depth_rising, listed_depth_falling}

@@ -1,6 +1,6 @@
 -- For proofs and private clauses alone.
 -- The answer to a query that the room answers to the server.
-use Rattle.std.specs.Prelude.{ℕ, ◌==◌, Bool, true, false, ◌&&◌, ◌||◌, not, nat_le, slice_index_or, List, [], ◌∷◌, length, option_map, Option, Some, None}
+use Rattle.std.specs.Prelude.{ℕ, ◌==◌, Bool, false, ◌&&◌, ◌||◌, not, nat_le, slice_index_or, List, [], ◌∷◌, length, option_map}
 use Rattle.mx_pdu.specs.Event.{depth_of}
 use Rattle.mx_graph.specs.Record.{Row, row, event, events_where, is_in}
 use Rattle.mx_graph.specs.Graph.{ancestors}

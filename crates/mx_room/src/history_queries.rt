@@ -19,6 +19,7 @@ use std::alloc::{AllocError, Global};
 // The greatest limits. Source: the Matrix specification, Server-Server API, "Backfilling and retrieving missing events"
 // (the numbers are our own).
 const MOST_BACKFILLED: u64 = 100;
+
 const MOST_MISSING: u64 = 20;
 
 /// Events and those before them, as the server is shown them.

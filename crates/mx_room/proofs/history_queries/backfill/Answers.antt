@@ -1,4 +1,4 @@
-use Rattle.std.proofs.Common.{◌≡◌, List, Bool, false, ℕ, length, sym, ap, ◌∙◌, take, ◌&&◌, ◌||◌, nat_lt}
+use Rattle.std.proofs.Common.{length, sym, ap, ◌∙◌, take}
 use Rattle.mx_graph.specs.Graph.{ancestors}
 use Rattle.mx_receipt.specs.Receipt.{rows_of}
 use Rattle.mx_room.proofs.AnswerLemmas.{backfill-is, marked-after_two}

@@ -1,4 +1,4 @@
-use Rattle.std.proofs.Common.{◌≡◌, sym, ◌∙◌, filter_map, Ok}
+use Rattle.std.proofs.Common.{sym, ◌∙◌, filter_map, Ok}
 use Rattle.mx_access.specs.Access.{shown}
 use Rattle.mx_room.specs.declared.queries.QueryReply.TheVariants as gives
 use Rattle.mx_room.proofs.AnswerLemmas.{backfill-none, backfill-some, backfill-told}

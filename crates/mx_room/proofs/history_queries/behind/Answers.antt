@@ -1,4 +1,4 @@
-use Rattle.std.proofs.Common.{◌≡◌, length, sym, ap, ◌∙◌}
+use Rattle.std.proofs.Common.{length, sym, ap, ◌∙◌}
 use Rattle.mx_graph.specs.Graph.{ancestors}
 use Rattle.mx_receipt.specs.Receipt.{rows_of}
 use Rattle.mx_room.proofs.AnswerLemmas.{marked-missing, marked-after_four}

@@ -1,4 +1,4 @@
-use Rattle.std.proofs.Common.{◌≡◌, ap, ◌∙◌, take}
+use Rattle.std.proofs.Common.{ap, ◌∙◌, take}
 use Rattle.mx_orders.specs.Mainline.{sorted}
 use Rattle.mx_receipt.specs.Receipt.{rows_of}
 use Rattle.mx_room.specs.Queries.{depth_falling, depth_rising}
