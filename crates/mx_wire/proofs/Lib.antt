@@ -3,3 +3,6 @@ pub mod ReadingLemmas
 pub mod PartLemmas
 pub mod ParameterLemmas
 pub mod SegmentLemmas
+pub mod RouteLemmas
+pub mod OnExamples
+pub mod WireRows

@@ -34,6 +34,18 @@ query_of target = after_first is_question_mark target
 
 -- ---- the routes
 
+-- the pattern of a route's paths, in which a parameter stands in braces
+abbrev pub pattern_of : Route → List ℕ
+pattern_of Send = codes "/_matrix/federation/v1/send/{txn_id}"
+pattern_of Event = codes "/_matrix/federation/v1/event/{event_id}"
+pattern_of State = codes "/_matrix/federation/v1/state/{room_id}"
+pattern_of StateIds = codes "/_matrix/federation/v1/state_ids/{room_id}"
+pattern_of EventAuth = codes "/_matrix/federation/v1/event_auth/{room_id}/{event_id}"
+pattern_of Backfill = codes "/_matrix/federation/v1/backfill/{room_id}"
+pattern_of GetMissingEvents = codes "/_matrix/federation/v1/get_missing_events/{room_id}"
+pattern_of MakeJoin = codes "/_matrix/federation/v1/make_join/{room_id}/{user_id}"
+pattern_of SendJoin = codes "/_matrix/federation/v2/send_join/{room_id}/{event_id}"
+
 abbrev pub Table : Type 0
 Table = RowsOf (RouteOf Route)
 
@@ -42,20 +54,16 @@ abbrev pub add : Result Scan InsertError → Route → Table → Table
 add (Ok s) route rows = placed (s.pattern, route_from s route) rows
 add (Err e) route rows = rows
 
-abbrev pub with_route : List ℕ → Route → Table → Table
-with_route path route rows = add (parse_route path) route rows
+abbrev pub with_route : Route → Table → Table
+with_route route rows = add (parse_route (pattern_of route)) route rows
 
 unfoldable pub table : Table
 table =
-    with_route (codes "/_matrix/federation/v2/send_join/{room_id}/{event_id}") SendJoin
-    (with_route (codes "/_matrix/federation/v1/make_join/{room_id}/{user_id}") MakeJoin
-    (with_route (codes "/_matrix/federation/v1/get_missing_events/{room_id}") GetMissingEvents
-    (with_route (codes "/_matrix/federation/v1/backfill/{room_id}") Backfill
-    (with_route (codes "/_matrix/federation/v1/event_auth/{room_id}/{event_id}") EventAuth
-    (with_route (codes "/_matrix/federation/v1/state_ids/{room_id}") StateIds
-    (with_route (codes "/_matrix/federation/v1/state/{room_id}") State
-    (with_route (codes "/_matrix/federation/v1/event/{event_id}") Event
-    (with_route (codes "/_matrix/federation/v1/send/{txn_id}") Send []))))))))
+    with_route SendJoin
+    (with_route MakeJoin
+    (with_route GetMissingEvents
+    (with_route Backfill
+    (with_route EventAuth (with_route StateIds (with_route State (with_route Event (with_route Send []))))))))
 
 abbrev pub method_of : Route → List ℕ
 method_of Send = codes "PUT"

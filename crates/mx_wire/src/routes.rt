@@ -8,29 +8,37 @@ use std::alloc::{AllocError, Global};
 /// What a request asks: one of the routes under `/_matrix/federation`.
 #[derive(Clone, Copy, Debug, PartialEq, Eq, Drop)]
 pub enum Route {
-    // v1/send/{txn_id}
     Send,
-    // v1/event/{event_id}
     Event,
-    // v1/state/{room_id}
     State,
-    // v1/state_ids/{room_id}
     StateIds,
-    // v1/event_auth/{room_id}/{event_id}
     EventAuth,
-    // v1/backfill/{room_id}
     Backfill,
-    // v1/get_missing_events/{room_id}
     GetMissingEvents,
-    // v1/make_join/{room_id}/{user_id}
     MakeJoin,
-    // v2/send_join/{room_id}/{event_id}
     SendJoin,
 }
 
 impl Route {
     ghost use Rattle.std.specs.Prelude.{◌≡◌};
-    ghost use Rattle.mx_wire.specs.Targets.{method_of};
+    ghost use Rattle.mx_wire.specs.Targets.{method_of, pattern_of};
+
+    /// The pattern of its paths, in which a parameter stands in braces.
+    pub fn pattern(self) -> &'static str
+        ensures { result.now ≡ pattern_of self }
+    {
+        match self {
+            Route::Send => "/_matrix/federation/v1/send/{txn_id}",
+            Route::Event => "/_matrix/federation/v1/event/{event_id}",
+            Route::State => "/_matrix/federation/v1/state/{room_id}",
+            Route::StateIds => "/_matrix/federation/v1/state_ids/{room_id}",
+            Route::EventAuth => "/_matrix/federation/v1/event_auth/{room_id}/{event_id}",
+            Route::Backfill => "/_matrix/federation/v1/backfill/{room_id}",
+            Route::GetMissingEvents => "/_matrix/federation/v1/get_missing_events/{room_id}",
+            Route::MakeJoin => "/_matrix/federation/v1/make_join/{room_id}/{user_id}",
+            Route::SendJoin => "/_matrix/federation/v2/send_join/{room_id}/{event_id}",
+        }
+    }
 
     /// The one method of the route.
     pub fn method(self) -> &'static str
@@ -59,51 +67,15 @@ impl Routes {
     /// The table. `AllocError` is its one error.
     pub fn new(alloc: Global) -> Result<Routes, AllocError> {
         let mut router = Router::new(alloc);
-        add(
-            &mut router,
-            "/_matrix/federation/v1/send/{txn_id}",
-            Route::Send,
-        )?;
-        add(
-            &mut router,
-            "/_matrix/federation/v1/event/{event_id}",
-            Route::Event,
-        )?;
-        add(
-            &mut router,
-            "/_matrix/federation/v1/state/{room_id}",
-            Route::State,
-        )?;
-        add(
-            &mut router,
-            "/_matrix/federation/v1/state_ids/{room_id}",
-            Route::StateIds,
-        )?;
-        add(
-            &mut router,
-            "/_matrix/federation/v1/event_auth/{room_id}/{event_id}",
-            Route::EventAuth,
-        )?;
-        add(
-            &mut router,
-            "/_matrix/federation/v1/backfill/{room_id}",
-            Route::Backfill,
-        )?;
-        add(
-            &mut router,
-            "/_matrix/federation/v1/get_missing_events/{room_id}",
-            Route::GetMissingEvents,
-        )?;
-        add(
-            &mut router,
-            "/_matrix/federation/v1/make_join/{room_id}/{user_id}",
-            Route::MakeJoin,
-        )?;
-        add(
-            &mut router,
-            "/_matrix/federation/v2/send_join/{room_id}/{event_id}",
-            Route::SendJoin,
-        )?;
+        add(&mut router, Route::Send)?;
+        add(&mut router, Route::Event)?;
+        add(&mut router, Route::State)?;
+        add(&mut router, Route::StateIds)?;
+        add(&mut router, Route::EventAuth)?;
+        add(&mut router, Route::Backfill)?;
+        add(&mut router, Route::GetMissingEvents)?;
+        add(&mut router, Route::MakeJoin)?;
+        add(&mut router, Route::SendJoin)?;
         Ok(Routes { router })
     }
 
@@ -122,10 +94,10 @@ impl Routes {
     }
 }
 
-fn add(router: &mut Router<Route>, path: &str, route: Route) -> Result<(), AllocError>
-    ensures { OnOk result (router.new ≡ definition.with_route path.now route router.old) }
+fn add(router: &mut Router<Route>, route: Route) -> Result<(), AllocError>
+    ensures { OnOk result (router.new ≡ definition.with_route route router.old) }
 {
-    match router.insert(path, route) {
+    match router.insert(route.pattern(), route) {
         Ok(()) => Ok(()),
         Err(_) => Err(AllocError),
     }
