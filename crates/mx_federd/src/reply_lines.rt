@@ -35,9 +35,8 @@ fn room_line(alloc: Global, answer: &Answer) -> Result<Vec<u8>, AllocError> {
             let refused = refusal(alloc, *error)?;
             json!(in alloc; {"refused": refused.as_str()})?.to_vec(alloc)
         }
-        Answer::NotHosted | Answer::ToOffered(_) | Answer::ToAsked(_) => {
-            processing_result(alloc, answer)?.to_vec(alloc)
-        }
+        Answer::ToOffered(outcome) => processing_result(alloc, Some(*outcome))?.to_vec(alloc),
+        Answer::NotHosted | Answer::ToAsked(_) => processing_result(alloc, None)?.to_vec(alloc),
     }
 }
 
@@ -50,7 +49,7 @@ fn refusal(alloc: Global, error: NotARoom) -> Result<String, AllocError> {
 }
 
 fn event_line(alloc: Global, told: &Told) -> Result<Vec<u8>, AllocError> {
-    let result = processing_result(alloc, &told.answer)?;
+    let result = processing_result(alloc, told.outcome)?;
     json!(in alloc; {"id": told.id.as_str(), "reply": result})?.to_vec(alloc)
 }
 

@@ -1,4 +1,7 @@
 // Queries and what they give.
+ghost use Rattle.std.specs.Prelude.{◌≡◌, option_copied};
+ghost use Rattle.mx_room.specs.Queries.{room_named};
+
 use crate::event_lists::{EventIdList, EventList};
 use mx_ident::{EventId, RoomId};
 use mx_pdu::Pdu;
@@ -40,6 +43,22 @@ pub enum Query {
         limit: u64,
         min_depth: u64,
     },
+}
+
+impl Query {
+    /// The room that it names; none for an event by its id alone.
+    pub fn room(&self) -> Option<&RoomId>
+        ensures { option_copied result ≡ room_named self.now }
+    {
+        match self {
+            Query::Event(_) => None,
+            Query::State { room, .. } => Some(room),
+            Query::StateIds { room, .. } => Some(room),
+            Query::EventAuth { room, .. } => Some(room),
+            Query::Backfill { room, .. } => Some(room),
+            Query::Missing { room, .. } => Some(room),
+        }
+    }
 }
 
 /// What a query gives.

@@ -39,13 +39,13 @@ made_id rooms caller o new made = ap (λ (room : RoomView). room.id) made.room
 pub host_answered : (xs rooms : List RoomView) (caller : ℕ) (o : Offered) (h : Hosting) (a : Answer) → xs ≡ rooms → h ≡ hosts.Answered a → IsHosting xs caller o h → IsAnswered (rows_in rooms (room_of o.pdu)) (to_host o) a
 host_answered xs rooms caller o h a e is told = subst (λ rs. IsAnswered (rows_in rs (room_of o.pdu)) (to_host o) a) e (subst (IsHosting xs caller o) is told)
 
-pub prepared_of : (xs rooms after : List RoomView) (numbers : BTreeMap (List ℕ) ℕ) (caller : ℕ) (o : Offered) (f : Offering) (new : NewRow) → xs ≡ rooms → f ≡ offers.Prepared new → IsOffering xs after numbers caller o f → IsNewRow rooms after numbers caller o new
-prepared_of xs rooms after numbers caller o f new e is told = subst (λ rs. IsNewRow rs after numbers caller o new) e (subst (IsOffering xs after numbers caller o) is told)
+pub prepared_of : (xs rooms after : List RoomView) (numbers : BTreeMap (List ℕ) ℕ) (caller : ℕ) (origin : List ℕ) (o : Offered) (f : Offering) (new : NewRow) → xs ≡ rooms → f ≡ offers.Prepared new → IsOffering xs after numbers caller origin o f → IsNewRow rooms after numbers caller origin o new
+prepared_of xs rooms after numbers caller origin o f new e is told = subst (λ rs. IsNewRow rs after numbers caller origin o new) e (subst (IsOffering xs after numbers caller origin o) is told)
 
-pub offer_told : (xs rooms after : List RoomView) (numbers : BTreeMap (List ℕ) ℕ) (caller : ℕ) (o : Offered) (f : Offering) (a : Answer) → xs ≡ rooms → f ≡ offers.Answered a → IsOffering xs after numbers caller o f →
-    (after ≡ rooms) × ((origin : List ℕ) → IsAnswered (rows_in rooms (room_of o.pdu)) (to_offer origin o) a)
-offer_told xs rooms after numbers caller o f a e is told =
-    subst (λ rs. (after ≡ rs) × ((origin : List ℕ) → IsAnswered (rows_in rs (room_of o.pdu)) (to_offer origin o) a)) e (subst (IsOffering xs after numbers caller o) is told)
+pub offer_told : (xs rooms after : List RoomView) (numbers : BTreeMap (List ℕ) ℕ) (caller : ℕ) (origin : List ℕ) (o : Offered) (f : Offering) (a : Answer) → xs ≡ rooms → f ≡ offers.Answered a → IsOffering xs after numbers caller origin o f →
+    (after ≡ rooms) × IsAnswered (rows_in rooms (room_of o.pdu)) (to_offer origin o) a
+offer_told xs rooms after numbers caller origin o f a e is told =
+    subst (λ rs. (after ≡ rs) × IsAnswered (rows_in rs (room_of o.pdu)) (to_offer origin o) a) e (subst (IsOffering xs after numbers caller origin o) is told)
 
 -- what a slice of a `Vec` holds when it is given back
 pub written_back : (len : ℕ) (items given : List RoomView) → len ≡ length items → length given ≡ length items → take len (given ++ drop (length given) items) ≡ given
@@ -82,17 +82,17 @@ new_hosted rooms o missing free = ap tells_hosted (ap (λ room. answer (rows_at 
 
 -- ---- an event that is offered to a room with events
 
-pub offer_answer : (kept : List Kept) (origin : List ℕ) (o : Offered) → IsHosted kept → ToOffered (offer_outcome kept o) ≡ answer kept (to_offer origin o)
+pub offer_answer : (kept : List Kept) (origin : List ℕ) (o : Offered) → IsHosted kept → ToOffered (offer_outcome kept origin o) ≡ answer kept (to_offer origin o)
 offer_answer [] origin o h = absurd (omega arith)
 offer_answer (k ∷ ks) origin o h = refl
 
-pub offer_added : (kept : List Kept) (origin : List ℕ) (o : Offered) → IsHosted kept → option_to_list (row_by o (offer_outcome kept o)) ≡ added kept (to_offer origin o)
+pub offer_added : (kept : List Kept) (origin : List ℕ) (o : Offered) → IsHosted kept → option_to_list (row_by o (offer_outcome kept origin o)) ≡ added kept (to_offer origin o)
 offer_added [] origin o h = absurd (omega arith)
 offer_added (k ∷ ks) origin o h = refl
 
-pub kept_told : (rooms : List RoomView) (numbers : BTreeMap (List ℕ) ℕ) (o : Offered) (n : ℕ) (d : RoomView) → IsNumbered numbers rooms → number_of numbers (room_of o.pdu) ≡ Some n → All IsReady rooms →
-    IsTrue (is_kept (offer_outcome (get_or rooms n d).kept o)) → (origin : List ℕ) → IsTrue (tells_kept (answer (rows_in rooms (room_of o.pdu)) (to_offer origin o)))
-kept_told rooms numbers o n d numbered held ready told origin =
+pub kept_told : (rooms : List RoomView) (numbers : BTreeMap (List ℕ) ℕ) (origin : List ℕ) (o : Offered) (n : ℕ) (d : RoomView) → IsNumbered numbers rooms → number_of numbers (room_of o.pdu) ≡ Some n → All IsReady rooms →
+    IsTrue (is_kept (offer_outcome (get_or rooms n d).kept origin o)) → IsTrue (tells_kept (answer (rows_in rooms (room_of o.pdu)) (to_offer origin o)))
+kept_told rooms numbers origin o n d numbered held ready told =
     let found = room_found numbers rooms (room_of o.pdu) n numbered held in
     let at : get_or rooms n d ≡ room_at rooms n = get_or_default rooms n d no_room found.within in
     let mine : IsReady (get_or rooms n d) = subst IsReady (sym at) (ready n no_room found.within) in
@@ -114,36 +114,36 @@ no_row f None e = refl
 no_row f (Some k) e = absurd (cc e)
 
 -- the room with this number, which is read at d, is now r'
-module _ (rooms : List RoomView) (numbers : BTreeMap (List ℕ) ℕ) (caller : ℕ) (o : Offered) (n : ℕ) (d r' : RoomView) (x : Outcome) (told : Option ShardRow)
-    (numbered : IsNumbered numbers rooms) (held : number_of numbers (room_of o.pdu) ≡ Some n) (outcome : x ≡ offer_outcome (get_or rooms n d).kept o)
-    (rows : told ≡ option_map (row_for (room_of o.pdu) caller) (row_by o (offer_outcome (get_or rooms n d).kept o))) (prepared : r' ≡ with_prepared (get_or rooms n d) (row_by o (offer_outcome (get_or rooms n d).kept o))) where
+module _ (rooms : List RoomView) (numbers : BTreeMap (List ℕ) ℕ) (caller : ℕ) (origin : List ℕ) (o : Offered) (n : ℕ) (d r' : RoomView) (x : Outcome) (told : Option ShardRow)
+    (numbered : IsNumbered numbers rooms) (held : number_of numbers (room_of o.pdu) ≡ Some n) (outcome : x ≡ offer_outcome (get_or rooms n d).kept origin o)
+    (rows : told ≡ option_map (row_for (room_of o.pdu) caller) (row_by o (offer_outcome (get_or rooms n d).kept origin o))) (prepared : r' ≡ with_prepared (get_or rooms n d) (row_by o (offer_outcome (get_or rooms n d).kept origin o))) where
   pub number_within : n < length rooms
   number_within = (room_found numbers rooms (room_of o.pdu) n numbered held).within
 
   at : get_or rooms n d ≡ room_at rooms n
   at = get_or_default rooms n d no_room number_within
 
-  pub new_row : (row : ShardRow) → told ≡ Some row → IsNewRow rooms (set rooms n r') numbers caller o (record { number = n; outcome = x; row = row })
+  pub new_row : (row : ShardRow) → told ≡ Some row → IsNewRow rooms (set rooms n r') numbers caller origin o (record { number = n; outcome = x; row = row })
   new_row row some =
       let r : RoomView = get_or rooms n d in
-      let s = some_row (row_for (room_of o.pdu) caller) (row_by o (offer_outcome r.kept o)) row (sym some ∙ rows) in
+      let s = some_row (row_for (room_of o.pdu) caller) (row_by o (offer_outcome r.kept origin o)) row (sym some ∙ rows) in
       record {
         kept = s.0;
         found = held;
-        outcome = outcome ∙ ap (λ (q : RoomView). offer_outcome q.kept o) at;
-        adds = ap (λ (q : RoomView). row_by o (offer_outcome q.kept o)) (sym at) ∙ s.1;
+        outcome = outcome ∙ ap (λ (q : RoomView). offer_outcome q.kept origin o) at;
+        adds = ap (λ (q : RoomView). row_by o (offer_outcome q.kept origin o)) (sym at) ∙ s.1;
         rooms = ap (set rooms n) (prepared ∙ ap (with_prepared r) s.1 ∙ ap (λ (q : RoomView). with_prepared q (Some s.0)) at);
         row = s.2;
       }
 
-  pub nothing_new : All IsReady rooms → told ≡ None → (set rooms n r' ≡ rooms) × ((origin : List ℕ) → IsAnswered (rows_in rooms (room_of o.pdu)) (to_offer origin o) (ToOffered x))
+  pub nothing_new : All IsReady rooms → told ≡ None → (set rooms n r' ≡ rooms) × IsAnswered (rows_in rooms (room_of o.pdu)) (to_offer origin o) (ToOffered x)
   nothing_new ready none =
       let r : RoomView = get_or rooms n d in
-      let v : row_by o (offer_outcome r.kept o) ≡ None = no_row (row_for (room_of o.pdu) caller) (row_by o (offer_outcome r.kept o)) (sym none ∙ rows) in
+      let v : row_by o (offer_outcome r.kept origin o) ≡ None = no_row (row_for (room_of o.pdu) caller) (row_by o (offer_outcome r.kept origin o)) (sym none ∙ rows) in
       let mine : IsReady r = subst IsReady (sym at) (ready n no_room number_within) in
       let same : rows_in rooms (room_of o.pdu) ≡ r.kept = rows_found rooms (room_of o.pdu) n (room_found numbers rooms (room_of o.pdu) n numbered held) ∙ ap (λ (q : RoomView). q.kept) (sym at) in (
         ap (set rooms n) (prepared ∙ ap (with_prepared r) (v ∙ sym mine.free) ∙ at) ∙ set-get_or rooms n no_room,
-        λ origin. record {
+        record {
           answer = ap ToOffered outcome ∙ offer_answer r.kept origin o mine.hosted ∙ ap (λ kept. answer kept (to_offer origin o)) (sym same);
           nothing = ap (λ kept. added kept (to_offer origin o)) same ∙ sym (offer_added r.kept origin o mine.hosted) ∙ ap option_to_list v;
         },

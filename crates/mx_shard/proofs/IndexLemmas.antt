@@ -144,10 +144,6 @@ pub either_left : {P : Type 0} (left new given : Option (List ShardRow)) → P �
 either_left left new given (inl was) e = inl was
 either_left left new given (inr h) e = inr (h ∙ e)
 
-pub either_each : {P : Type 0} (left new : Option (List ShardRow)) (given : List ℕ → Option (List ShardRow)) → P ⊎ (left ≡ new) → ((origin : List ℕ) → new ≡ given origin) → P ⊎ ((origin : List ℕ) → left ≡ given origin)
-either_each left new given (inl was) e = inl was
-either_each left new given (inr h) e = inr (λ origin. h ∙ e origin)
-
 -- nothing is added
 pub journal_same : (journal : List Entry) (caller : ℕ) (id : List ℕ) (call : Call) → added (record_of journal id) call ≡ [] → journal ≡ journal_after journal caller id call
 journal_same journal caller id call none = sym (ap (λ ks. journal ++ map (entry_of id caller) ks) none ∙ append-nil journal)
@@ -272,8 +268,8 @@ pub place_kept : (n caller : ℕ) (rooms rooms' : List RoomView) (places places'
     after ≡ places ++ record { room = n; row = length (room_at rooms n).kept; caller = caller } ∷ [] → after ≡ places' ++ record { room = n; row = length (room_at rooms' n).kept; caller = caller } ∷ []
 place_kept n caller rooms rooms' places places' after e f is = is ∙ (λ i. f i ++ record { room = n; row = length (room_at (e i) n).kept; caller = caller } ∷ [])
 
-module _ (before mid : List RoomView) (numbers : BTreeMap (List ℕ) ℕ) (places : List JournalPlace) (caller : ℕ) (o : Offered) (new : NewRow)
-    (indexed : IsIndexed before numbers places) (made : IsNewRow before mid numbers caller o new) where
+module _ (before mid : List RoomView) (numbers : BTreeMap (List ℕ) ℕ) (places : List JournalPlace) (caller : ℕ) (origin : List ℕ) (o : Offered) (new : NewRow)
+    (indexed : IsIndexed before numbers places) (made : IsNewRow before mid numbers caller origin o new) where
   abbrev old : RoomView
   old = room_at before new.number
 
@@ -286,24 +282,24 @@ module _ (before mid : List RoomView) (numbers : BTreeMap (List ℕ) ℕ) (place
   is_ready : IsReady old
   is_ready = indexed.ready new.number no_room found.within
 
-  offer_adds : (origin : List ℕ) → added (rows_in before (room_of o.pdu)) (to_offer origin o) ≡ made.kept ∷ []
-  offer_adds origin =
+  offer_adds : added (rows_in before (room_of o.pdu)) (to_offer origin o) ≡ made.kept ∷ []
+  offer_adds =
       ap (λ rows. added rows (to_offer origin o)) own_rows ∙ sym (offer_added old.kept origin o is_ready.hosted)
       ∙ ap option_to_list made.adds
 
-  pub offer_reply : (origin : List ℕ) → ToOffered new.outcome ≡ answer (record_of (journal_of before places) (room_of o.pdu)) (to_offer origin o)
-  offer_reply origin =
+  pub offer_reply : ToOffered new.outcome ≡ answer (record_of (journal_of before places) (room_of o.pdu)) (to_offer origin o)
+  offer_reply =
       ap ToOffered made.outcome ∙ offer_answer old.kept origin o is_ready.hosted
       ∙ ap (λ rows. answer rows (to_offer origin o)) (sym (indexed.records (room_of o.pdu) ∙ own_rows))
 
-  pub offer_kept : (origin : List ℕ) → IsTrue (tells_kept (answer (record_of (journal_of before places) (room_of o.pdu)) (to_offer origin o)))
-  offer_kept origin = ap tells_kept (sym (offer_reply origin)) ∙ row_kept o new.outcome made.kept (ap (row_by o) made.outcome ∙ made.adds)
+  pub offer_kept : IsTrue (tells_kept (answer (record_of (journal_of before places) (room_of o.pdu)) (to_offer origin o)))
+  offer_kept = ap tells_kept (sym offer_reply) ∙ row_kept o new.outcome made.kept (ap (row_by o) made.outcome ∙ made.adds)
 
-  pub offer_stored : (origin : List ℕ) (rows : Option (List ShardRow)) → rows ≡ Some (stored (journal_of before places)) →
+  pub offer_stored : (rows : Option (List ShardRow)) → rows ≡ Some (stored (journal_of before places)) →
       with_row rows new.row ≡ Some (stored (journal_after (journal_of before places) caller (room_of o.pdu) (to_offer origin o)))
-  offer_stored origin rows is =
+  offer_stored rows is =
       stored_after rows (journal_of before places) caller (room_of o.pdu) (to_offer origin o) made.kept new.row is
-      (ap (λ rows. added rows (to_offer origin o)) (indexed.records (room_of o.pdu)) ∙ offer_adds origin) made.row
+      (ap (λ rows. added rows (to_offer origin o)) (indexed.records (room_of o.pdu)) ∙ offer_adds) made.row
 
   pub number_below : new.number < length mid
   number_below = let l : new.number < length before = found.within in subst (λ (rs : List RoomView). new.number < length rs) (sym made.rooms) (omega (arith, length-set before new.number (with_prepared old (Some made.kept))))
@@ -329,8 +325,8 @@ module _ (before mid : List RoomView) (numbers : BTreeMap (List ℕ) ℕ) (place
   at-number : room_at (set before new.number grown) new.number ≡ grown
   at-number = get_or-set_same before new.number grown no_room found.within
 
-  offer_one : (origin : List ℕ) → IsAfter before (set before new.number grown) numbers places (places ++ last_place ∷ []) caller (room_of o.pdu) (to_offer origin o)
-  offer_one origin =
+  offer_one : IsAfter before (set before new.number grown) numbers places (places ++ last_place ∷ []) caller (room_of o.pdu) (to_offer origin o)
+  offer_one =
       index-more before (set before new.number grown) numbers numbers places last_place caller (room_of o.pdu) (to_offer origin o) made.kept indexed
       (grows-set before new.number grown (made.kept ∷ []) found.within refl refl)
       (numbers_set numbers before new.number grown (room_of o.pdu) indexed.numbered found (id_found before (room_of o.pdu) new.number found))
@@ -342,16 +338,16 @@ module _ (before mid : List RoomView) (numbers : BTreeMap (List ℕ) ℕ) (place
       (ap (λ r. entry_in r last_place) at-number
       ∙ ap (λ id. entry_of id caller (kept_at (old.kept ++ made.kept ∷ []) (length old.kept))) (id_found before (room_of o.pdu) new.number found)
       ∙ ap (entry_of (room_of o.pdu) caller) (get_or_push old.kept made.kept (kept_at [] 0) (length old.kept) refl))
-      (offer_adds origin)
+      offer_adds
       (λ q. rows_set before new.number grown (room_of o.pdu) found (id_found before (room_of o.pdu) new.number found) q ∙ ap (λ ks. cond (bytes_eq (room_of o.pdu) q) (ks ++ made.kept ∷ []) (rows_in before q)) (sym own_rows))
 
-  pub offer_after : (origin : List ℕ) (after : List RoomView) (places' : List JournalPlace) → after ≡ set mid new.number (with_kept (room_at mid new.number) (room_at mid new.number).prepared) →
+  pub offer_after : (after : List RoomView) (places' : List JournalPlace) → after ≡ set mid new.number (with_kept (room_at mid new.number) (room_at mid new.number).prepared) →
       places' ≡ places ++ record { room = new.number; row = length (room_at mid new.number).kept; caller = caller } ∷ [] → IsAfter before after numbers places places' caller (room_of o.pdu) (to_offer origin o)
-  offer_after origin after places' is more =
+  offer_after after places' is more =
       let rooms : after ≡ set before new.number grown =
       is ∙ ap (λ (r : RoomView). set mid new.number (with_kept r r.prepared)) prepared_at
       ∙ ap (λ (rs : List RoomView). set rs new.number grown) made.rooms
       ∙ set-set before new.number (with_prepared old (Some made.kept)) grown in
       let ps : places' ≡ places ++ last_place ∷ [] = more ∙ ap (λ (r : RoomView). places ++ (let p : JournalPlace = record { room = new.number; row = length r.kept; caller = caller } in p) ∷ []) prepared_at in
       subst (λ rs. IsAfter before rs numbers places places' caller (room_of o.pdu) (to_offer origin o)) (sym rooms)
-      (subst (λ qs. IsAfter before (set before new.number grown) numbers places qs caller (room_of o.pdu) (to_offer origin o)) (sym ps) (offer_one origin))
+      (subst (λ qs. IsAfter before (set before new.number grown) numbers places qs caller (room_of o.pdu) (to_offer origin o)) (sym ps) offer_one)

@@ -12,13 +12,14 @@ use Rattle.mx_graph.specs.Adding.{most_rows}
 use Rattle.mx_graph.specs.Record.{place_of}
 use Rattle.mx_keeper.specs.Places.{PlaceView, is_at}
 use Rattle.mx_receipt.specs.Receipt.{Kept, begun, received, rows_of, kept_at, lacks_cited, verdict}
+use Rattle.mx_access.specs.Acl.{acl_allows}
 use Rattle.mx_room.specs.Hosting.{host_error}
-use Rattle.mx_room.specs.Offer.{Offered, as_kept, new_outcome, offer_outcome, row_by}
+use Rattle.mx_room.specs.Offer.{Offered, as_kept, new_outcome, allowed_outcome, offer_outcome, row_by}
 use Rattle.mx_room.specs.declared.hosting.NotARoom.{NotARoom}
 use Rattle.mx_room.specs.declared.outcomes.Outcome.{Outcome}
 use Rattle.mx_room.specs.declared.outcomes.Outcome.TheVariants as outcome
 use Rattle.mx_room.specs.declared.outcomes.Refusal.{Refusal}
-use Rattle.mx_room.specs.declared.outcomes.Refusal.TheVariants.{SecondCreate, Signature, MissingEvents, RoomFull}
+use Rattle.mx_room.specs.declared.outcomes.Refusal.TheVariants.{AccessList, SecondCreate, Signature, MissingEvents, RoomFull}
 use Rattle.mx_shard.specs.LoneRoom.{Call, to_host, to_offer, to_ask, added, first_rows}
 use Rattle.mx_shard.specs.Journal.{Entry, entries_of, record_by, record_of, entry_of, journal_after}
 
@@ -53,13 +54,14 @@ received-by : (kept : List Kept) (o : Offered) (found : Option ℕ) →
 received-by kept o None = received-new kept o
 received-by kept o (Some p) = record { is = sym (append-nil kept) }
 
-received-offer : (kept : List Kept) (o : Offered) → IsReceived kept o (offer_outcome kept o)
-unfolding offer_outcome
-received-offer kept o = received-by kept o (place_of (rows_of kept) o.id)
+received-offer : (kept : List Kept) (origin : List ℕ) (o : Offered) → IsReceived kept o (offer_outcome kept origin o)
+unfolding offer_outcome allowed_outcome
+received-offer kept origin o =
+    received-if kept o (acl_allows kept origin) _ _ (received-by kept o (place_of (rows_of kept) o.id)) (received-refused kept o AccessList)
 
 received-call : (k : Kept) (ks : List Kept) (call : Call) → fold received (k ∷ ks) (map arrival (added (k ∷ ks) call)) ≡ (k ∷ ks) ++ added (k ∷ ks) call
 received-call k ks (to_host o) = sym (append-nil (k ∷ ks))
-received-call k ks (to_offer origin o) = (received-offer (k ∷ ks) o).is
+received-call k ks (to_offer origin o) = (received-offer (k ∷ ks) origin o).is
 received-call k ks (to_ask origin now q) = sym (append-nil (k ∷ ks))
 
 -- ---- the record of entries, and then others

@@ -16,13 +16,14 @@ use Rattle.mx_graph.specs.Adding.{most_rows}
 use Rattle.mx_graph.specs.Record.{Row, place_of}
 use Rattle.mx_receipt.specs.Receipt.{Kept, begun, received, judged, rows_of, kept_at, is_rejected, lacks_cited, verdict}
 use Rattle.mx_receipt.specs.declared.verdicts.Verdict.{Verdict}
+use Rattle.mx_access.specs.Acl.{acl_allows}
 use Rattle.mx_room.specs.Hosting.{host_error}
-use Rattle.mx_room.specs.Offer.{Offered, as_kept, new_outcome, offer_outcome, row_by}
+use Rattle.mx_room.specs.Offer.{Offered, as_kept, new_outcome, allowed_outcome, offer_outcome, row_by}
 use Rattle.mx_room.specs.declared.hosting.NotARoom.{NotARoom}
 use Rattle.mx_room.specs.declared.hosting.NotARoom.TheVariants.{NotACreateEvent, CitesAuthEvents, Unsigned}
 use Rattle.mx_room.specs.declared.outcomes.Outcome.{Outcome}
 use Rattle.mx_room.specs.declared.outcomes.Outcome.TheVariants as outcome
-use Rattle.mx_room.specs.declared.outcomes.Refusal.TheVariants.{SecondCreate, Signature, MissingEvents, RoomFull}
+use Rattle.mx_room.specs.declared.outcomes.Refusal.TheVariants.{AccessList, SecondCreate, Signature, MissingEvents, RoomFull}
 use Rattle.mx_shard.specs.LoneRoom.{Call, to_host, to_offer, to_ask, call_room, added, first_rows}
 use Rattle.mx_shard.specs.Journal.{Entry, entries_of, record_by, record_of, entry_of, journal_after, is_first, has_id, may_follow, all_follow, are_legal, IsLegal}
 use Rattle.mx_shard.proofs.JournalLaws.{of_entry, IsFilled, record-filled, entries-append, entries-same, entries-other}
@@ -108,15 +109,23 @@ taken-by false true true full v w e = absurd (cc e)
 taken-by false true false true v w e = absurd (cc e)
 taken-by false true false false v w e = (refl, refl, refl)
 
-taken-of : (kept : List Kept) (o : Offered) (w : Verdict) → offer_outcome kept o ≡ outcome.Kept w → IsTaken kept o
-unfolding offer_outcome
-taken-of kept o w e =
+taken-allowed : (kept : List Kept) (o : Offered) (w : Verdict) → allowed_outcome kept o ≡ outcome.Kept w → IsTaken kept o
+unfolding allowed_outcome
+taken-allowed kept o w e =
     elim (place_of (rows_of kept) o.id) as (λ p. is_some (place_of (rows_of kept) o.id) ≡ is_some p → (elim p [ None ↦ new_outcome kept o.signed (as_kept o) | Some n ↦ outcome.Known (kept_at kept n).verdict ]) ≡ outcome.Kept w → IsTaken kept o) [
       | None ↦ λ is h.
           let parts = taken-by (has_kind (codes "m.room.create") (as_kept o)) o.signed (lacks_cited (rows_of kept) (as_kept o)) (nat_le most_rows (length kept)) (verdict kept (as_kept o)) w h in
           record { new = is; other = parts.0; cites = parts.1; few = parts.2 }
       | Some n ↦ λ is h. absurd (cc h)
     ] refl e
+
+allowed-by : (b : Bool) (x : Outcome) (w : Verdict) → (if b then x else outcome.Refused AccessList) ≡ outcome.Kept w → x ≡ outcome.Kept w
+allowed-by true x w e = e
+allowed-by false x w e = absurd (cc e)
+
+taken-of : (kept : List Kept) (origin : List ℕ) (o : Offered) (w : Verdict) → offer_outcome kept origin o ≡ outcome.Kept w → IsTaken kept o
+unfolding offer_outcome
+taken-of kept origin o w e = taken-allowed kept o w (allowed-by (acl_allows kept origin) (allowed_outcome kept o) w e)
 
 room-kept : (o : Offered) → room_of (as_kept o) ≡ room_of o.pdu
 room-kept o = elim (hash_holds o.pdu) as (λ b. room_of (if b then o.pdu else redact o.pdu) ≡ room_of o.pdu) [
@@ -166,14 +175,14 @@ taken-follows es o room caller v taken =
     (and_from (not (has_kind (codes "m.room.create") (as_kept o))) (not (has_id es o.id)) (ap not taken.other) (ap not (sym (known-is es o.id) ∙ taken.new)))
     (cited-are es (prev_ids (as_kept o) ++ auth_ids (as_kept o)) taken.cites)
 
-legal-offer : (room : List ℕ) (caller : ℕ) (e : Entry) (es : List Entry) (o : Offered) (x : Outcome) → offer_outcome (record_by (e ∷ es)) o ≡ x → room_of o.pdu ≡ room → are_legal (e ∷ es) ≡ true →
+legal-offer : (room : List ℕ) (caller : ℕ) (e : Entry) (es : List Entry) (origin : List ℕ) (o : Offered) (x : Outcome) → offer_outcome (record_by (e ∷ es)) origin o ≡ x → room_of o.pdu ≡ room → are_legal (e ∷ es) ≡ true →
     are_legal ((e ∷ es) ++ map (entry_of room caller) (option_to_list (row_by o x))) ≡ true
-legal-offer room caller e es o (outcome.Kept v) is at legal =
-    let taken = taken-of (record_by (e ∷ es)) o v is in
+legal-offer room caller e es origin o (outcome.Kept v) is at legal =
+    let taken = taken-of (record_by (e ∷ es)) origin o v is in
     legal-push e es (entry_of room caller (record { id = o.id; event = as_kept o; verdict = v })) legal (taken-follows (e ∷ es) o room caller v taken)
     (ap (nat_le most_rows) (sym (record-length (e ∷ es))) ∙ taken.few) (ap (λ r. bytes_eq r room) (room-kept o ∙ at) ∙ text-self room)
-legal-offer room caller e es o (outcome.Known v) is at legal = ap are_legal (append-nil (e ∷ es)) ∙ legal
-legal-offer room caller e es o (outcome.Refused r) is at legal = ap are_legal (append-nil (e ∷ es)) ∙ legal
+legal-offer room caller e es origin o (outcome.Known v) is at legal = ap are_legal (append-nil (e ∷ es)) ∙ legal
+legal-offer room caller e es origin o (outcome.Refused r) is at legal = ap are_legal (append-nil (e ∷ es)) ∙ legal
 
 legal-filled : (room : List ℕ) (caller : ℕ) (e : Entry) (es : List Entry) (kept : List Kept) (call : Call) → IsFilled kept → record_by (e ∷ es) ≡ kept → call_room call ≡ Some room → are_legal (e ∷ es) ≡ true →
     are_legal ((e ∷ es) ++ map (entry_of room caller) (added kept call)) ≡ true
@@ -181,7 +190,7 @@ legal-filled room caller e es [] call h is at legal = elim h [ ]
 legal-filled room caller e es (k ∷ ks) (to_host o) h is at legal = ap are_legal (append-nil (e ∷ es)) ∙ legal
 legal-filled room caller e es (k ∷ ks) (to_ask origin now q) h is at legal = ap are_legal (append-nil (e ∷ es)) ∙ legal
 legal-filled room caller e es (k ∷ ks) (to_offer origin o) h is at legal =
-    legal-offer room caller e es o (offer_outcome (k ∷ ks) o) (ap (λ kept. offer_outcome kept o) is) (let own : room_of o.pdu ≡ room = cc in own) legal
+    legal-offer room caller e es origin o (offer_outcome (k ∷ ks) origin o) (ap (λ kept. offer_outcome kept origin o) is) (let own : room_of o.pdu ≡ room = cc in own) legal
 
 -- the signature of what makes a room holds
 not_refused : {X : Type 0} (b : Bool) (r : X) (next : Option X) → refuse_if b r next ≡ None → (b ≡ false) × (next ≡ None)

@@ -1,26 +1,28 @@
 -- The rooms of a shard: what is kept under each id, and what they show.
-use Rattle.std.proofs.Common.{◌≡◌, ℕ, suc, ◌+◌, ◌<◌, ◌≤◌, true, false, cond, List, [], ◌∷◌, ◌++◌, length, get_or, set, Option, Some, None, Bor, refl, sym, ◌∙◌, ap, subst, arith, inl, inr}
-use Rattle.std.specs.Prelude.{find, is_some, bytes_eq, nat_lt, IfSome, option_copied, Ok, Err}
+use Rattle.std.proofs.Common.{◌≡◌, ℕ, suc, ◌+◌, ◌<◌, ◌≤◌, Bool, true, false, cond, List, [], ◌∷◌, ◌++◌, length, get_or, set, Option, Some, None, Bor, refl, sym, ◌∙◌, ap, subst, arith}
+use Rattle.std.specs.Prelude.{All, IsTrue, find, is_ok, is_some, bytes_eq, nat_lt, option_map, IfSome, option_copied, Ok, Err}
 use Rattle.std.specs.Option.{option_or}
 use Rattle.std.specs.Cmp.Lexicographic.{slice_cmp, nat_list_cmp_total}
 use Rattle.std.specs.Ordering.{nat_cmp, is_eq}
 use Rattle.std.specs.BTreeMap.{BTreeMap}
 use Rattle.std.proofs.lemmas.Bool.{false≢true, lt-ltb}
-use Rattle.std.proofs.lemmas.List.{length-map, map_push, get_or_default}
+use Rattle.std.proofs.lemmas.List.{length-map, map_push}
+use Rattle.std.proofs.lemmas.List.Elements.{All-head, All-tail}
 use Rattle.std.proofs.lemmas.List.Folds.{find-append}
 use Rattle.std.proofs.lemmas.Map.Text.{is_eq-slice_cmp}
 use Rattle.std.proofs.lemmas.Slice.Eq.{bytes_eq-Decides}
-use Rattle.std.proofs.Math.Nat.{eq-or-lt_of_le}
-use Rattle.mx_redact.specs.Fields.{Event}
 use Rattle.mx_receipt.specs.Receipt.{Kept}
-use Rattle.mx_room.specs.Asking.{event_shown, event_reply, query_answer}
-use Rattle.mx_room.specs.RoomView.{RoomView}
-use Rattle.mx_room.specs.declared.queries.Query.TheVariants.{Event as ask_event}
-use Rattle.mx_room.specs.declared.queries.QueryReply.TheVariants.{Event as gives_event}
+use Rattle.mx_room.specs.Queries.{room_named, Answered, given_or, event_shown, query_answer}
+use Rattle.mx_room.specs.RoomView.{RoomView, IsHosted}
+use Rattle.mx_room.specs.declared.queries.Query.{Query}
+use Rattle.mx_room.specs.declared.queries.Query.TheVariants as ask
+use Rattle.mx_room.specs.declared.queries.QueryReply.{QueryReply}
+use Rattle.mx_room.specs.declared.queries.QueryReply.TheVariants as gives
 use Rattle.mx_room.specs.declared.queries.Denied.TheVariants.{NotFound}
 use Rattle.mx_shard.specs.LoneRoom.{to_ask, answer}
-use Rattle.mx_shard.specs.Shown.{IsShown}
-use Rattle.mx_shard.specs.Inside.{room_ids, no_room, room_at, rows_at, rows_in, IsPlaced, IsNumbered, number_of, IsMoved, IsSameMap, IsDistinct}
+use Rattle.mx_shard.specs.Told.{tells_shown}
+use Rattle.mx_shard.specs.Shown.{HasShown, IsShown}
+use Rattle.mx_shard.specs.Inside.{room_ids, no_room, room_at, rows_at, rows_in, IsPlaced, IsNumbered, number_of, IsMoved, IsSameMap, IsDistinct, IsReady}
 use Rattle.mx_shard.specs.declared.answers.Answer.TheVariants.{ToAsked}
 use Rattle.mx_shard.proofs.Places.{IsFound, text_found, text_missing, text_once, placed_push, placed_same, find-set_other, map-set_same}
 
@@ -112,46 +114,68 @@ moved_back first second third id w none there back = λ q.
       | false ↦ λ h. refl
     ] refl
 
--- ---- a query by an id alone
+-- ---- a query
 
-ask_answer : (rows : List Kept) (origin : List ℕ) (now : ℕ) (id : List ℕ) → answer rows (to_ask origin now (ask_event id)) ≡ ToAsked (event_reply (event_shown rows id))
-unfolding query_answer event_shown
-ask_answer [] origin now id = refl
-ask_answer (k ∷ ks) origin now id = refl
+-- a room that is found has an event
+found_ready : (t : RoomView → Bool) (rooms : List RoomView) (room : RoomView) → All IsReady rooms → find t rooms ≡ Some room → IsReady room
+found_ready t [] room ready e = absurd (cc e)
+found_ready t (r ∷ rooms) room ready e =
+    elim (t r) as (λ b. cond b (Some r) (find t rooms) ≡ Some room → IsReady room) [
+      | true ↦ λ is. subst IsReady (let same : r ≡ room = cc in same) (All-head IsReady r rooms ready)
+      | false ↦ λ is. found_ready t rooms room (All-tail IsReady r rooms ready) is
+    ] e
 
-none_at : (rooms : List RoomView) (id : List ℕ) → ((k : ℕ) (d : RoomView) → k < length rooms → event_shown (get_or rooms k d).kept id ≡ None) → (room : List ℕ) → event_shown (rows_in rooms room) id ≡ None
-unfolding event_shown
-none_at [] id h room = refl
-none_at (r ∷ rooms) id h room =
-    elim (bytes_eq r.id room) as (λ b. event_shown (rows_at (cond b (Some r) (find (λ r. bytes_eq r.id room) rooms))) id ≡ None) [
-      | true ↦ h 0 r (omega arith)
-      | false ↦ none_at rooms id (λ k d l. h (suc k) d (omega arith)) room
+ask_answer : (kept : List Kept) (origin : List ℕ) (now : ℕ) (q : Query) → IsHosted kept → answer kept (to_ask origin now q) ≡ ToAsked (query_answer kept origin now q)
+ask_answer [] origin now q h = absurd (omega arith)
+ask_answer (k ∷ ks) origin now q h = refl
+
+-- of the room that it names
+pub named_asked : (rooms : List RoomView) (id origin : List ℕ) (now : ℕ) (q : Query) (room : RoomView) → All IsReady rooms → Some room ≡ find (λ r. bytes_eq r.id id) rooms →
+    ToAsked (query_answer room.kept origin now q) ≡ answer (rows_in rooms id) (to_ask origin now q)
+named_asked rooms id origin now q room ready found =
+    sym (ask_answer room.kept origin now q (found_ready (λ r. bytes_eq r.id id) rooms room ready (sym found)).hosted)
+    ∙ ap (λ o. answer (rows_at o) (to_ask origin now q)) found
+
+-- ---- by an id alone
+
+none_given : (o : Option QueryReply) → is_ok (given_or NotFound o) ≡ false → given_or NotFound o ≡ Err NotFound
+none_given None e = refl
+none_given (Some reply) e = absurd (false≢true (sym e))
+
+alone_none : (kept : List Kept) (origin : List ℕ) (now : ℕ) (q : Query) → room_named q ≡ None → (IsHosted kept → is_ok (query_answer kept origin now q) ≡ false) → answer kept (to_ask origin now q) ≡ ToAsked (Err NotFound)
+unfolding query_answer
+alone_none [] origin now (ask.Event id) e none = refl
+alone_none (k ∷ ks) origin now (ask.Event id) e none = ap ToAsked (none_given (option_map gives.Event (event_shown (k ∷ ks) origin id)) (none (omega arith)))
+alone_none kept origin now (ask.State r id) e none = absurd (cc e)
+alone_none kept origin now (ask.StateIds r id) e none = absurd (cc e)
+alone_none kept origin now (ask.EventAuth r id) e none = absurd (cc e)
+alone_none kept origin now (ask.Backfill r from limit) e none = absurd (cc e)
+alone_none kept origin now (ask.Missing r earliest latest limit min_depth) e none = absurd (cc e)
+
+none_at : (rooms : List RoomView) (origin : List ℕ) (now : ℕ) (q : Query) → room_named q ≡ None → ((k : ℕ) (d : RoomView) → k < length rooms → is_ok (query_answer (get_or rooms k d).kept origin now q) ≡ false) → (room : List ℕ) →
+    answer (rows_in rooms room) (to_ask origin now q) ≡ ToAsked (Err NotFound)
+none_at [] origin now q alone h room = alone_none [] origin now q alone (λ hosted. absurd (omega arith))
+none_at (r ∷ rooms) origin now q alone h room =
+    elim (bytes_eq r.id room) as (λ b. answer (rows_at (cond b (Some r) (find (λ r. bytes_eq r.id room) rooms))) (to_ask origin now q) ≡ ToAsked (Err NotFound)) [
+      | true ↦ alone_none r.kept origin now q alone (λ hosted. h 0 r (omega arith))
+      | false ↦ none_at rooms origin now q alone (λ k d l. h (suc k) d (omega arith)) room
     ]
 
--- one room more that doesn't show the event
-pub none_more : (rooms : List RoomView) (id : List ℕ) (n : ℕ) (room : RoomView) → n < length rooms → ((k : ℕ) (d : RoomView) → k < n → event_shown (get_or rooms k d).kept id ≡ None) → room ≡ get_or rooms n room →
-    event_shown room.kept id ≡ None → (k : ℕ) (d : RoomView) → k < n + 1 → event_shown (get_or rooms k d).kept id ≡ None
-none_more rooms id n room l before is here k d m =
-    elim (eq-or-lt_of_le (let e : k ≤ n = omega arith in e)) [
-      | inl same ↦
-          ap (λ i. event_shown (get_or rooms i d).kept id) same ∙ ap (λ (r : RoomView). event_shown r.kept id) (get_or_default rooms n d room l ∙ sym is) ∙ here
-      | inr below ↦ before k d below
-    ]
+-- no room gives anything
+pub shown_none : (rooms : List RoomView) (origin : List ℕ) (now : ℕ) (q : Query) (n : ℕ) → room_named q ≡ None → length rooms ≤ n →
+    ((k : ℕ) (d : RoomView) → k < n → is_ok (query_answer (get_or rooms k d).kept origin now q) ≡ false) → IsShown (rows_in rooms) (to_ask origin now q) (ToAsked (Err NotFound))
+shown_none rooms origin now q n alone l h = (refl, λ room. none_at rooms origin now q alone (λ k d m. h k d (omega arith)) room)
 
--- no room shows the event
-pub shown_none : (rooms : List RoomView) (id origin : List ℕ) (now n : ℕ) → length rooms ≤ n → ((k : ℕ) (d : RoomView) → k < n → event_shown (get_or rooms k d).kept id ≡ None) →
-    IsShown (rows_in rooms) (to_ask origin now (ask_event id)) (ToAsked (Err NotFound))
-shown_none rooms id origin now n l h =
-    (refl, λ room. ask_answer (rows_in rooms room) origin now id ∙ ap (λ o. ToAsked (event_reply o)) (none_at rooms id (λ k d m. h k d (omega arith)) room))
+-- the room with this number gives something
+module _ (rooms : List RoomView) (origin : List ℕ) (now : ℕ) (q : Query) (n : ℕ) (room : RoomView) (distinct : IsDistinct rooms) (ready : All IsReady rooms) (l : n < length rooms) (is : room ≡ get_or rooms n room) where
+  shown_at : answer (rows_in rooms (get_or rooms n room).id) (to_ask origin now q) ≡ ToAsked (query_answer room.kept origin now q)
+  shown_at =
+      ap (λ kept. answer kept (to_ask origin now q)) (ap rows_at (distinct n room l) ∙ ap (λ (r : RoomView). r.kept) (sym is))
+      ∙ ask_answer room.kept origin now q (subst IsReady (sym is) (ready n room l)).hosted
 
--- the room with this number shows it
-pub shown_some : (rooms : List RoomView) (id origin : List ℕ) (now n : ℕ) (room : RoomView) (event shown : Event) → IsDistinct rooms → n < length rooms → room ≡ get_or rooms n room →
-    event_shown room.kept id ≡ Some shown → event ≡ shown → IsShown (rows_in rooms) (to_ask origin now (ask_event id)) (ToAsked (Ok (gives_event event)))
-shown_some rooms id origin now n room event shown distinct l is held same =
-    let here : rows_in rooms (get_or rooms n room).id ≡ room.kept = ap rows_at (distinct n room l) ∙ ap (λ (r : RoomView). r.kept) (sym is) in (
-      (get_or rooms n room).id,
-      ask_answer (rows_in rooms (get_or rooms n room).id) origin now id
-          ∙ ap (λ rows. ToAsked (event_reply (event_shown rows id))) here
-          ∙ ap (λ o. ToAsked (event_reply o)) held
-          ∙ ap (λ (e : Event). ToAsked (Ok (gives_event e))) (sym same),
-    )
+  pub shown_some : (reply : Answered) → reply ≡ query_answer room.kept origin now q → is_ok reply ≡ true → IsShown (rows_in rooms) (to_ask origin now q) (ToAsked reply)
+  shown_some (Ok given) same ok = ((get_or rooms n room).id, shown_at ∙ ap ToAsked (sym same))
+  shown_some (Err denied) same ok = absurd (false≢true ok)
+
+  pub has_shown : IsTrue (is_ok (query_answer room.kept origin now q)) → HasShown (rows_in rooms) (to_ask origin now q)
+  has_shown ok = ((get_or rooms n room).id, ap tells_shown shown_at ∙ ok)

@@ -40,15 +40,15 @@ IsHosting rooms caller o (hosts.Answered a) = IsAnswered (rows_in rooms (room_of
 IsHosting rooms caller o (hosts.Made new) = IsNewRoom rooms caller o new
 
 -- an event that its room is prepared to keep
-pub record IsNewRow (before after : List RoomView) (numbers : BTreeMap (List ℕ) ℕ) (caller : ℕ) (o : Offered) (new : NewRow) : Type 0 where
+pub record IsNewRow (before after : List RoomView) (numbers : BTreeMap (List ℕ) ℕ) (caller : ℕ) (origin : List ℕ) (o : Offered) (new : NewRow) : Type 0 where
   pub kept : Kept
   pub found : number_of numbers (room_of o.pdu) ≡ Some new.number
-  pub outcome : new.outcome ≡ offer_outcome (room_at before new.number).kept o
-  pub adds : row_by o (offer_outcome (room_at before new.number).kept o) ≡ Some kept
+  pub outcome : new.outcome ≡ offer_outcome (room_at before new.number).kept origin o
+  pub adds : row_by o (offer_outcome (room_at before new.number).kept origin o) ≡ Some kept
   pub rooms : after ≡ slice_set before new.number (with_prepared (room_at before new.number) (Some kept))
   pub row : new.row ≡ row_for (room_of o.pdu) caller kept
 
 -- what comes of a call that offers
-abbrev pub IsOffering : List RoomView → List RoomView → BTreeMap (List ℕ) ℕ → ℕ → Offered → Offering → Type 0
-IsOffering before after numbers caller o (offers.Answered a) = (after ≡ before) × ((origin : List ℕ) → IsAnswered (rows_in before (room_of o.pdu)) (to_offer origin o) a)
-IsOffering before after numbers caller o (offers.Prepared new) = IsNewRow before after numbers caller o new
+abbrev pub IsOffering : List RoomView → List RoomView → BTreeMap (List ℕ) ℕ → ℕ → List ℕ → Offered → Offering → Type 0
+IsOffering before after numbers caller origin o (offers.Answered a) = (after ≡ before) × IsAnswered (rows_in before (room_of o.pdu)) (to_offer origin o) a
+IsOffering before after numbers caller origin o (offers.Prepared new) = IsNewRow before after numbers caller origin o new

@@ -5,7 +5,7 @@ use Rattle.mx_pdu.specs.Event.{room_of}
 use Rattle.mx_receipt.specs.Receipt.{Kept, begun}
 use Rattle.mx_room.specs.Offer.{Offered, offer_outcome, row_by}
 use Rattle.mx_room.specs.Hosting.{host_error}
-use Rattle.mx_room.specs.Asking.{room_named, query_answer}
+use Rattle.mx_room.specs.Queries.{room_named, query_answer}
 use Rattle.mx_room.specs.declared.hosting.NotARoom.{NotARoom}
 use Rattle.mx_room.specs.declared.queries.Query.{Query}
 use Rattle.mx_room.specs.declared.queries.Query.TheVariants.{Event as ask_event}
@@ -38,6 +38,7 @@ first_rows o (Some error) = []
 -- of a room that is not hosted an event is not found by its id alone
 abbrev pub unhosted_answer : Query → Answer
 unhosted_answer (ask_event id) = ToAsked (Err NotFound)
+unhosted_answer _ = NotHosted
 
 -- the reply to a call
 abbrev pub answer : List Kept → Call → Answer
@@ -45,8 +46,8 @@ answer [] (to_host o) = hosting o (host_error o)
 answer [] (to_offer origin o) = NotHosted
 answer [] (to_ask origin now q) = unhosted_answer q
 answer (k ∷ ks) (to_host o) = AlreadyHosted k.id
-answer (k ∷ ks) (to_offer origin o) = ToOffered (offer_outcome (k ∷ ks) o)
-answer (k ∷ ks) (to_ask origin now q) = ToAsked (query_answer (k ∷ ks) q)
+answer (k ∷ ks) (to_offer origin o) = ToOffered (offer_outcome (k ∷ ks) origin o)
+answer (k ∷ ks) (to_ask origin now q) = ToAsked (query_answer (k ∷ ks) origin now q)
 
 -- the rows that a call adds
 abbrev pub added : List Kept → Call → List Kept
@@ -54,7 +55,7 @@ added [] (to_host o) = first_rows o (host_error o)
 added [] (to_offer origin o) = []
 added [] (to_ask origin now q) = []
 added (k ∷ ks) (to_host o) = []
-added (k ∷ ks) (to_offer origin o) = option_to_list (row_by o (offer_outcome (k ∷ ks) o))
+added (k ∷ ks) (to_offer origin o) = option_to_list (row_by o (offer_outcome (k ∷ ks) origin o))
 added (k ∷ ks) (to_ask origin now q) = []
 
 -- ---- a list of calls, from a record

@@ -58,8 +58,8 @@ pub(crate) fn hosting_in(
     }
 }
 
-// The room with this id.
-fn room_with<'a>(
+/// The room with this id.
+pub(crate) fn room_with<'a>(
     rooms: &'a [Room],
     numbers: &BTreeMap<RoomId, usize>,
     id: &RoomId,

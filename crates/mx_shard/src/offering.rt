@@ -1,5 +1,5 @@
 // Events that are offered.
-ghost use Rattle.std.specs.Prelude.{◌≡◌, ◌<◌, ◌++◌, ◌∷◌, ℕ, List, [], None, All, IfOk, OnOk, OnErr, IsTrue, is_some, length, option_map, slice_set, vec_len, vec_capacity};
+ghost use Rattle.std.specs.Prelude.{◌≡◌, ◌<◌, ◌++◌, ◌∷◌, [], None, All, IfOk, OnOk, OnErr, IsTrue, is_some, length, option_map, slice_set, vec_len, vec_capacity};
 ghost use Rattle.mx_pdu.specs.Event.{room_of};
 ghost use Rattle.mx_room.specs.Offer.{is_kept, offer_outcome, row_by};
 ghost use Rattle.mx_shard.specs.Inside.{IsNumbered, IsReady, room_at, rows_in, with_prepared, with_kept};
@@ -10,7 +10,7 @@ ghost use Rattle.mx_shard.specs.Changes.{IsOffering, row_for as row_of};
 use crate::answers::Answer;
 use crate::journal_places::JournalPlace;
 use crate::storing::row_for;
-use mx_ident::RoomId;
+use mx_ident::{RoomId, ServerName};
 use mx_keeper::ShardRow;
 use mx_pdu::Offered;
 use mx_room::{Outcome, Room};
@@ -37,20 +37,20 @@ pub(crate) fn offering_in(
     rooms: &mut [Room],
     numbers: &BTreeMap<RoomId, usize>,
     caller: u64,
+    origin: &ServerName,
     offered: &Offered,
 ) -> Result<Offering, AllocError>
     requires numbered { IsNumbered numbers.now rooms.old }
     requires ready { All IsReady rooms.old }
-    ensures offering { IfOk result (λ offering. IsOffering rooms.old rooms.new numbers.now caller offered.now offering) }
-    ensures memory { OnErr result ((origin : List ℕ)
-        → IsTrue (tells_kept (answer (rows_in rooms.old (room_of offered.now.pdu)) (to_offer origin offered.now)))) }
+    ensures offering { IfOk result (λ offering. IsOffering rooms.old rooms.new numbers.now caller origin.now offered.now offering) }
+    ensures memory { OnErr result (IsTrue (tells_kept (answer (rows_in rooms.old (room_of offered.now.pdu)) (to_offer origin.now offered.now)))) }
     ensures err { OnErr result (rooms.new ≡ rooms.old) }
 {
     let Some(number) = numbers.get(offered.pdu.room_id()) else {
         return Ok(Offering::Answered(Answer::NotHosted));
     };
     let room = &mut rooms[*number];
-    let (outcome, row) = prepare_in(alloc, room, caller, offered)?;
+    let (outcome, row) = prepare_in(alloc, room, caller, origin, offered)?;
     match row {
         Some(row) => Ok(Offering::Prepared(NewRow {
             number: *number,
@@ -66,15 +66,16 @@ fn prepare_in(
     alloc: Global,
     room: &mut Room,
     caller: u64,
+    origin: &ServerName,
     offered: &Offered,
 ) -> Result<(Outcome, Option<ShardRow>), AllocError>
-    ensures outcome { IfOk result (λ told. told.0 ≡ offer_outcome room.old.kept offered.now) }
-    ensures row { IfOk result (λ told. told.1 ≡ option_map (row_of (room_of offered.now.pdu) caller) (row_by offered.now (offer_outcome room.old.kept offered.now))) }
-    ensures prepared { OnOk result (room.new ≡ with_prepared room.old (row_by offered.now (offer_outcome room.old.kept offered.now))) }
-    ensures memory { OnErr result (IsTrue (is_kept (offer_outcome room.old.kept offered.now))) }
+    ensures outcome { IfOk result (λ told. told.0 ≡ offer_outcome room.old.kept origin.now offered.now) }
+    ensures row { IfOk result (λ told. told.1 ≡ option_map (row_of (room_of offered.now.pdu) caller) (row_by offered.now (offer_outcome room.old.kept origin.now offered.now))) }
+    ensures prepared { OnOk result (room.new ≡ with_prepared room.old (row_by offered.now (offer_outcome room.old.kept origin.now offered.now))) }
+    ensures memory { OnErr result (IsTrue (is_kept (offer_outcome room.old.kept origin.now offered.now))) }
     ensures err { OnErr result (room.new ≡ with_prepared room.old None) }
 {
-    let outcome = room.prepare(alloc, offered)?;
+    let outcome = room.prepare(alloc, origin, offered)?;
     match row_in(room, caller, offered) {
         Ok(row) => Ok((outcome, row)),
         Err(error) => {

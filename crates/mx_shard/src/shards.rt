@@ -1,5 +1,5 @@
 // The rooms of a shard.
-ghost use Rattle.std.specs.Prelude.{◌≡◌, ◌≢◌, ◌≤◌, ◌↔◌, ◌⊎◌, [], Option, Some, None, List, ℕ, true, false, IfOk, OnOk, OnErr, IsErrOf, IsTrue, All};
+ghost use Rattle.std.specs.Prelude.{◌≡◌, ◌≢◌, ◌≤◌, ◌↔◌, ◌⊎◌, [], Option, Some, None, List, true, false, IfOk, OnOk, OnErr, IsErrOf, IsTrue, All};
 ghost use Rattle.mx_keeper.specs.Keeping.{Rose};
 ghost use Rattle.mx_keeper.specs.Places.{is_at};
 ghost use Rattle.mx_keeper.specs.declared.rows.ShardRow.{ShardRow};
@@ -15,10 +15,10 @@ use crate::hosting::{Hosting, add_room, hosting_in, remove_room, reserve_room};
 use crate::journal_places::JournalPlace;
 use crate::offering::{Offering, discard_in, install_in, offering_in};
 use crate::storing::{store, store_with_place};
-use mx_ident::RoomId;
+use mx_ident::{RoomId, ServerName};
 use mx_keeper::{CallError, Keeper, KeeperFault, Place, ShardRow};
 use mx_pdu::Offered;
-use mx_room::{Query, Room};
+use mx_room::{Moment, Query, Room};
 use std::alloc::Global;
 use std::collections::BTreeMap;
 use std::marker::Model;
@@ -152,21 +152,25 @@ impl<K: Keeper<Row = ShardRow>> Shard<K> {
         }
     }
 
-    /// Offers the event to its room, which keeps it where it can.
+    /// Offers an event of a server to its room, which keeps it where it can.
     ///
     /// `Memory` where the room keeps the event and no memory is left for it. `Storage` as of [`host`](Shard::host). At an
     /// error the journal stays.
     ///
     /// Source: the Matrix specification, Server-Server API, "Checks performed on receipt of a PDU".
-    pub fn offer(&mut self, caller: u64, offered: &Offered) -> Result<Answer, CallError>
+    pub fn offer(
+        &mut self,
+        caller: u64,
+        origin: &ServerName,
+        offered: &Offered,
+    ) -> Result<Answer, CallError>
         requires { IsTrue (is_at self.old.place (room_of offered.now.pdu)) }
-        ensures reply { IfOk result (λ reply. (origin : List ℕ) → reply ≡ answer (record_of self.old.journal (room_of offered.now.pdu)) (to_offer origin offered.now)) }
-        ensures journal { OnOk result ((origin : List ℕ) → self.new.journal ≡ journal_after self.old.journal caller (room_of offered.now.pdu) (to_offer origin offered.now)) }
+        ensures reply { IfOk result (λ reply. reply ≡ answer (record_of self.old.journal (room_of offered.now.pdu)) (to_offer origin.now offered.now)) }
+        ensures journal { OnOk result (self.new.journal ≡ journal_after self.old.journal caller (room_of offered.now.pdu) (to_offer origin.now offered.now)) }
         ensures err { OnErr result (self.new.journal ≡ self.old.journal) }
         ensures place { self.new.place ≡ self.old.place }
 
-        ensures memory { result ≡ Err CallError.Memory → (origin : List ℕ)
-            → IsTrue (tells_kept (answer (record_of self.old.journal (room_of offered.now.pdu)) (to_offer origin offered.now))) }
+        ensures memory { result ≡ Err CallError.Memory → IsTrue (tells_kept (answer (record_of self.old.journal (room_of offered.now.pdu)) (to_offer origin.now offered.now))) }
         ensures storage { result ≡ Err CallError.Storage → (self.old.is_refused ≡ true) ⊎ Rose (K.failed self.old.keeper) (K.failed self.new.keeper) }
         ensures refused { IsErrOf result CallError.Storage ↔ (self.new.is_refused ≡ true) }
         ensures stays_refused { self.old.is_refused ≡ true → result ≡ Err CallError.Storage }
@@ -176,12 +180,19 @@ impl<K: Keeper<Row = ShardRow>> Shard<K> {
         ensures honest { K.is_honest self.new.keeper → K.is_honest self.old.keeper }
         ensures durable { K.is_honest self.new.keeper → OnOk result ((left : Option (List ShardRow)) → K.may_leave self.new.keeper left → left ≡ Some (stored self.new.journal)) }
         ensures crash { K.is_honest self.new.keeper → (left : Option (List ShardRow)) → K.may_leave self.new.keeper left
-            → K.may_leave self.old.keeper left ⊎ ((origin : List ℕ) → left ≡ Some (stored (journal_after self.old.journal caller (room_of offered.now.pdu) (to_offer origin offered.now)))) }
+            → K.may_leave self.old.keeper left ⊎ (left ≡ Some (stored (journal_after self.old.journal caller (room_of offered.now.pdu) (to_offer origin.now offered.now)))) }
     {
         if self.is_refused {
             return Err(CallError::Storage);
         }
-        match offering_in(self.alloc, &mut self.rooms, &self.numbers, caller, offered)? {
+        match offering_in(
+            self.alloc,
+            &mut self.rooms,
+            &self.numbers,
+            caller,
+            origin,
+            offered,
+        )? {
             Offering::Answered(answer) => Ok(answer),
             Offering::Prepared(new) => {
                 match store_with_place(
@@ -200,23 +211,25 @@ impl<K: Keeper<Row = ShardRow>> Shard<K> {
         }
     }
 
-    /// The answer to a query: that of the room which it names, or what some room of this place shows.
+    /// The answer to a server's query, at a moment: that of the room which it names, or what some room of this place
+    /// shows.
     ///
-    /// `Memory` where some room shows an event and no memory is left for it. `Storage` exactly where an earlier call was
-    /// refused so. The time of a query by
-    /// an event's id alone is that of a look-up in each room.
-    pub fn ask(&self, query: &Query) -> Result<Answer, CallError>
-        ensures reply { IfOk result (λ reply. (origin : List ℕ) (now : ℕ)
-            → IsAnswer (record_of self.now.journal) (to_ask origin now query.now) (call_room (to_ask origin now query.now)) reply) }
+    /// `Memory` where a room gives something and no memory is left for it: it stands in for no denial. `Storage` exactly
+    /// where an earlier call was refused so. The time of a query by an event's id alone is that of a look-up in each room.
+    ///
+    /// Source: the Matrix specification, Server-Server API, "Retrieving events" and "Backfilling and retrieving missing
+    /// events".
+    pub fn ask(&self, origin: &ServerName, now: Moment, query: &Query) -> Result<Answer, CallError>
+        ensures reply { IfOk result (λ reply. IsAnswer (record_of self.now.journal) (to_ask origin.now now query.now) (call_room (to_ask origin.now now query.now)) reply) }
         // Each room is of this place.
         ensures here { All (λ entry. IsTrue (is_at self.now.place entry.room)) self.now.journal }
-        ensures memory { result ≡ Err CallError.Memory → (origin : List ℕ) (now : ℕ) → HasShown (record_of self.now.journal) (to_ask origin now query.now) }
+        ensures memory { result ≡ Err CallError.Memory → HasShown (record_of self.now.journal) (to_ask origin.now now query.now) }
         ensures storage { IsErrOf result CallError.Storage ↔ (self.now.is_refused ≡ true) }
     {
         if self.is_refused {
             return Err(CallError::Storage);
         }
-        let answer = answer_in(&self.rooms, query)?;
+        let answer = answer_in(self.alloc, &self.rooms, &self.numbers, origin, now, query)?;
         Ok(answer)
     }
 

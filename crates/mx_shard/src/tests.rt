@@ -1,8 +1,8 @@
 use crate::{Answer, CallError, Shard};
-use mx_ident::EventId;
+use mx_ident::{EventId, ServerName};
 use mx_keeper::{Keeper, KeeperFault, MemoryKeeper, Place, ShardRow};
 use mx_pdu::{Offered, Pdu};
-use mx_room::{Outcome, Query};
+use mx_room::{Moment, Outcome, Query};
 use serde_json::Value;
 use std::alloc::{AllocError, Global};
 use std::test::Fail;
@@ -34,7 +34,7 @@ fn offered(alloc: Global, id: &str, name: &str, signed: bool) -> Result<Offered,
     Ok(Offered { pdu, id, signed })
 }
 
-// A call by its words, `host ID NAME`, `offer ID NAME` or `ask ID`. The answer is told in a word.
+// A call of the server a.example by its words, `host ID NAME`, `offer ID NAME` or `ask ID`. The answer is told in a word.
 fn tell<K: Keeper<Row = ShardRow>>(
     alloc: Global,
     shard: &mut Shard<K>,
@@ -44,9 +44,11 @@ fn tell<K: Keeper<Row = ShardRow>>(
     let mut words = call.split(' ');
     let kind = words.next().unwrap_or("");
     let id = words.next().unwrap_or("");
+    let origin = ServerName::parse(alloc, "a.example").map_err(refused)?;
     if kind == "ask" {
         let query = Query::Event(EventId::parse(alloc, id).map_err(refused)?);
-        return Ok(word(&shard.ask(&query)?));
+        let now = Moment::at(1).ok_or(AllocError)?;
+        return Ok(word(&shard.ask(&origin, now, &query)?));
     }
     let offered = offered(alloc, id, words.next().unwrap_or(""), true)?;
     if !shard.place().has(offered.pdu.room_id().as_str()) {
@@ -55,7 +57,7 @@ fn tell<K: Keeper<Row = ShardRow>>(
     if kind == "host" {
         return Ok(word(&shard.host(caller, &offered)?));
     }
-    Ok(word(&shard.offer(caller, &offered)?))
+    Ok(word(&shard.offer(caller, &origin, &offered)?))
 }
 
 fn word(answer: &Answer) -> &'static str {

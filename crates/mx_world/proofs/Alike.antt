@@ -1,22 +1,25 @@
 -- A law of these definitions: what a run tells about a room is what a server tells that hosts it alone, so runs that agree are alike.
 use Rattle.std.proofs.Common.{◌≡◌, ℕ, Bool, true, false, cond, ◌||◌, List, [], ◌∷◌, ◌++◌, Option, Some, None, refl, sym, ◌∙◌, ap, subst, append_assoc, append-nil}
-use Rattle.std.specs.Prelude.{if◌then◌else◌, is_some, bytes_eq, Ok, Err}
+use Rattle.std.specs.Prelude.{if◌then◌else◌, is_some, bytes_eq, option_map, option_and_then, Ok, Err}
 use Rattle.std.specs.List.{list_any}
 use Rattle.std.proofs.lemmas.Bool.{false≢true}
 use Rattle.std.proofs.lemmas.Slice.Eq.{bytes_eq-Decides}
 use Rattle.mx_pdu.specs.Event.{room_of}
 use Rattle.mx_graph.specs.Record.{place_of}
 use Rattle.mx_room.specs.Offer.{Offered}
-use Rattle.mx_room.specs.Asking.{shown, event_shown, event_reply, query_answer}
+use Rattle.mx_access.specs.Access.{shown}
+use Rattle.mx_room.specs.Queries.{given_or, event_shown, query_answer}
 use Rattle.mx_shard.specs.LoneRoom.{Call, to_host, to_offer, to_ask, call_room, answer, added, answers_alone, record_alone}
 use Rattle.mx_shard.specs.Shown.{IsShown, IsAnswer}
 use Rattle.mx_world.specs.Calls.{Start, left, if_put_to, offers, call_of, calls_from, calls, record_after}
-use Rattle.mx_world.specs.Replies.{Status, unopened, waiting, ended, status_after, next_reply, IsAnswered, IsReply, AreReplies}
+use Rattle.mx_world.specs.Replies.{Status, unopened, waiting, ended, status_after, outcome_in, next_reply, IsAnswered, IsReply, AreReplies}
 use Rattle.mx_world.specs.Moves.{rest_of}
-use Rattle.mx_world.specs.Agree.{where_so, holds, hears, heard, answers_in, told_from, told_about, IsApart, IsApartAt, StayApart, IsRun, Agree, AlikeAbout}
+use Rattle.mx_world.specs.Agree.{where_so, holds, hears, heard, offered_answer, answers_in, told_from, told_about, IsApart, IsApartAt, StayApart, IsRun, Agree, AlikeAbout}
 use Rattle.mx_receipt.specs.Receipt.{Kept, rows_of, kept_at}
 use Rattle.mx_room.specs.declared.queries.Query.{Query}
-use Rattle.mx_room.specs.declared.queries.Query.TheVariants.{Event as ask_event}
+use Rattle.mx_room.specs.declared.queries.Query.TheVariants as ask
+use Rattle.mx_room.specs.declared.queries.QueryReply.TheVariants as gives
+use Rattle.mx_room.specs.declared.queries.Denied.TheVariants.{NotFound}
 use Rattle.mx_shard.specs.declared.answers.Answer.{Answer}
 use Rattle.mx_shard.specs.declared.answers.Answer.TheVariants.{NotHosted, Hosted, AlreadyHosted, NotHost, ToOffered, ToAsked}
 use Rattle.mx_book.specs.declared.transaction_keys.TransactionKey.{TransactionKey}
@@ -90,12 +93,16 @@ if_same rows room other c a h =
       | false ↦ λ k. refl
     ] refl
 
+offered-answer : (kept : List Kept) (origin : List ℕ) (o : Offered) → offered_answer (outcome_in kept origin o) ≡ answer kept (to_offer origin o)
+offered-answer [] origin o = refl
+offered-answer (k ∷ ks) origin o = refl
+
 next_told : (rows : List ℕ → List Kept) (room origin : List ℕ) (st : Status) →
     heard_answer (rows room) (offers room origin (rest_of st)) (answers_in (next_reply rows origin st)) ≡ answers_alone (rows room) (heard (rows room) (offers room origin (rest_of st)))
 next_told rows room origin unopened = refl
 next_told rows room origin (ended body) = refl
 next_told rows room origin (waiting [] told) = refl
-next_told rows room origin (waiting (o ∷ rest) told) = if_same rows room (room_of o.pdu) (to_offer origin o) (λ kept. answer kept (to_offer origin o)) refl
+next_told rows room origin (waiting (o ∷ rest) told) = if_same rows room (room_of o.pdu) (to_offer origin o) (λ kept. offered_answer (outcome_in kept origin o)) (offered-answer (rows room) origin o)
 
 -- ---- a query by an id alone
 
@@ -103,20 +110,20 @@ abbrev is_given : Answer → Bool
 is_given (ToAsked (Ok reply)) = true
 is_given _ = false
 
-held_if_found : (kept : List Kept) (o : Option ℕ) → is_given (ToAsked (event_reply (elim o [ None ↦ None | Some p ↦ shown (kept_at kept p) ]))) ≡ true → is_some o ≡ true
-held_if_found kept None h = absurd (false≢true h)
-held_if_found kept (Some p) h = refl
+held_if_found : (kept : List Kept) (origin : List ℕ) (o : Option ℕ) → is_given (ToAsked (given_or NotFound (option_map gives.Event (option_and_then (shown kept origin) o)))) ≡ true → is_some o ≡ true
+held_if_found kept origin None h = absurd (false≢true h)
+held_if_found kept origin (Some p) h = refl
 
-held_if_shown : (kept : List Kept) (origin : List ℕ) (now : ℕ) (id : List ℕ) → is_given (answer kept (to_ask origin now (ask_event id))) ≡ true → holds kept id ≡ true
+held_if_shown : (kept : List Kept) (origin : List ℕ) (now : ℕ) (id : List ℕ) → is_given (answer kept (to_ask origin now (ask.Event id))) ≡ true → holds kept id ≡ true
 unfolding query_answer event_shown
 held_if_shown [] origin now id h = absurd (false≢true h)
-held_if_shown (k ∷ ks) origin now id h = held_if_found (k ∷ ks) (place_of (rows_of (k ∷ ks)) id) h
+held_if_shown (k ∷ ks) origin now id h = held_if_found (k ∷ ks) origin (place_of (rows_of (k ∷ ks)) id) h
 
 found_answer : (rows : List ℕ → List Kept) (room origin : List ℕ) (now : ℕ) (id : List ℕ) (a : Answer) →
-    IsShown rows (to_ask origin now (ask_event id)) a → IsApart rows room id → holds (rows room) id ≡ true → a ≡ answer (rows room) (to_ask origin now (ask_event id))
+    IsShown rows (to_ask origin now (ask.Event id)) a → IsApart rows room id → holds (rows room) id ≡ true → a ≡ answer (rows room) (to_ask origin now (ask.Event id))
 found_answer rows room origin now id (ToAsked (Ok reply)) (other, e) apart h =
     let held : holds (rows other) id ≡ true = held_if_shown (rows other) origin now id (ap is_given e) in
-    sym e ∙ ap (λ r. answer (rows r) (to_ask origin now (ask_event id))) (sym (apart h other held))
+    sym e ∙ ap (λ r. answer (rows r) (to_ask origin now (ask.Event id))) (sym (apart h other held))
 found_answer rows room origin now id (ToAsked (Err denied)) (d, all) apart h = ap (λ x. ToAsked (Err x)) d ∙ sym (all room)
 found_answer rows room origin now id NotHosted h apart k = absurd h
 found_answer rows room origin now id (Hosted i) h apart k = absurd h
@@ -125,14 +132,14 @@ found_answer rows room origin now id (NotHost error) h apart k = absurd h
 found_answer rows room origin now id (ToOffered o) h apart k = absurd h
 
 shown_told : (rows : List ℕ → List Kept) (room origin : List ℕ) (now : ℕ) (id : List ℕ) (a : Answer) →
-    IsShown rows (to_ask origin now (ask_event id)) a → IsApart rows room id →
-    heard_answer (rows room) (to_ask origin now (ask_event id) ∷ []) (a ∷ []) ≡ answers_alone (rows room) (heard (rows room) (to_ask origin now (ask_event id) ∷ []))
+    IsShown rows (to_ask origin now (ask.Event id)) a → IsApart rows room id →
+    heard_answer (rows room) (to_ask origin now (ask.Event id) ∷ []) (a ∷ []) ≡ answers_alone (rows room) (heard (rows room) (to_ask origin now (ask.Event id) ∷ []))
 shown_told rows room origin now id a h apart =
-    elim (holds (rows room) id) as (λ b. holds (rows room) id ≡ b → where_so (b || false) (a ∷ []) ≡ where_so (b || false) (answer (rows room) (to_ask origin now (ask_event id)) ∷ [])) [
+    elim (holds (rows room) id) as (λ b. holds (rows room) id ≡ b → where_so (b || false) (a ∷ []) ≡ where_so (b || false) (answer (rows room) (to_ask origin now (ask.Event id)) ∷ [])) [
       | true ↦ λ k. ap (λ x. x ∷ []) (found_answer rows room origin now id a h apart k)
       | false ↦ λ k. refl
     ] refl
-    ∙ sym (one_heard (rows room) (to_ask origin now (ask_event id)))
+    ∙ sym (one_heard (rows room) (to_ask origin now (ask.Event id)))
 
 -- a call that is put to one room
 room_told : (rows : List ℕ → List Kept) (room other : List ℕ) (c : Call) (reply : StepReply) → call_room c ≡ Some other → IsAnswered rows c reply →
@@ -145,8 +152,13 @@ room_told rows room other c reply named h = absurd h
 ask_told : (rows : List ℕ → List Kept) (room origin : List ℕ) (now : ℕ) (q : Query) (reply : StepReply) →
     IsAnswered rows (to_ask origin now q) reply → IsApartAt rows room (Ask origin now q) →
     heard_answer (rows room) (if_put_to room (to_ask origin now q)) (answers_in reply) ≡ answers_alone (rows room) (heard (rows room) (if_put_to room (to_ask origin now q)))
-ask_told rows room origin now (ask_event id) (OfRoom a) h apart = shown_told rows room origin now id a h apart
-ask_told rows room origin now (ask_event id) reply h apart = absurd h
+ask_told rows room origin now (ask.Event id) (OfRoom a) h apart = shown_told rows room origin now id a h apart
+ask_told rows room origin now (ask.Event id) reply h apart = absurd h
+ask_told rows room origin now (ask.State r id) reply h apart = room_told rows room r (to_ask origin now (ask.State r id)) reply refl h
+ask_told rows room origin now (ask.StateIds r id) reply h apart = room_told rows room r (to_ask origin now (ask.StateIds r id)) reply refl h
+ask_told rows room origin now (ask.EventAuth r id) reply h apart = room_told rows room r (to_ask origin now (ask.EventAuth r id)) reply refl h
+ask_told rows room origin now (ask.Backfill r from limit) reply h apart = room_told rows room r (to_ask origin now (ask.Backfill r from limit)) reply refl h
+ask_told rows room origin now (ask.Missing r earliest latest limit min_depth) reply h apart = room_told rows room r (to_ask origin now (ask.Missing r earliest latest limit min_depth)) reply refl h
 
 step_told : (rows : List ℕ → List Kept) (st : TransactionKey → Status) (room : List ℕ) (left : TransactionKey → List Offered) (step : Step) (reply : StepReply) →
     IsReply rows st step reply → IsApartAt rows room step → ((p : TransactionKey) → rest_of (st p) ≡ left p) →

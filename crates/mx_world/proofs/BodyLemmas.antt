@@ -1,5 +1,5 @@
 -- The texts of a transaction's reply: they hold no number, so the body has a canonical text.
-use Rattle.std.proofs.Common.{◌≡◌, ℕ, List, [], ◌∷◌, ◌++◌, refl, sym, ◌∙◌, ap, drop, length, ◌<◌, ◌+◌, get_or, Some, None, Less, Equal, Greater, String, Global}
+use Rattle.std.proofs.Common.{◌≡◌, ℕ, List, [], ◌∷◌, ◌++◌, refl, sym, ◌∙◌, ap, drop, length, ◌<◌, ◌+◌, get_or, Option, Some, None, Less, Equal, Greater, String, Global}
 use Rattle.std.specs.Prelude.{fold, codes, if◌then◌else◌, string_bytes}
 use Rattle.std.specs.List.{list_any, list_all}
 use Rattle.std.specs.Cmp.Lexicographic.{slice_cmp}
@@ -16,28 +16,24 @@ use Rattle.mx_canon.specs.Canonical.{numbers, member_numbers, is_exact, canonica
 use Rattle.mx_canon.specs.declared.checking.NotCanonical.TheVariants.{Float, Range}
 use Rattle.mx_world.specs.Replies.{text_of, texts_of}
 use Rattle.mx_receipt.specs.declared.verdicts.Verdict.TheVariants.{Accepted, SoftFailed, Rejected}
+use Rattle.mx_room.specs.declared.outcomes.Outcome.{Outcome}
 use Rattle.mx_room.specs.declared.outcomes.Outcome.TheVariants.{Kept, Known, Refused}
-use Rattle.mx_room.specs.declared.outcomes.Refusal.TheVariants.{SecondCreate, Signature, MissingEvents, RoomFull}
-use Rattle.mx_shard.specs.declared.answers.Answer.{Answer}
-use Rattle.mx_shard.specs.declared.answers.Answer.TheVariants.{NotHosted, Hosted, AlreadyHosted, NotHost, ToOffered, ToAsked}
+use Rattle.mx_room.specs.declared.outcomes.Refusal.TheVariants.{AccessList, SecondCreate, Signature, MissingEvents, RoomFull}
 use Rattle.mx_world.specs.declared.answers.Told.{Told}
 
-text_numbers : (a : Answer) → numbers (text_of a) ≡ []
-text_numbers NotHosted = refl
-text_numbers (Hosted id) = refl
-text_numbers (AlreadyHosted id) = refl
-text_numbers (NotHost e) = refl
-text_numbers (ToOffered (Kept Accepted)) = refl
-text_numbers (ToOffered (Kept (SoftFailed rule))) = refl
-text_numbers (ToOffered (Kept (Rejected rule))) = refl
-text_numbers (ToOffered (Known Accepted)) = refl
-text_numbers (ToOffered (Known (SoftFailed rule))) = refl
-text_numbers (ToOffered (Known (Rejected rule))) = refl
-text_numbers (ToOffered (Refused SecondCreate)) = refl
-text_numbers (ToOffered (Refused Signature)) = refl
-text_numbers (ToOffered (Refused MissingEvents)) = refl
-text_numbers (ToOffered (Refused RoomFull)) = refl
-text_numbers (ToAsked r) = refl
+text_numbers : (o : Option Outcome) → numbers (text_of o) ≡ []
+text_numbers None = refl
+text_numbers (Some (Kept Accepted)) = refl
+text_numbers (Some (Kept (SoftFailed rule))) = refl
+text_numbers (Some (Kept (Rejected rule))) = refl
+text_numbers (Some (Known Accepted)) = refl
+text_numbers (Some (Known (SoftFailed rule))) = refl
+text_numbers (Some (Known (Rejected rule))) = refl
+text_numbers (Some (Refused AccessList)) = refl
+text_numbers (Some (Refused SecondCreate)) = refl
+text_numbers (Some (Refused Signature)) = refl
+text_numbers (Some (Refused MissingEvents)) = refl
+text_numbers (Some (Refused RoomFull)) = refl
 
 none_left : (xs ys : List Num) → xs ++ ys ≡ [] → xs ≡ []
 none_left [] ys h = refl
@@ -61,11 +57,11 @@ put_numbers k d (member l e ms) h m =
     ]
 
 abbrev pub with_text : Members → Told → Members
-with_text ms t = put t.id (text_of t.answer) ms
+with_text ms t = put t.id (text_of t.outcome) ms
 
 texts_numbers : (told : List Told) (ms : Members) → member_numbers ms ≡ [] → member_numbers (fold with_text ms told) ≡ []
 texts_numbers [] ms h = h
-texts_numbers (t ∷ told) ms h = texts_numbers told (with_text ms t) (put_numbers t.id (text_of t.answer) ms (text_numbers t.answer) h)
+texts_numbers (t ∷ told) ms h = texts_numbers told (with_text ms t) (put_numbers t.id (text_of t.outcome) ms (text_numbers t.outcome) h)
 
 canonical_without : (ns : List Num) → ns ≡ [] → (if list_any is_float ns then Some Float else (if list_all is_exact ns then None else Some Range)) ≡ None
 canonical_without ns h = ap (λ (xs : List Num). if list_any is_float xs then Some Float else (if list_all is_exact xs then None else Some Range)) h

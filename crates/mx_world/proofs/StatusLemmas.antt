@@ -275,10 +275,10 @@ at-change a a' q c d here as' = λ p.
 
 -- a transaction that has one answer more
 pub found-advanced : {A E : Type 0} (r : Result A E) (old new : BTreeMap TransactionKey Progress) (q : TransactionKey) (rows : List ℕ → List Kept) (origin : List ℕ) (progress progress' : Progress) → Some progress ≡ found old.entries q → Updates transaction_cmp old new q (Some progress') →
-    OnOk r ((from : List ℕ) → progress' ≡ progress_after rows from progress.rest progress.told) → OnOk r (AtTransaction (found old.entries) (found new.entries) q (advanced rows origin))
+    OnOk r (progress' ≡ progress_after rows origin progress.rest progress.told) → OnOk r (AtTransaction (found old.entries) (found new.entries) q (advanced rows origin))
 found-advanced (Err e) old new q rows origin progress progress' is updates after = tt
 found-advanced (Ok x) old new q rows origin progress progress' is updates after =
-    at-change (found old.entries) (found new.entries) q (λ _. Some progress') (advanced rows origin) (ap Some (after origin) ∙ ap (advanced rows origin) is) (found-update old new q q (Some progress') refl updates)
+    at-change (found old.entries) (found new.entries) q (λ _. Some progress') (advanced rows origin) (ap Some after ∙ ap (advanced rows origin) is) (found-update old new q q (Some progress') refl updates)
 
 pub next-found : (rows : List ℕ → List Kept) (origin : List ℕ) (progress : Option Progress) (state : Hold) → next_reply rows origin (status_found progress free) ≡ next_reply rows origin (status_found progress state)
 next-found rows origin (Some progress) state = refl

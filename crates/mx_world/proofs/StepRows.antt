@@ -11,14 +11,14 @@ use Rattle.mx_receipt.specs.declared.verdicts.Verdict.TheVariants.{Accepted}
 use Rattle.mx_room.specs.Offer.{Offered}
 use Rattle.mx_room.specs.declared.outcomes.Outcome.TheVariants as outcome
 use Rattle.mx_room.specs.declared.outcomes.Refusal.TheVariants.{MissingEvents}
-use Rattle.mx_room.specs.declared.queries.Query.TheVariants.{Event as ask_event}
-use Rattle.mx_shard.specs.LoneRoom.{to_offer}
-use Rattle.mx_shard.specs.declared.answers.Answer.TheVariants.{NotHosted, ToOffered}
+use Rattle.mx_room.specs.declared.queries.Query.TheVariants.{Event as ask_event, StateIds as ask_state_ids}
+use Rattle.mx_shard.specs.LoneRoom.{Call, to_offer, to_ask, answer}
+use Rattle.mx_shard.specs.declared.answers.Answer.TheVariants.{NotHosted}
 use Rattle.mx_book.specs.Transactions.{same}
 use Rattle.mx_book.specs.declared.transaction_keys.TransactionKey.{TransactionKey}
-use Rattle.mx_world.specs.Calls.{Start, opening, turn, is_closed, offers}
+use Rattle.mx_world.specs.Calls.{Start, opening, turn, is_closed, if_put_to, offers}
 use Rattle.mx_world.specs.Replies.{body_of, waiting, ended, status_by, open_reply, next_reply, close_reply}
-use Rattle.mx_world.specs.Agree.{holds, StayApart}
+use Rattle.mx_world.specs.Agree.{holds, hears, StayApart}
 use Rattle.mx_world.specs.declared.steps.Step.{Step}
 use Rattle.mx_world.specs.declared.steps.Step.TheVariants.{Next, Close, Ask}
 use Rattle.mx_world.specs.declared.steps.StepReply.TheVariants.{Replayed, Busy, NotOpen, NoMore, OfEvent, MoreLeft}
@@ -78,7 +78,7 @@ one-left = refl
 abbrev none_hosted : List ℕ → List Kept
 none_hosted room = []
 
-next-unhosted : next_reply none_hosted a_server (waiting (child ∷ parent ∷ []) []) ≡ OfEvent (record { id = codes "$8"; answer = NotHosted })
+next-unhosted : next_reply none_hosted a_server (waiting (child ∷ parent ∷ []) []) ≡ OfEvent (record { id = codes "$8"; outcome = None })
 next-unhosted = refl
 
 out-of-turn : next_reply none_hosted a_server (waiting [] []) ≡ NoMore
@@ -97,12 +97,12 @@ next-after-its-end : next_reply none_hosted a_server (ended (codes "{}")) ≡ No
 next-after-its-end = refl
 
 -- a child before its parent, and sent again after it: the last text stands
-child-first : body_of (record { id = codes "$8"; answer = ToOffered (outcome.Refused MissingEvents) } ∷ record { id = codes "$7"; answer = ToOffered (outcome.Kept Accepted) } ∷ [])
+child-first : body_of (record { id = codes "$8"; outcome = Some (outcome.Refused MissingEvents) } ∷ record { id = codes "$7"; outcome = Some (outcome.Kept Accepted) } ∷ [])
     ≡ codes "{\"pdus\":{\"$7\":{},\"$8\":{\"error\":\"missing events\"}}}"
 unfolding body_of canonical_text chars
 child-first = refl
 
-child-again : body_of (record { id = codes "$8"; answer = ToOffered (outcome.Refused MissingEvents) } ∷ record { id = codes "$8"; answer = ToOffered (outcome.Kept Accepted) } ∷ []) ≡ codes "{\"pdus\":{\"$8\":{}}}"
+child-again : body_of (record { id = codes "$8"; outcome = Some (outcome.Refused MissingEvents) } ∷ record { id = codes "$8"; outcome = Some (outcome.Kept Accepted) } ∷ []) ≡ codes "{\"pdus\":{\"$8\":{}}}"
 unfolding body_of canonical_text chars
 child-again = refl
 
@@ -113,6 +113,24 @@ own-room = refl
 
 other-room : offers s a_server (child ∷ elsewhere ∷ []) ≡ []
 other-room = refl
+
+-- ---- a query that names a room
+
+abbrev state_asked : List ℕ → Call
+state_asked room = to_ask a_server 5 (ask_state_ids room (codes "$7"))
+
+asked-where-named : if_put_to r (state_asked r) ≡ state_asked r ∷ []
+asked-where-named = refl
+
+asked-nowhere-else : if_put_to s (state_asked r) ≡ []
+asked-nowhere-else = refl
+
+asked-of-no-room : answer [] (state_asked r) ≡ NotHosted
+asked-of-no-room = refl
+
+-- it concerns the room also where the event is not held
+heard-where-named : hears [] (state_asked r) ≡ true
+heard-where-named = refl
 
 -- ---- two rooms that stand apart
 

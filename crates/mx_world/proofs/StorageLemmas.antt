@@ -1,5 +1,5 @@
 -- Refusals for want of storage, and what becomes of the shards and the books.
-use Rattle.std.proofs.Common.{◌≡◌, ◌⊎◌, ℕ, zero, suc, ◌+◌, ◌<◌, ◌≤◌, Bool, true, false, ◌||◌, IsTrue, List, [], ◌∷◌, length, get_or, set, take, Some, refl, sym, ◌∙◌, ap, subst, arith, inl, inr}
+use Rattle.std.proofs.Common.{◌≡◌, ◌⊎◌, ℕ, zero, suc, ◌+◌, ◌<◌, ◌≤◌, Bool, true, false, ◌||◌, IsTrue, List, [], ◌∷◌, length, get_or, set, take, Option, Some, None, refl, sym, ◌∙◌, ap, subst, arith, inl, inr}
 use Rattle.std.specs.Prelude.{Result, Err, IsErrOf, ◌↔◌, min}
 use Rattle.std.specs.List.{list_any}
 use mathlib.Core.Path.{fun_ext}
@@ -10,6 +10,7 @@ use Rattle.mx_keeper.specs.Places.{place_number}
 use Rattle.mx_keeper.specs.declared.refusals.CallError.{CallError}
 use Rattle.mx_keeper.specs.declared.refusals.CallError.TheVariants.{Storage}
 use Rattle.mx_room.specs.Offer.{Offered}
+use Rattle.mx_room.specs.Queries.{room_named}
 use Rattle.mx_shard.specs.View.{ShardView}
 use Rattle.mx_book.specs.declared.transaction_keys.TransactionKey.{TransactionKey}
 use Rattle.mx_pdu.specs.Event.{room_of}
@@ -17,7 +18,7 @@ use Rattle.mx_world.specs.Replies.{Status, status_after}
 use Rattle.mx_world.specs.Moves.{rest_of}
 use Rattle.mx_world.specs.View.{WorldView}
 use Rattle.mx_world.specs.Worlds.{is_refused, status_in, start, IsAfter}
-use Rattle.mx_world.specs.Storage.{Fails, Lasts, FailsAt, SomeFails, OnlyAt, AllLast, ShardsLast, BooksLast, ShardFails, BookFails, NextFails, IsStorageFailure, ChangesOwn}
+use Rattle.mx_world.specs.Storage.{Fails, Lasts, FailsAt, SomeFails, OnlyAt, AllLast, ShardsLast, BooksLast, ShardFails, BookFails, NextFails, AskFails, IsStorageFailure, ChangesOwn}
 use Rattle.mx_world.specs.declared.steps.Step.{Step}
 use Rattle.mx_world.specs.declared.steps.Step.TheVariants.{Host, Open, Next, Close, Ask}
 
@@ -97,6 +98,12 @@ fails-set refused failed views n d v name is l h lasts = λ e.
     (subst (λ w. Fails refused failed (get_or views n e) w) (sym (get_or-set_same views n v e l))
     (subst (λ w. Fails refused failed w v) (get_or_default views n d e l) (h, lasts.cause h)))
 
+-- the one at the place of a name was refused
+pub named-fails : {V : Type 0} (refused : V → Bool) (failed : V → ℕ) (views : List V) (n : ℕ) (v : V) (name : List ℕ) → n ≡ place_number (length views) name → n < length views → v ≡ get_or views n v → refused v ≡ true → FailsAt refused failed views views name
+named-fails refused failed views n v name is l at h = λ e.
+    subst (λ i. Fails refused failed (get_or views i e) (get_or views i e)) is
+    (let here : refused (get_or views n e) ≡ true = ap refused (get_or_default views n e v l ∙ sym at) ∙ h in (here, inl here))
+
 -- one of them was refused
 pub some-fails : {V : Type 0} (refused : V → Bool) (failed : V → ℕ) (views : List V) (n : ℕ) (v : V) → v ≡ get_or views n v → n < length views → refused v ≡ true → SomeFails refused failed views views
 some-fails refused failed views n v is l h = (
@@ -119,13 +126,17 @@ next-since : {K : Type 0} (f : K → ℕ) (a b c : List (ShardView K)) (rest : L
 next-since f a b c [] h k x = x
 next-since f a b c (o ∷ rest) h k x = at-since (λ shard. shard.is_refused) (λ shard. f shard.keeper) a b c (room_of o.pdu) h k x
 
+ask-since : {K : Type 0} (f : K → ℕ) (a b c : List (ShardView K)) (room : Option (List ℕ)) → ShardsLast f a b → ShardsLast f b c → AskFails f b c room → AskFails f a c room
+ask-since f a b c None h k x = some-since (λ shard. shard.is_refused) (λ shard. f shard.keeper) a b c h k x
+ask-since f a b c (Some room) h k x = at-since (λ shard. shard.is_refused) (λ shard. f shard.keeper) a b c room h k x
+
 pub failure-since : {K L : Type 0} (f : K → ℕ) (g : L → ℕ) (status : TransactionKey → Status) (a b c : WorldView K L) (step : Step) → ShardsLast f a.shards b.shards → BooksLast g a.books b.books → ShardsLast f b.shards c.shards → BooksLast g b.books c.books →
     IsStorageFailure f g status b c step → IsStorageFailure f g status a c step
 failure-since f g status a b c (Host o) s t s' t' x = at-since (λ shard. shard.is_refused) (λ shard. f shard.keeper) a.shards b.shards c.shards (room_of o.pdu) s s' x
 failure-since f g status a b c (Open p events) s t s' t' x = at-since (λ book. book.is_refused) (λ book. g book.keeper) a.books b.books c.books p.origin t t' x
 failure-since f g status a b c (Next p) s t s' t' x = next-since f a.shards b.shards c.shards (rest_of (status p)) s s' x
 failure-since f g status a b c (Close p) s t s' t' x = at-since (λ book. book.is_refused) (λ book. g book.keeper) a.books b.books c.books p.origin t t' x
-failure-since f g status a b c (Ask origin now q) s t s' t' x = some-since (λ shard. shard.is_refused) (λ shard. f shard.keeper) a.shards b.shards c.shards s s' x
+failure-since f g status a b c (Ask origin now q) s t s' t' x = ask-since f a.shards b.shards c.shards (room_named q) s s' x
 
 -- the step that stops a run
 pub run-failure : {K L : Type 0} (f : K → ℕ) (g : L → ℕ) (a b c : WorldView K L) (steps : List Step) (n m : ℕ) (x d : Step) → n ≡ m → m < length steps → x ≡ get_or steps m x → IsAfter (start a) (take m steps) b →
@@ -176,15 +187,19 @@ next_any : {K L : Type 0} (f : K → ℕ) (old new : WorldView K L) (rest : List
 next_any f old new [] some lasts h = absurd h
 next_any f old new (o ∷ rest) some lasts h = shard_any f old new (room_of o.pdu) some lasts h
 
+ask_any : {K L : Type 0} (f : K → ℕ) (old new : WorldView K L) (room : Option (List ℕ)) → 0 < length old.shards → ShardsLast f old.shards new.shards → AskFails f old.shards new.shards room → IsTrue (is_refused new)
+ask_any f old new (Some room) some lasts h = shard_any f old new room some lasts h
+ask_any f old new None some lasts (n, l, x) =
+    in_shards (list_any (λ shard. shard.is_refused) new.shards) (list_any (λ book. book.is_refused) new.books)
+    (any-at (λ shard. shard.is_refused) (λ shard. f shard.keeper) old.shards new.shards n lasts.long l x)
+
 -- a step that is refused for want of storage leaves some shard or book refused
 pub refused-any : {K L : Type 0} (f : K → ℕ) (g : L → ℕ) (status : TransactionKey → Status) (old new : WorldView K L) (step : Step) → 0 < length old.shards → 0 < length old.books → ChangesOwn f g status old new step → IsStorageFailure f g status old new step → IsTrue (is_refused new)
 refused-any f g status old new (Host o) s b own h = shard_any f old new (room_of o.pdu) s own.shards_last h
 refused-any f g status old new (Open p events) s b own h = book_any g old new p.origin b own.books_last h
 refused-any f g status old new (Next p) s b own h = next_any f old new (rest_of (status p)) s own.shards_last h
 refused-any f g status old new (Close p) s b own h = book_any g old new p.origin b own.books_last h
-refused-any f g status old new (Ask origin now q) s b own (n, l, x) =
-    in_shards (list_any (λ shard. shard.is_refused) new.shards) (list_any (λ book. book.is_refused) new.books)
-    (any-at (λ shard. shard.is_refused) (λ shard. f shard.keeper) old.shards new.shards n own.shards_last.long l x)
+refused-any f g status old new (Ask origin now q) s b own h = ask_any f old new (room_named q) s own.shards_last h
 
 -- what holds of the parts holds of the server
 pub of_parts : {W : Type 0} (P : W → W → Type 0) (w w' u u' : W) → u ≡ w → u' ≡ w' → P u u' → P w w'

@@ -1,5 +1,5 @@
 -- What a run tells about one room, and when two runs agree on it (our own).
-use Rattle.std.specs.Prelude.{ℕ, ◌≡◌, Bool, true, if◌then◌else◌, List, [], ◌∷◌, ◌++◌, IsTrue, is_some}
+use Rattle.std.specs.Prelude.{ℕ, ◌≡◌, Bool, true, if◌then◌else◌, List, [], ◌∷◌, ◌++◌, Option, Some, None, IsTrue, is_some}
 use Rattle.std.specs.List.{list_any}
 use Rattle.mx_graph.specs.Record.{place_of}
 use Rattle.mx_shard.specs.LoneRoom.{Call, to_host, to_offer, to_ask, added}
@@ -8,7 +8,9 @@ use Rattle.mx_world.specs.Replies.{AreReplies}
 use Rattle.mx_receipt.specs.Receipt.{Kept, rows_of}
 use Rattle.mx_room.specs.declared.queries.Query.{Query}
 use Rattle.mx_room.specs.declared.queries.Query.TheVariants.{Event as ask_event}
+use Rattle.mx_room.specs.declared.outcomes.Outcome.{Outcome}
 use Rattle.mx_shard.specs.declared.answers.Answer.{Answer}
+use Rattle.mx_shard.specs.declared.answers.Answer.TheVariants.{NotHosted, ToOffered}
 use Rattle.mx_world.specs.declared.steps.Step.{Step}
 use Rattle.mx_world.specs.declared.steps.Step.TheVariants.{Ask}
 use Rattle.mx_world.specs.declared.steps.StepReply.{StepReply}
@@ -26,6 +28,7 @@ holds kept id = is_some (place_of (rows_of kept) id)
 
 abbrev pub hears_query : List Kept → Query → Bool
 hears_query kept (ask_event id) = holds kept id
+hears_query kept _ = true
 
 abbrev pub hears : List Kept → Call → Bool
 hears kept (to_host o) = true
@@ -38,9 +41,14 @@ heard kept (call ∷ calls) = where_so (hears kept call) (call ∷ []) ++ heard 
 
 -- ---- what the replies tell about a room
 
+-- the answer to an offered event; with no outcome its room is not hosted
+abbrev pub offered_answer : Option Outcome → Answer
+offered_answer None = NotHosted
+offered_answer (Some o) = ToOffered o
+
 abbrev pub answers_in : StepReply → List Answer
 answers_in (OfRoom a) = a ∷ []
-answers_in (OfEvent t) = t.answer ∷ []
+answers_in (OfEvent t) = offered_answer t.outcome ∷ []
 answers_in _ = []
 
 -- the answers in the replies to the later steps, of those steps that make a call which the room hears

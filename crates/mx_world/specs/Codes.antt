@@ -1,23 +1,19 @@
 -- For proofs and private clauses alone.
 -- Codes, so that a model's value can hold events.
-use Rattle.std.specs.Prelude.{◌≡◌, ℕ, ◌==◌, Bool, cond, List, [], Ok, Err, refl}
+use Rattle.std.specs.Prelude.{◌≡◌, ℕ, ◌==◌, Bool, cond, List, [], Option, Some, None, refl}
 use Rattle.std.specs.Coded.{Coded, code_by, coded×, coded_ℕ, coded_bool, coded_list}
-use Rattle.serde_json.specs.Data.{Data, null}
+use Rattle.serde_json.specs.Data.{Data}
 use Rattle.mx_pdu.specs.DataCode.{data_code}
 use Rattle.mx_auth.specs.declared.refusals.Rule.{Rule}
 use Rattle.mx_auth.specs.declared.refusals.Rule.TheVariants.{StateWithoutCreate}
 use Rattle.mx_auth.specs.RuleCode.{rule_code}
 use Rattle.mx_receipt.specs.declared.verdicts.Verdict.TheVariants.{Accepted, SoftFailed, Rejected}
 use Rattle.mx_room.specs.Offer.{Offered}
+use Rattle.mx_room.specs.declared.outcomes.Outcome.{Outcome}
 use Rattle.mx_room.specs.declared.outcomes.Outcome.TheVariants.{Kept, Known, Refused}
-use Rattle.mx_room.specs.declared.outcomes.Refusal.TheVariants.{SecondCreate, Signature, MissingEvents, RoomFull}
-use Rattle.mx_room.specs.declared.hosting.NotARoom.TheVariants.{NotACreateEvent, CitesAuthEvents, Unsigned, BadContentHash, BreaksRule}
-use Rattle.mx_room.specs.declared.queries.QueryReply.TheVariants.{Event}
-use Rattle.mx_room.specs.declared.queries.Denied.TheVariants.{NotFound}
+use Rattle.mx_room.specs.declared.outcomes.Refusal.TheVariants.{AccessList, SecondCreate, Signature, MissingEvents, RoomFull}
 use Rattle.mx_keeper.specs.Places.{PlaceView}
 use Rattle.mx_shard.specs.View.{ShardView, place_code, shard_code}
-use Rattle.mx_shard.specs.declared.answers.Answer.{Answer}
-use Rattle.mx_shard.specs.declared.answers.Answer.TheVariants.{NotHosted, Hosted, AlreadyHosted, NotHost, ToOffered, ToAsked}
 use Rattle.mx_book.specs.View.{BookView}
 use Rattle.mx_book.specs.declared.transaction_keys.TransactionKey.{TransactionKey}
 use Rattle.mx_book.specs.declared.entries.BookEntry.{BookEntry}
@@ -33,78 +29,55 @@ offered_code =
     code_by (Data × (List ℕ × Bool)) (coded× data_code (coded× text_code coded_bool))
     (λ o. (o.pdu, (o.id, o.signed))) (λ p. record { pdu = p.0; id = p.1.0; signed = p.1.1 }) (λ _. refl)
 
--- ---- answers: a number for each kind, and what it holds beside
+-- ---- outcomes: a number for each kind, and the rule of a verdict beside it
 
 abbrev pub Parts : Type 0
-Parts = ℕ × (List ℕ × (Data × Rule))
+Parts = ℕ × Rule
 
 abbrev pub kind : ℕ → Parts
-kind n = (n, ([], (null, StateWithoutCreate)))
+kind n = (n, StateWithoutCreate)
 
-abbrev pub kind_of_rule : ℕ → Rule → Parts
-kind_of_rule n rule = (n, ([], (null, rule)))
+abbrev pub parts_of : Option Outcome → Parts
+parts_of None = kind 0
+parts_of (Some (Kept Accepted)) = kind 1
+parts_of (Some (Kept (SoftFailed rule))) = (2, rule)
+parts_of (Some (Kept (Rejected rule))) = (3, rule)
+parts_of (Some (Known Accepted)) = kind 4
+parts_of (Some (Known (SoftFailed rule))) = (5, rule)
+parts_of (Some (Known (Rejected rule))) = (6, rule)
+parts_of (Some (Refused AccessList)) = kind 7
+parts_of (Some (Refused SecondCreate)) = kind 8
+parts_of (Some (Refused Signature)) = kind 9
+parts_of (Some (Refused MissingEvents)) = kind 10
+parts_of (Some (Refused RoomFull)) = kind 11
 
-abbrev pub parts_of : Answer → Parts
-parts_of NotHosted = kind 0
-parts_of (Hosted id) = (1, (id, (null, StateWithoutCreate)))
-parts_of (AlreadyHosted id) = (2, (id, (null, StateWithoutCreate)))
-parts_of (NotHost NotACreateEvent) = kind 3
-parts_of (NotHost CitesAuthEvents) = kind 4
-parts_of (NotHost Unsigned) = kind 5
-parts_of (NotHost BadContentHash) = kind 6
-parts_of (NotHost (BreaksRule rule)) = kind_of_rule 7 rule
-parts_of (ToOffered (Kept Accepted)) = kind 8
-parts_of (ToOffered (Kept (SoftFailed rule))) = kind_of_rule 9 rule
-parts_of (ToOffered (Kept (Rejected rule))) = kind_of_rule 10 rule
-parts_of (ToOffered (Known Accepted)) = kind 11
-parts_of (ToOffered (Known (SoftFailed rule))) = kind_of_rule 12 rule
-parts_of (ToOffered (Known (Rejected rule))) = kind_of_rule 13 rule
-parts_of (ToOffered (Refused SecondCreate)) = kind 14
-parts_of (ToOffered (Refused Signature)) = kind 15
-parts_of (ToOffered (Refused MissingEvents)) = kind 16
-parts_of (ToOffered (Refused RoomFull)) = kind 17
-parts_of (ToAsked (Err NotFound)) = kind 18
-parts_of (ToAsked (Ok (Event e))) = (19, ([], (e, StateWithoutCreate)))
+abbrev pub outcome_of : Parts → Option Outcome
+outcome_of p =
+    cond (p.0 == 0) None (cond (p.0 == 1) (Some (Kept Accepted)) (cond (p.0 == 2) (Some (Kept (SoftFailed p.1)))
+    (cond (p.0 == 3) (Some (Kept (Rejected p.1))) (cond (p.0 == 4) (Some (Known Accepted))
+    (cond (p.0 == 5) (Some (Known (SoftFailed p.1))) (cond (p.0 == 6) (Some (Known (Rejected p.1)))
+    (cond (p.0 == 7) (Some (Refused AccessList)) (cond (p.0 == 8) (Some (Refused SecondCreate))
+    (cond (p.0 == 9) (Some (Refused Signature)) (cond (p.0 == 10) (Some (Refused MissingEvents)) (Some (Refused RoomFull))))))))))))
 
-abbrev pub answer_of : Parts → Answer
-answer_of p =
-    cond (p.0 == 0) NotHosted (cond (p.0 == 1) (Hosted p.1.0) (cond (p.0 == 2) (AlreadyHosted p.1.0)
-    (cond (p.0 == 3) (NotHost NotACreateEvent) (cond (p.0 == 4) (NotHost CitesAuthEvents) (cond (p.0 == 5) (NotHost Unsigned)
-    (cond (p.0 == 6) (NotHost BadContentHash) (cond (p.0 == 7) (NotHost (BreaksRule p.1.1.1))
-    (cond (p.0 == 8) (ToOffered (Kept Accepted)) (cond (p.0 == 9) (ToOffered (Kept (SoftFailed p.1.1.1)))
-    (cond (p.0 == 10) (ToOffered (Kept (Rejected p.1.1.1))) (cond (p.0 == 11) (ToOffered (Known Accepted))
-    (cond (p.0 == 12) (ToOffered (Known (SoftFailed p.1.1.1))) (cond (p.0 == 13) (ToOffered (Known (Rejected p.1.1.1)))
-    (cond (p.0 == 14) (ToOffered (Refused SecondCreate)) (cond (p.0 == 15) (ToOffered (Refused Signature))
-    (cond (p.0 == 16) (ToOffered (Refused MissingEvents)) (cond (p.0 == 17) (ToOffered (Refused RoomFull))
-    (cond (p.0 == 18) (ToAsked (Err NotFound)) (ToAsked (Ok (Event p.1.1.0)))))))))))))))))))))
+pub outcome_of-parts : (o : Option Outcome) → outcome_of (parts_of o) ≡ o
+outcome_of-parts None = refl
+outcome_of-parts (Some (Kept Accepted)) = refl
+outcome_of-parts (Some (Kept (SoftFailed rule))) = refl
+outcome_of-parts (Some (Kept (Rejected rule))) = refl
+outcome_of-parts (Some (Known Accepted)) = refl
+outcome_of-parts (Some (Known (SoftFailed rule))) = refl
+outcome_of-parts (Some (Known (Rejected rule))) = refl
+outcome_of-parts (Some (Refused AccessList)) = refl
+outcome_of-parts (Some (Refused SecondCreate)) = refl
+outcome_of-parts (Some (Refused Signature)) = refl
+outcome_of-parts (Some (Refused MissingEvents)) = refl
+outcome_of-parts (Some (Refused RoomFull)) = refl
 
-pub answer_of-parts : (a : Answer) → answer_of (parts_of a) ≡ a
-answer_of-parts NotHosted = refl
-answer_of-parts (Hosted id) = refl
-answer_of-parts (AlreadyHosted id) = refl
-answer_of-parts (NotHost NotACreateEvent) = refl
-answer_of-parts (NotHost CitesAuthEvents) = refl
-answer_of-parts (NotHost Unsigned) = refl
-answer_of-parts (NotHost BadContentHash) = refl
-answer_of-parts (NotHost (BreaksRule rule)) = refl
-answer_of-parts (ToOffered (Kept Accepted)) = refl
-answer_of-parts (ToOffered (Kept (SoftFailed rule))) = refl
-answer_of-parts (ToOffered (Kept (Rejected rule))) = refl
-answer_of-parts (ToOffered (Known Accepted)) = refl
-answer_of-parts (ToOffered (Known (SoftFailed rule))) = refl
-answer_of-parts (ToOffered (Known (Rejected rule))) = refl
-answer_of-parts (ToOffered (Refused SecondCreate)) = refl
-answer_of-parts (ToOffered (Refused Signature)) = refl
-answer_of-parts (ToOffered (Refused MissingEvents)) = refl
-answer_of-parts (ToOffered (Refused RoomFull)) = refl
-answer_of-parts (ToAsked (Err NotFound)) = refl
-answer_of-parts (ToAsked (Ok (Event e))) = refl
-
-abbrev pub answer_code : Coded Answer
-answer_code = code_by Parts (coded× coded_ℕ (coded× text_code (coded× data_code rule_code))) parts_of answer_of answer_of-parts
+abbrev pub outcome_code : Coded (Option Outcome)
+outcome_code = code_by Parts (coded× coded_ℕ rule_code) parts_of outcome_of outcome_of-parts
 
 abbrev pub told_code : Coded Told
-told_code = code_by (List ℕ × Answer) (coded× text_code answer_code) (λ t. (t.id, t.answer)) (λ p. record { id = p.0; answer = p.1 }) (λ _. refl)
+told_code = code_by (List ℕ × Option Outcome) (coded× text_code outcome_code) (λ t. (t.id, t.outcome)) (λ p. record { id = p.0; outcome = p.1 }) (λ _. refl)
 
 -- ---- transactions
 

@@ -1,12 +1,9 @@
 -- What always holds of a server's parts, for private clauses.
-use Rattle.std.specs.Prelude.{ℕ, ◌≡◌, ◌<◌, ◌≤◌, Bool, true, false, Ok, List, [], ◌∷◌, ◌++◌, length, map, get_or, Option, Some, None}
+use Rattle.std.specs.Prelude.{ℕ, ◌≡◌, ◌<◌, ◌≤◌, List, [], ◌∷◌, ◌++◌, length, map, get_or, Option, Some, None}
 use Rattle.mx_keeper.specs.Places.{PlaceView}
 use Rattle.mx_receipt.specs.Receipt.{Kept}
 use Rattle.mx_room.specs.Offer.{Offered}
-use Rattle.mx_room.specs.declared.outcomes.Outcome.{Outcome}
 use Rattle.mx_shard.specs.View.{ShardView}
-use Rattle.mx_shard.specs.declared.answers.Answer.{Answer}
-use Rattle.mx_shard.specs.declared.answers.Answer.TheVariants.{NotHosted, ToOffered, ToAsked}
 use Rattle.mx_book.specs.Journal.{Hold, free, begun, kept}
 use Rattle.mx_book.specs.View.{BookView}
 use Rattle.mx_book.specs.declared.transaction_keys.TransactionKey.{TransactionKey}
@@ -53,12 +50,7 @@ opened free = begun SOLE_CALLER
 opened (begun caller) = begun caller
 opened (kept reply) = kept reply
 
--- the answer to an offered event; with no outcome its room is not hosted
-abbrev pub offered_answer : Option Outcome → Answer
-offered_answer None = NotHosted
-offered_answer (Some outcome) = ToOffered outcome
-
--- what one more answer makes of a transaction that is open, where the rooms have these records
+-- what one event more makes of a transaction that is open, where the rooms have these records
 abbrev pub progress_after : (List ℕ → List Kept) → List ℕ → List Offered → List Told → Progress
 progress_after rows origin [] told = record { rest = []; told = told }
 progress_after rows origin (o ∷ rest) told = record { rest = rest; told = told ++ told_of rows origin o ∷ [] }
@@ -66,8 +58,3 @@ progress_after rows origin (o ∷ rest) told = record { rest = rest; told = told
 abbrev pub advanced : (List ℕ → List Kept) → List ℕ → Option Progress → Option Progress
 advanced rows origin None = None
 advanced rows origin (Some progress) = Some (progress_after rows origin progress.rest progress.told)
-
--- the answer gives what is asked for
-abbrev pub shows : Answer → Bool
-shows (ToAsked (Ok reply)) = true
-shows _ = false

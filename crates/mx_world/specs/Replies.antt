@@ -4,20 +4,18 @@ use Rattle.std.specs.Option.{option_or}
 use Rattle.serde_json.specs.Data.{Data, string, object, no_members, member, put}
 use Rattle.mx_canon.specs.Canonical.{canonical_text}
 use Rattle.mx_pdu.specs.Event.{room_of}
-use Rattle.mx_room.specs.Offer.{Offered}
+use Rattle.mx_room.specs.Offer.{Offered, offer_outcome}
 use Rattle.mx_auth.specs.Rules.{label_text}
 use Rattle.mx_receipt.specs.Receipt.{Kept}
 use Rattle.mx_receipt.specs.declared.verdicts.Verdict.{Verdict}
 use Rattle.mx_receipt.specs.declared.verdicts.Verdict.TheVariants.{Accepted, SoftFailed, Rejected}
-use Rattle.mx_shard.specs.LoneRoom.{Call, to_host, to_offer, to_ask, call_room, answer}
+use Rattle.mx_shard.specs.LoneRoom.{Call, to_host, to_ask, call_room}
 use Rattle.mx_shard.specs.Shown.{IsAnswer}
 use Rattle.mx_book.specs.Transactions.{same}
 use Rattle.mx_world.specs.Calls.{Start, Opening, opening, left, left_of, is_closed, record_after}
 use Rattle.mx_room.specs.declared.outcomes.Outcome.{Outcome}
 use Rattle.mx_room.specs.declared.outcomes.Outcome.TheVariants as outcome
 use Rattle.mx_room.specs.Refusals.{refusal_text}
-use Rattle.mx_shard.specs.declared.answers.Answer.{Answer}
-use Rattle.mx_shard.specs.declared.answers.Answer.TheVariants.{ToOffered}
 use Rattle.mx_world.specs.declared.answers.Told.{Told}
 use Rattle.mx_book.specs.declared.transaction_keys.TransactionKey.{TransactionKey}
 use Rattle.mx_world.specs.declared.steps.Step.{Step}
@@ -44,19 +42,19 @@ outcome_text (outcome.Kept v) = verdict_text v
 outcome_text (outcome.Known v) = verdict_text v
 outcome_text (outcome.Refused r) = error_text (refusal_text r)
 
--- the text for an answer to an offered event
-abbrev pub text_of : Answer → Data
-text_of (ToOffered o) = outcome_text o
-text_of _ = error_text (codes "unknown room")
+-- the text for an offered event; with no outcome its room is not hosted
+abbrev pub text_of : Option Outcome → Data
+text_of None = error_text (codes "unknown room")
+text_of (Some o) = outcome_text o
 
 -- each id's text; of an id that is told twice the last text stands
 abbrev pub texts_of : List Told → Data
-texts_of told = object (fold (λ ms t. put t.id (text_of t.answer) ms) no_members told)
+texts_of told = object (fold (λ ms t. put t.id (text_of t.outcome) ms) no_members told)
 
--- the answer of the last that was told with an id
-abbrev pub last_told : List ℕ → List Told → Option Answer
+-- the outcome of the last that was told with an id
+abbrev pub last_told : List ℕ → List Told → Option (Option Outcome)
 last_told id [] = None
-last_told id (t ∷ told) = option_or (last_told id told) (if bytes_eq t.id id then Some t.answer else None)
+last_told id (t ∷ told) = option_or (last_told id told) (if bytes_eq t.id id then Some t.outcome else None)
 
 -- the body of a transaction's reply
 unfoldable pub body_of : List Told → List ℕ
@@ -64,9 +62,14 @@ body_of told = canonical_text (object (member (codes "pdus") (texts_of told) no_
 
 -- ---- what is known of a transaction
 
--- the answers that the events of p among the later steps get, after the earlier ones
+-- what becomes of an offered event; nothing where the record is that of no room
+abbrev pub outcome_in : List Kept → List ℕ → Offered → Option Outcome
+outcome_in [] origin o = None
+outcome_in (k ∷ ks) origin o = Some (offer_outcome (k ∷ ks) origin o)
+
+-- what is told of the events of p among the later steps, after the earlier ones
 abbrev pub told_of : (List ℕ → List Kept) → List ℕ → Offered → Told
-told_of rows origin o = record { id = o.id; answer = answer (rows (room_of o.pdu)) (to_offer origin o) }
+told_of rows origin o = record { id = o.id; outcome = outcome_in (rows (room_of o.pdu)) origin o }
 
 abbrev pub first_told : (List ℕ → List Kept) → List ℕ → List Offered → List Told
 first_told rows origin [] = []
@@ -84,7 +87,7 @@ told_from s p earlier (step ∷ later) =
 abbrev pub told_after : Start → List Step → TransactionKey → List Told
 told_after s steps p = told_from s p [] steps
 
--- a transaction has events left and answers so far, or its reply is kept for good
+-- a transaction has events left and what was told so far, or its reply is kept for good
 pub data Status : Type 0 where
   unopened : Status
   waiting : (rest : List Offered) (told : List Told) → Status

@@ -4,6 +4,7 @@ use Rattle.mx_keeper.specs.Keeping.{Rose}
 use Rattle.mx_keeper.specs.Places.{place_number}
 use Rattle.mx_pdu.specs.Event.{room_of}
 use Rattle.mx_room.specs.Offer.{Offered}
+use Rattle.mx_room.specs.Queries.{room_named}
 use Rattle.mx_shard.specs.View.{ShardView}
 use Rattle.mx_book.specs.View.{BookView}
 use Rattle.mx_book.specs.declared.transaction_keys.TransactionKey.{TransactionKey}
@@ -74,14 +75,19 @@ abbrev pub NextFails : {K : Type 0} → (K → ℕ) → List (ShardView K) → L
 NextFails failed olds news [] = ⊥
 NextFails failed olds news (o ∷ rest) = ShardFails failed olds news (room_of o.pdu)
 
--- the step's own shard or book fails: that of its event's room, or of its transaction's server; for a query some shard.
--- The status is that before the step.
+-- the shard of the room that a query names fails; for a query by an id alone some shard does
+abbrev pub AskFails : {K : Type 0} → (K → ℕ) → List (ShardView K) → List (ShardView K) → Option (List ℕ) → Type 0
+AskFails failed olds news None = SomeShardFails failed olds news
+AskFails failed olds news (Some room) = ShardFails failed olds news room
+
+-- the step's own shard or book fails: that of its room, or of its transaction's server; for a query by an id alone some
+-- shard. The status is that before the step.
 abbrev pub IsStorageFailure : {K L : Type 0} → (K → ℕ) → (L → ℕ) → (TransactionKey → Status) → WorldView K L → WorldView K L → Step → Type 0
 IsStorageFailure f g status old new (Host o) = ShardFails f old.shards new.shards (room_of o.pdu)
 IsStorageFailure f g status old new (Open p events) = BookFails g old.books new.books p.origin
 IsStorageFailure f g status old new (Next p) = NextFails f old.shards new.shards (rest_of (status p))
 IsStorageFailure f g status old new (Close p) = BookFails g old.books new.books p.origin
-IsStorageFailure f g status old new (Ask origin now q) = SomeShardFails f old.shards new.shards
+IsStorageFailure f g status old new (Ask origin now q) = AskFails f old.shards new.shards (room_named q)
 
 -- the room whose shard a step may change, and the server whose book it may
 abbrev pub own_room : (TransactionKey → Status) → Step → Option (List ℕ)

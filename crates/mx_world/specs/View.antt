@@ -6,7 +6,7 @@ use Rattle.mx_book.specs.View.{BookView}
 use Rattle.mx_book.specs.declared.transaction_keys.TransactionKey.{TransactionKey}
 use Rattle.mx_world.specs.declared.answers.Told.{Told}
 
--- a transaction that is open: the events that it has left, and the answers so far
+-- a transaction that is open: the events that it has left, and what was told so far
 pub record Progress : Type 0 where
   pub rest : List Offered
   pub told : List Told

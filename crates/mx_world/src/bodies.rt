@@ -13,11 +13,10 @@ use mx_canon::CanonError;
 use mx_keeper::Reply;
 use mx_receipt::Verdict;
 use mx_room::Outcome;
-use mx_shard::Answer;
 use serde_json::{Map, Value};
 use std::alloc::{AllocError, Global};
 
-/// The reply of a transaction whose events got these answers.
+/// The reply of a transaction of whose events this was told.
 pub(crate) fn reply_body(alloc: Global, told: &[Told]) -> Result<Reply, AllocError>
     ensures { IfOk result (λ reply. reply ≡ body_of told.now) }
 {
@@ -39,28 +38,28 @@ fn texts_for(alloc: Global, told: &[Told]) -> Result<Map<String, Value>, AllocEr
     let mut texts = Map::new(alloc);
     for one in told {
         let id = String::from_str(alloc, one.id.as_str())?;
-        let text = processing_result(alloc, &one.answer)?;
+        let text = processing_result(alloc, one.outcome)?;
         texts.insert(id, text)?;
     }
     Ok(texts)
 }
 
-/// What a transaction's reply says of an event with this answer: an empty object where it is kept or known as accepted
-/// or soft failed, else an object with the key `error`.
+/// What a transaction's reply says of an event with this outcome: an empty object where it is kept or known as accepted
+/// or soft failed, else an object with the key `error`. With no outcome its room is not hosted.
 ///
 /// Source: the Matrix specification, Server-Server API, "Transactions", "PDU Processing Result".
-pub fn processing_result(alloc: Global, answer: &Answer) -> Result<Value, AllocError>
-    ensures { IfOk result (λ value. view value ≡ text_of answer.now) }
+pub fn processing_result(alloc: Global, outcome: Option<Outcome>) -> Result<Value, AllocError>
+    ensures { IfOk result (λ value. view value ≡ text_of outcome) }
 {
-    match answer {
-        Answer::ToOffered(Outcome::Kept(verdict)) => verdict_result(alloc, *verdict),
-        Answer::ToOffered(Outcome::Known(verdict)) => verdict_result(alloc, *verdict),
-        Answer::ToOffered(Outcome::Refused(refusal)) => error_result(alloc, refusal.text()),
-        _ => error_result(alloc, "unknown room"),
+    match outcome {
+        Some(Outcome::Kept(verdict)) => verdict_result(alloc, verdict),
+        Some(Outcome::Known(verdict)) => verdict_result(alloc, verdict),
+        Some(Outcome::Refused(refusal)) => error_result(alloc, refusal.text()),
+        None => error_result(alloc, "unknown room"),
     }
 }
 
-/// The text of an event in a transaction's reply is that of the last answer told for its id, and there is none for an id
+/// The text of an event in a transaction's reply is that of the last outcome told for its id, and there is none for an id
 /// of which nothing was told. The reply that closes a transaction is the canonical text of these texts under `pdus`.
 ///
 /// Source: the Matrix specification, Server-Server API, "Transactions".

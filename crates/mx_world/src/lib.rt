@@ -19,7 +19,9 @@ pub use bodies::{last_answers_are_told, processing_result};
 pub use callers::SOLE_CALLER;
 pub use mx_book::TransactionKey;
 pub use mx_keeper::{BookRow, CallError, Keeper, Reply, ShardRow};
-pub use mx_room::{Denied, NotARoom, Outcome, Query, QueryReply, Refusal};
+pub use mx_room::{
+    Denied, EventIdList, EventList, Moment, NotARoom, Outcome, Query, QueryReply, Refusal,
+};
 pub use mx_shard::Answer;
 pub use runs::{RunError, agreeing_runs_answer_alike, run};
 pub use steps::{Step, StepReply};

@@ -1,18 +1,22 @@
 // Calls of rooms, each at the shard of its room.
-ghost use Rattle.std.specs.Prelude.{◌≡◌, ℕ, List, IfOk, OnOk, OnErr};
+ghost use Rattle.std.specs.Prelude.{◌≡◌, ℕ, List, None, Some, IfOk, OnOk, OnErr};
 ghost use Rattle.mx_pdu.specs.Event.{room_of};
-ghost use Rattle.mx_shard.specs.LoneRoom.{to_host, to_offer, to_ask, call_room, answer, record_alone};
-ghost use Rattle.mx_shard.specs.Shown.{IsAnswer};
+ghost use Rattle.mx_shard.specs.LoneRoom.{to_host, to_offer, to_ask, answer, record_alone};
+ghost use Rattle.mx_room.specs.Queries.{room_named};
+ghost use Rattle.mx_shard.specs.Shown.{IsAnswer, IsShown};
+ghost use Rattle.mx_shard.specs.Told.{tells_shown};
+ghost use Rattle.mx_world.specs.Replies.{outcome_in};
 ghost use Rattle.mx_world.specs.Calls.{if_put_to};
 ghost use Rattle.mx_world.specs.Worlds.{shard_journals, records_of};
-ghost use Rattle.mx_world.specs.Storage.{ShardFails, SomeShardFails, ShardsLast, OnlyAt};
-ghost use Rattle.mx_world.specs.Inside.{shard_places, offered_answer, shows, ArePlaced};
+ghost use Rattle.mx_world.specs.Storage.{AskFails, ShardFails, SomeShardFails, ShardsLast, OnlyAt};
+ghost use Rattle.mx_world.specs.Inside.{shard_places, ArePlaced};
 
 use crate::callers::SOLE_CALLER;
 use crate::numbering::number_for;
+use mx_ident::{RoomId, ServerName};
 use mx_keeper::{CallError, Keeper, ShardRow};
 use mx_pdu::Offered;
-use mx_room::{Denied, Outcome, Query};
+use mx_room::{Denied, Moment, Outcome, Query};
 use mx_shard::{Answer, Shard};
 
 /// Hosts the room of the event.
@@ -36,15 +40,16 @@ pub(crate) fn host_in<K: Keeper<Row = ShardRow>>(
     Ok(answer)
 }
 
-/// What becomes of the event, which is offered to its room; nothing where the room is not hosted.
+/// What becomes of the event, which a server offers to its room; nothing where the room is not hosted.
 pub(crate) fn offer_in<K: Keeper<Row = ShardRow>>(
     shards: &mut [Shard<K>],
+    origin: &ServerName,
     offered: &Offered,
 ) -> Result<Option<Outcome>, CallError>
     requires { ArePlaced (shard_places shards.old) }
-    ensures reply { IfOk result (λ o. (origin : List ℕ) → offered_answer o ≡ answer (records_of (shard_journals shards.old) (room_of offered.now.pdu)) (to_offer origin offered.now)) }
-    ensures records { OnOk result ((origin room : List ℕ) → records_of (shard_journals shards.new) room
-        ≡ record_alone (records_of (shard_journals shards.old) room) (if_put_to room (to_offer origin offered.now))) }
+    ensures reply { IfOk result (λ o. o ≡ outcome_in (records_of (shard_journals shards.old) (room_of offered.now.pdu)) origin.now offered.now) }
+    ensures records { OnOk result ((room : List ℕ) → records_of (shard_journals shards.new) room
+        ≡ record_alone (records_of (shard_journals shards.old) room) (if_put_to room (to_offer origin.now offered.now))) }
     ensures err { OnErr result (shard_journals shards.new ≡ shard_journals shards.old) }
     ensures places { shard_places shards.new ≡ shard_places shards.old }
     ensures storage { result ≡ Err CallError.Storage → ShardFails K.failed shards.old shards.new (room_of offered.now.pdu) }
@@ -53,7 +58,7 @@ pub(crate) fn offer_in<K: Keeper<Row = ShardRow>>(
 {
     let number = number_for(offered.pdu.room_id().as_str(), shards.len());
     let shard = &mut shards[number];
-    let answer = shard.offer(SOLE_CALLER, offered)?;
+    let answer = shard.offer(SOLE_CALLER, origin, offered)?;
     match answer {
         Answer::ToOffered(outcome) => Ok(Some(outcome)),
         Answer::NotHosted => Ok(None),
@@ -61,18 +66,56 @@ pub(crate) fn offer_in<K: Keeper<Row = ShardRow>>(
     }
 }
 
-/// What some room shows; not found only where none shows it.
+/// The answer to a server's query, at a moment: that of the room which it names, or what some room shows.
 pub(crate) fn ask_in<K: Keeper<Row = ShardRow>>(
     shards: &[Shard<K>],
+    origin: &ServerName,
+    now: Moment,
     query: &Query,
 ) -> Result<Answer, CallError>
     requires { ArePlaced (shard_places shards.now) }
-    ensures reply { IfOk result (λ a. (origin : List ℕ) (now : ℕ)
-        → IsAnswer (records_of (shard_journals shards.now)) (to_ask origin now query.now) (call_room (to_ask origin now query.now)) a) }
+    ensures reply { IfOk result (λ a. IsAnswer (records_of (shard_journals shards.now)) (to_ask origin.now now query.now) (room_named query.now) a) }
+    ensures storage { result ≡ Err CallError.Storage → AskFails K.failed shards.now shards.now (room_named query.now) }
+{
+    match query.room() {
+        Some(room) => ask_named(shards, room, origin, now, query),
+        None => ask_each(shards, origin, now, query),
+    }
+}
+
+// The answer of the room that the query names, from its shard.
+fn ask_named<K: Keeper<Row = ShardRow>>(
+    shards: &[Shard<K>],
+    room: &RoomId,
+    origin: &ServerName,
+    now: Moment,
+    query: &Query,
+) -> Result<Answer, CallError>
+    requires placed { ArePlaced (shard_places shards.now) }
+    requires named { room_named query.now ≡ Some room.now }
+    ensures reply { IfOk result (λ a. a ≡ answer (records_of (shard_journals shards.now) room.now) (to_ask origin.now now query.now)) }
+    ensures storage { result ≡ Err CallError.Storage → ShardFails K.failed shards.now shards.now room.now }
+{
+    let number = number_for(room.as_str(), shards.len());
+    let shard = &shards[number];
+    let answer = shard.ask(origin, now, query)?;
+    Ok(answer)
+}
+
+// What some room shows; not found only where none shows it.
+fn ask_each<K: Keeper<Row = ShardRow>>(
+    shards: &[Shard<K>],
+    origin: &ServerName,
+    now: Moment,
+    query: &Query,
+) -> Result<Answer, CallError>
+    requires placed { ArePlaced (shard_places shards.now) }
+    requires alone { room_named query.now ≡ None }
+    ensures reply { IfOk result (λ a. IsShown (records_of (shard_journals shards.now)) (to_ask origin.now now query.now) a) }
     ensures storage { result ≡ Err CallError.Storage → SomeShardFails K.failed shards.now shards.now }
 {
     for shard in shards {
-        let answer = shard.ask(query)?;
+        let answer = shard.ask(origin, now, query)?;
         if is_shown(&answer) {
             return Ok(answer);
         }
@@ -81,7 +124,7 @@ pub(crate) fn ask_in<K: Keeper<Row = ShardRow>>(
 }
 
 fn is_shown(answer: &Answer) -> bool
-    ensures { result ≡ shows answer.now }
+    ensures { result ≡ tells_shown answer.now }
 {
     matches!(answer, Answer::ToAsked(Ok(_)))
 }

@@ -4,16 +4,17 @@ use mx_book::TransactionKey;
 use mx_ident::ServerName;
 use mx_keeper::Reply;
 use mx_pdu::Offered;
-use mx_room::Query;
+use mx_room::{Moment, Query};
 use mx_shard::Answer;
 
 /// One step of a server of rooms.
 ///
 /// `Host`: host the room that this create event makes. `Open`: a server begins a transaction with these events. `Next`:
 /// the next event of a transaction that is open goes to its room. `Close`: a transaction whose events all went to their
-/// rooms gets its reply, which is kept for good. `Ask`: a server's query, at a time in milliseconds since 1970.
+/// rooms gets its reply, which is kept for good. `Ask`: a server's query, at a moment.
 ///
-/// Source: the Matrix specification, Server-Server API, "Transactions" and "Retrieving events".
+/// Source: the Matrix specification, Server-Server API, "Transactions", "Retrieving events" and "Backfilling and
+/// retrieving missing events".
 #[derive(Debug, Drop)]
 pub enum Step {
     Host(Offered),
@@ -22,7 +23,7 @@ pub enum Step {
     Close(TransactionKey),
     Ask {
         origin: ServerName,
-        now: u64,
+        now: Moment,
         query: Query,
     },
 }
@@ -31,7 +32,7 @@ pub enum Step {
 ///
 /// `OfRoom`: a room's answer. `Opened`: a transaction was opened with so many events. `Replayed`: it was closed before,
 /// and this is its reply. `Busy`: it is open already. `NotOpen`: it is not open. `NoMore`: none of its events is left.
-/// `OfEvent`: its next event, and the room's answer. `MoreLeft`: so many of its events are left, so that it stays open.
+/// `OfEvent`: its next event, and what became of it. `MoreLeft`: so many of its events are left, so that it stays open.
 /// `Closed`: it is closed from now on, and this is its reply. `Busy`, `NotOpen`, `NoMore` and `MoreLeft` change nothing.
 #[derive(Debug, Drop)]
 pub enum StepReply {

@@ -2,10 +2,10 @@ ghost use Rattle.std.specs.Prelude.{◌≡◌, ◌≤◌, length, IfOk, IsTrue};
 ghost use Rattle.mx_world.specs.Worlds.{none_open};
 
 use crate::{
-    Answer, BookRow, CallError, Denied, Query, ShardRow, Step, StepReply, TransactionKey, World,
-    run,
+    Answer, BookRow, CallError, Denied, EventIdList, Moment, Query, QueryReply, ShardRow, Step,
+    StepReply, TransactionKey, World, run,
 };
-use mx_ident::{EventId, ServerName};
+use mx_ident::{EventId, RoomId, ServerName};
 use mx_keeper::{MemoryKeeper, Storable, TransactionId};
 use mx_pdu::{Offered, Pdu};
 use serde_json::Value;
@@ -54,17 +54,50 @@ fn key(alloc: Global, origin: &str, txn: &str) -> Result<TransactionKey, AllocEr
     Ok(TransactionKey { origin, txn })
 }
 
-fn ask(alloc: Global, id: &str) -> Result<Step, AllocError> {
-    let origin = ServerName::parse(alloc, "a.example").map_err(refused)?;
-    let query = Query::Event(EventId::parse(alloc, id).map_err(refused)?);
-    Ok(Step::Ask {
-        origin,
-        now: 1,
-        query,
-    })
+fn ask(alloc: Global, origin: &str, query: Query) -> Result<Step, AllocError> {
+    let origin = ServerName::parse(alloc, origin).map_err(refused)?;
+    let now = Moment::at(1).ok_or(AllocError)?;
+    Ok(Step::Ask { origin, now, query })
 }
 
-// A step by its words: `host ID=NAME`, `open ORIGIN TXN ID=NAME ..`, `next ORIGIN TXN`, `close ORIGIN TXN`, `ask ID`.
+fn list_of(alloc: Global, id: &str) -> Result<EventIdList, AllocError> {
+    let mut ids = Vec::new(alloc);
+    ids.push(EventId::parse(alloc, id).map_err(refused)?)?;
+    Ok(EventIdList::new(ids))
+}
+
+// A query that names a room, about the first event; between both for `missing`.
+fn query_in(
+    alloc: Global,
+    kind: &str,
+    room: &str,
+    first: &str,
+    last: &str,
+) -> Result<Query, AllocError> {
+    let room = RoomId::parse(alloc, room).map_err(refused)?;
+    let event = EventId::parse(alloc, first).map_err(refused)?;
+    let ids = list_of(alloc, first)?;
+    match kind {
+        "state" => Ok(Query::State { room, event }),
+        "state_ids" => Ok(Query::StateIds { room, event }),
+        "event_auth" => Ok(Query::EventAuth { room, event }),
+        "backfill" => Ok(Query::Backfill {
+            room,
+            from: ids,
+            limit: 10,
+        }),
+        _ => Ok(Query::Missing {
+            room,
+            earliest: ids,
+            latest: list_of(alloc, last)?,
+            limit: 10,
+            min_depth: 0,
+        }),
+    }
+}
+
+// A step by its words: `host ID=NAME`, `open ORIGIN TXN ID=NAME ..`, `next ORIGIN TXN`, `close ORIGIN TXN`, `ask ID` of
+// the server a.example, `KIND ORIGIN ROOM ID` for a query that names a room, and `missing ORIGIN ROOM ID ID`.
 fn step_of(alloc: Global, written: &str) -> Result<Step, AllocError> {
     let mut words = written.split(' ');
     let kind = words.next().unwrap_or("");
@@ -73,18 +106,24 @@ fn step_of(alloc: Global, written: &str) -> Result<Step, AllocError> {
         return Ok(Step::Host(offered(alloc, first)?));
     }
     if kind == "ask" {
-        return ask(alloc, first);
+        let id = EventId::parse(alloc, first).map_err(refused)?;
+        return ask(alloc, "a.example", Query::Event(id));
     }
-    let key = key(alloc, first, words.next().unwrap_or(""))?;
+    let second = words.next().unwrap_or("");
     match kind {
-        "next" => Ok(Step::Next(key)),
-        "close" => Ok(Step::Close(key)),
-        _ => {
+        "next" => Ok(Step::Next(key(alloc, first, second)?)),
+        "close" => Ok(Step::Close(key(alloc, first, second)?)),
+        "open" => {
             let mut events = Vec::new(alloc);
             for word in words {
                 events.push(offered(alloc, word)?)?;
             }
-            Ok(Step::Open(key, events))
+            Ok(Step::Open(key(alloc, first, second)?, events))
+        }
+        _ => {
+            let id = words.next().unwrap_or("");
+            let last = words.next().unwrap_or("");
+            ask(alloc, first, query_in(alloc, kind, second, id, last)?)
         }
     }
 }
@@ -122,7 +161,13 @@ fn all_steps(alloc: Global, written: &[&str]) -> Result<Vec<Step>, AllocError> {
 fn word(reply: &StepReply) -> &'static str {
     match reply {
         StepReply::OfRoom(Answer::Hosted(_)) => "hosted",
-        StepReply::OfRoom(Answer::ToAsked(Ok(_))) => "shown",
+        StepReply::OfRoom(Answer::NotHosted) => "not hosted",
+        StepReply::OfRoom(Answer::ToAsked(Ok(QueryReply::Event(_)))) => "shown",
+        StepReply::OfRoom(Answer::ToAsked(Ok(QueryReply::State { .. }))) => "state",
+        StepReply::OfRoom(Answer::ToAsked(Ok(QueryReply::StateIds { .. }))) => "ids of a state",
+        StepReply::OfRoom(Answer::ToAsked(Ok(QueryReply::EventAuth(_)))) => "auth chain",
+        StepReply::OfRoom(Answer::ToAsked(Ok(QueryReply::Events(_)))) => "events",
+        StepReply::OfRoom(Answer::ToAsked(Err(Denied::NotInRoom))) => "not in the room",
         StepReply::OfRoom(Answer::ToAsked(Err(Denied::NotFound))) => "not found",
         StepReply::OfEvent(_) => "told",
         StepReply::Replayed(_) => "kept reply",
@@ -132,8 +177,8 @@ fn word(reply: &StepReply) -> &'static str {
     }
 }
 
-// Queries by an event's id alone are put to all rooms.
-const STEPS: [&str; 9] = [
+// Queries by an event's id alone are put to all rooms, and each other one to the room that it names.
+const STEPS: [&str; 17] = [
     "host $c=create",
     "ask $jr",
     "open a.example t1 $jr=join $p=parent",
@@ -143,9 +188,17 @@ const STEPS: [&str; 9] = [
     "close a.example t1",
     "open a.example t1",
     "ask $p",
+    "state a.example !r:a.example $p",
+    "state_ids a.example !r:a.example $p",
+    "event_auth a.example !r:a.example $p",
+    "backfill a.example !r:a.example $p",
+    "missing a.example !r:a.example $c $p",
+    "state b.example !r:a.example $p",
+    "event_auth a.example !r:a.example $x",
+    "backfill a.example !s:a.example $p",
 ];
 
-const WORDS: [&str; 9] = [
+const WORDS: [&str; 17] = [
     "hosted",
     "not found",
     "opened",
@@ -155,6 +208,14 @@ const WORDS: [&str; 9] = [
     "closed",
     "kept reply",
     "shown",
+    "state",
+    "ids of a state",
+    "auth chain",
+    "events",
+    "events",
+    "not in the room",
+    "not found",
+    "not hosted",
 ];
 
 #[test]

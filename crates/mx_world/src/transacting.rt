@@ -98,7 +98,7 @@ pub(crate) fn next_in<K: Keeper<Row = ShardRow>>(
     ensures last { ShardsLast K.failed shards.old shards.new }
 {
     match going.get_mut(key) {
-        Some(transaction) => transaction.advance(shards),
+        Some(transaction) => transaction.advance(shards, &key.origin),
         None => Ok(StepReply::NotOpen),
     }
 }

@@ -5,19 +5,19 @@ ghost use Rattle.mx_world.specs.Calls.{offers};
 ghost use Rattle.mx_world.specs.Replies.{waiting, next_reply};
 ghost use Rattle.mx_world.specs.Worlds.{shard_journals, records_of};
 ghost use Rattle.mx_world.specs.Storage.{NextFails, ShardsLast, OnlyAt, next_room};
-ghost use Rattle.mx_world.specs.Inside.{shard_places, offered_answer, progress_after, ArePlaced};
+ghost use Rattle.mx_world.specs.Inside.{shard_places, progress_after, ArePlaced};
 
 use crate::answers::Told;
 use crate::rooms::offer_in;
 use crate::steps::StepReply;
+use mx_ident::ServerName;
 use mx_keeper::{CallError, Keeper, ShardRow};
 use mx_pdu::Offered;
-use mx_room::Outcome;
-use mx_shard::{Answer, Shard};
+use mx_shard::Shard;
 use std::alloc::{AllocError, Global};
 use std::marker::Model;
 
-/// A transaction that is open: the events that it was opened with, and the answers so far.
+/// A transaction that is open: the events that it was opened with, and what was told of them so far.
 #[derive(Debug, Drop)]
 pub(crate) struct Transaction {
     events: Vec<Offered>,
@@ -55,23 +55,24 @@ impl Transaction {
         left_of(&self.events, &self.told)
     }
 
-    /// The answers so far.
+    /// What was told so far.
     pub fn told(&self) -> &[Told]
         ensures { result.now ≡ self.now.told }
     {
         &self.told
     }
 
-    /// Offers the next event to its room.
+    /// Offers the next event, which a server sent, to its room.
     pub fn advance<K: Keeper<Row = ShardRow>>(
         &mut self,
         shards: &mut [Shard<K>],
+        origin: &ServerName,
     ) -> Result<StepReply, CallError>
         requires { ArePlaced (shard_places shards.old) }
-        ensures reply { IfOk result (λ r. (origin : List ℕ) → r ≡ next_reply (records_of (shard_journals shards.old)) origin (waiting self.old.rest self.old.told)) }
-        ensures progress { OnOk result ((origin : List ℕ) → self.new ≡ progress_after (records_of (shard_journals shards.old)) origin self.old.rest self.old.told) }
-        ensures records { OnOk result ((origin room : List ℕ) → records_of (shard_journals shards.new) room
-            ≡ record_alone (records_of (shard_journals shards.old) room) (offers room origin self.old.rest)) }
+        ensures reply { IfOk result (λ r. r ≡ next_reply (records_of (shard_journals shards.old)) origin.now (waiting self.old.rest self.old.told)) }
+        ensures progress { OnOk result (self.new ≡ progress_after (records_of (shard_journals shards.old)) origin.now self.old.rest self.old.told) }
+        ensures records { OnOk result ((room : List ℕ) → records_of (shard_journals shards.new) room
+            ≡ record_alone (records_of (shard_journals shards.old) room) (offers room origin.now self.old.rest)) }
         ensures err { OnErr result (self.new ≡ self.old) }
         ensures err_shards { OnErr result (shard_journals shards.new ≡ shard_journals shards.old) }
         ensures places { shard_places shards.new ≡ shard_places shards.old }
@@ -79,7 +80,7 @@ impl Transaction {
         ensures only { OnlyAt (next_room self.old.rest) shards.old shards.new }
         ensures last { ShardsLast K.failed shards.old shards.new }
     {
-        take_next(&self.events, &mut self.told, shards)
+        take_next(&self.events, &mut self.told, shards, origin)
     }
 }
 
@@ -104,18 +105,19 @@ fn left_of(events: &[Offered], told: &[Told]) -> usize
     }
 }
 
-// The first event that is left is offered to its room, and the answer told. What can fail comes first.
+// The first event that is left is offered to its room, and what became of it told. What can fail comes first.
 fn take_next<K: Keeper<Row = ShardRow>>(
     events: &[Offered],
     told: &mut Vec<Told>,
     shards: &mut [Shard<K>],
+    origin: &ServerName,
 ) -> Result<StepReply, CallError>
     requires { ArePlaced (shard_places shards.old) }
-    ensures reply { IfOk result (λ r. (origin : List ℕ) → r ≡ next_reply (records_of (shard_journals shards.old)) origin (waiting (drop (length told.old.items) events.now) told.old.items)) }
-    ensures progress { OnOk result ((origin : List ℕ) → record { rest = drop (length told.new.items) events.now; told = told.new.items }
-        ≡ progress_after (records_of (shard_journals shards.old)) origin (drop (length told.old.items) events.now) told.old.items) }
-    ensures records { OnOk result ((origin room : List ℕ) → records_of (shard_journals shards.new) room
-        ≡ record_alone (records_of (shard_journals shards.old) room) (offers room origin (drop (length told.old.items) events.now))) }
+    ensures reply { IfOk result (λ r. r ≡ next_reply (records_of (shard_journals shards.old)) origin.now (waiting (drop (length told.old.items) events.now) told.old.items)) }
+    ensures progress { OnOk result (record { rest = drop (length told.new.items) events.now; told = told.new.items }
+        ≡ progress_after (records_of (shard_journals shards.old)) origin.now (drop (length told.old.items) events.now) told.old.items) }
+    ensures records { OnOk result ((room : List ℕ) → records_of (shard_journals shards.new) room
+        ≡ record_alone (records_of (shard_journals shards.old) room) (offers room origin.now (drop (length told.old.items) events.now))) }
     ensures err { OnErr result (told.new.items ≡ told.old.items) }
     ensures err_shards { OnErr result (shard_journals shards.new ≡ shard_journals shards.old) }
     ensures places { shard_places shards.new ≡ shard_places shards.old }
@@ -129,22 +131,10 @@ fn take_next<K: Keeper<Row = ShardRow>>(
     let told_id = offered.id.clone()?;
     let id = offered.id.clone()?;
     told.reserve(1)?;
-    let outcome = offer_in(shards, offered)?;
+    let outcome = offer_in(shards, origin, offered)?;
     told.push_reserved(Told {
         id: told_id,
-        answer: answer_for(outcome),
+        outcome,
     });
-    Ok(StepReply::OfEvent(Told {
-        id,
-        answer: answer_for(outcome),
-    }))
-}
-
-fn answer_for(outcome: Option<Outcome>) -> Answer
-    ensures { result ≡ offered_answer outcome }
-{
-    match outcome {
-        Some(outcome) => Answer::ToOffered(outcome),
-        None => Answer::NotHosted,
-    }
+    Ok(StepReply::OfEvent(Told { id, outcome }))
 }

@@ -90,8 +90,8 @@ impl<K: Keeper<Row = ShardRow>, L: Keeper<Row = BookRow>> World<K, L> {
     /// One step. After any steps from a start its reply is the one that these steps call for.
     ///
     /// `Memory` where no memory is left. `Storage` where what keeps the rows of the step's own shard or book failed, now
-    /// or before: the shard of the event's room, the book of the transaction's server, or, for a query by an event's id
-    /// alone, any shard. A step that is refused changes no journal, and so no room's record, and no transaction's status.
+    /// or before: the shard of the event's room, or of the room that a query names, the book of the transaction's server,
+    /// or, for a query by an event's id alone, any shard. A step that is refused changes no journal, and so no room's record, and no transaction's status.
     pub fn step(&mut self, alloc: Global, step: &Step) -> Result<StepReply, CallError>
         ensures next { IfOk result (λ reply. (s : Start) (earlier : List Step) → IsAfter s earlier self.old →
             IsReply (record_after s earlier) (status_after s earlier) step.now reply × IsAfter s (earlier ++ step.now ∷ []) self.new) }
@@ -152,8 +152,8 @@ fn step_in<K: Keeper<Row = ShardRow>, L: Keeper<Row = BookRow>>(
         Step::Open(key, events) => open_in(alloc, books, going, key, events),
         Step::Next(key) => next_in(shards, going, key),
         Step::Close(key) => close_in(alloc, books, going, key),
-        Step::Ask { query, .. } => {
-            let answer = ask_in(shards, query)?;
+        Step::Ask { origin, now, query } => {
+            let answer = ask_in(shards, origin, *now, query)?;
             Ok(StepReply::OfRoom(answer))
         }
     }

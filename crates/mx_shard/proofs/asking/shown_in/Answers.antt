@@ -1,21 +1,18 @@
-use Rattle.std.proofs.Common.{◌∙◌, refl, sym, ap}
-use Rattle.std.specs.Prelude.{option_copied}
+use Rattle.std.proofs.Common.{◌∙◌, sym}
 use Rattle.mx_room.proofs.RoomLemmas.{at-error}
-use Rattle.mx_shard.specs.Told.{tells_shown}
-use Rattle.mx_shard.proofs.RoomLemmas.{shown_none, shown_some}
+use Rattle.mx_shard.proofs.RoomLemmas.{has_shown, shown_none, shown_some}
 use Rattle.mx_shard.proofs.asking.shown_in.Goals as goal
 
+pub returns-then-is_ok-clause-reply : goal.returns-then-is_ok-clause-reply
+returns-then-is_ok-clause-reply c =
+    shown_some c.args.rooms.now c.args.origin.now c.args.now c.args.query.now c.loop-room.room-index c.room-item.result c.requires.distinct c.requires.ready c.loop-room-test.true c.room-item.is
+    c.in_ok-reply.reply c.in_ok-reply.ensures.reply (sym c.is_ok.ensures.value ∙ c.if-is_ok.true)
+
 pub returns-clause-reply : goal.returns-clause-reply
-returns-clause-reply c = λ origin now. shown_none c.args.rooms.now c.args.id.now origin now c.loop-room.room-index c.loop-room-test.false c.loop-room.invariant
+returns-clause-reply c =
+    shown_none c.args.rooms.now c.args.origin.now c.args.now c.args.query.now c.loop-room.room-index c.requires.alone c.loop-room-test.false c.loop-room.invariant
 
-pub returns-in-Some-clause-reply : goal.returns-in-Some-clause-reply
-returns-in-Some-clause-reply c = λ origin now.
-    shown_some c.args.rooms.now c.args.id.now origin now c.loop-room.room-index c.room-item.result c.in_ok-event.event c.in-Some.event.now c.requires c.loop-room-test.true c.room-item.is
-    (sym c.event.ensures ∙ ap option_copied c.in-Some.is) c.in_ok-event.ensures.cases
-
-pub returns-in_err-event-clause-memory : goal.returns-in_err-event-clause-memory
-returns-in_err-event-clause-memory c = at-error c.from_residual.result (λ origin now.
-    let s =
-    shown_some c.args.rooms.now c.args.id.now origin now c.loop-room.room-index c.room-item.result c.in-Some.event.now c.in-Some.event.now c.requires c.loop-room-test.true c.room-item.is
-    (sym c.event.ensures ∙ ap option_copied c.in-Some.is) refl in
-    (s.0, ap tells_shown s.1))
+pub returns-in_err-reply-clause-memory : goal.returns-in_err-reply-clause-memory
+returns-in_err-reply-clause-memory c =
+    at-error c.from_residual.result
+    (has_shown c.args.rooms.now c.args.origin.now c.args.now c.args.query.now c.loop-room.room-index c.room-item.result c.requires.distinct c.requires.ready c.loop-room-test.true c.room-item.is c.in_err-reply.ensures.memory)

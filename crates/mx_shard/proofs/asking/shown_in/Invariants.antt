@@ -1,8 +1,9 @@
-use Rattle.std.proofs.Common.{◌≡◌, ℕ, ◌<◌, None, get_or}
-use Rattle.mx_room.specs.Asking.{event_shown}
+use Rattle.std.proofs.Common.{◌≡◌, ℕ, ◌<◌, false, get_or}
+use Rattle.std.specs.Prelude.{is_ok}
+use Rattle.mx_room.specs.Queries.{query_answer}
 use Rattle.mx_room.specs.RoomView.{RoomView}
 use Rattle.mx_shard.proofs.asking.shown_in.Given as goal
 
--- the rooms so far don't show the event
+-- the rooms so far give nothing
 abbrev pub invariant-loop-room : goal.invariant-loop-room
-invariant-loop-room l = (k : ℕ) (d : RoomView) → k < l.room-index → event_shown (get_or l.rooms k d).kept l.id ≡ None
+invariant-loop-room l = (k : ℕ) (d : RoomView) → k < l.room-index → is_ok (query_answer (get_or l.rooms k d).kept l.origin l.now l.query) ≡ false

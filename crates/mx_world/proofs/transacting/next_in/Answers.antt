@@ -13,7 +13,7 @@ use Rattle.mx_world.proofs.transacting.next_in.Goals as goal
 pub returns-in-Some-clause-reply : goal.returns-in-Some-clause-reply
 returns-in-Some-clause-reply g c =
     IfOk-weaker c.advance.result _ _
-    (λ r h. h c.args.key.now.origin ∙ ap (λ f. next_reply (records_of (shard_journals c.args.shards.now)) c.args.key.now.origin (status_found f free)) c.in-Some.ensures.value)
+    (λ r h. h ∙ ap (λ f. next_reply (records_of (shard_journals c.args.shards.now)) c.args.key.now.origin (status_found f free)) c.in-Some.ensures.value)
     c.advance.ensures.reply
 
 pub returns-in-Some-clause-found : goal.returns-in-Some-clause-found

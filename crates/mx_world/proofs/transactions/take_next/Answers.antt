@@ -24,28 +24,28 @@ returns-in_err-outcome-clause-only g c =
     rw left c.offer_in.ensures.only
 
 pub returns-clause-reply : goal.returns-clause-reply
-returns-clause-reply g c = λ origin.
+returns-clause-reply g c =
     let left : drop (length c.args.told.now.items) c.args.events.now ≡ c.in-Some.offered.now ∷ drop (length c.args.told.now.items + 1) c.args.events.now =
     next_left c.args.events.now c.len.result (length c.args.told.now.items) c.in-Some.offered.now (c.len.ensures ∙ c.args.told.now.ok.0) c.in-Some.ensures.lookup.3.0 c.in-Some.ensures.lookup.1 in
-    rw left (λ i. OfEvent (record { id = c.in_ok-id.ensures.cases i; answer = (c.answer_for-2.ensures ∙ c.in_ok-outcome.ensures.reply origin) i }))
+    rw left (λ i. OfEvent (record { id = c.in_ok-id.ensures.cases i; outcome = c.in_ok-outcome.ensures.reply i }))
 
 pub returns-clause-progress : goal.returns-clause-progress
-returns-clause-progress g c = λ origin.
+returns-clause-progress g c =
     let left : drop (length c.args.told.now.items) c.args.events.now ≡ c.in-Some.offered.now ∷ drop (length c.args.told.now.items + 1) c.args.events.now =
     next_left c.args.events.now c.len.result (length c.args.told.now.items) c.in-Some.offered.now (c.len.ensures ∙ c.args.told.now.ok.0) c.in-Some.ensures.lookup.3.0 c.in-Some.ensures.lookup.1 in
-    let told : c.push_reserved.new.self.items ≡ c.args.told.now.items ++ record { id = c.in_ok-told_id.told_id; answer = c.answer_for.result } ∷ [] =
-    c.push_reserved.ensures.items ∙ ap (λ (ts : List Told). ts ++ record { id = c.in_ok-told_id.told_id; answer = c.answer_for.result } ∷ []) c.reserve.ensures.items in
+    let told : c.push_reserved.new.self.items ≡ c.args.told.now.items ++ record { id = c.in_ok-told_id.told_id; outcome = c.in_ok-outcome.outcome } ∷ [] =
+    c.push_reserved.ensures.items ∙ ap (λ (ts : List Told). ts ++ record { id = c.in_ok-told_id.told_id; outcome = c.in_ok-outcome.outcome } ∷ []) c.reserve.ensures.items in
     let longer : length c.push_reserved.new.self.items ≡ length c.args.told.now.items + 1 = ap length told ∙ length_push _ _ in
     rw left (λ i. record {
       rest = drop (longer i) c.args.events.now;
-      told = (told ∙ (λ j. c.args.told.now.items ++ record { id = c.in_ok-told_id.ensures.cases j; answer = (c.answer_for.ensures ∙ c.in_ok-outcome.ensures.reply origin) j } ∷ [])) i;
+      told = (told ∙ (λ j. c.args.told.now.items ++ record { id = c.in_ok-told_id.ensures.cases j; outcome = c.in_ok-outcome.ensures.reply j } ∷ [])) i;
     })
 
 pub returns-clause-records : goal.returns-clause-records
-returns-clause-records g c = λ origin room.
+returns-clause-records g c = λ room.
     let left : drop (length c.args.told.now.items) c.args.events.now ≡ c.in-Some.offered.now ∷ drop (length c.args.told.now.items + 1) c.args.events.now =
     next_left c.args.events.now c.len.result (length c.args.told.now.items) c.in-Some.offered.now (c.len.ensures ∙ c.args.told.now.ok.0) c.in-Some.ensures.lookup.3.0 c.in-Some.ensures.lookup.1 in
-    rw left (c.in_ok-outcome.ensures.records origin room)
+    rw left (c.in_ok-outcome.ensures.records room)
 
 pub returns-clause-only : goal.returns-clause-only
 returns-clause-only g c =
