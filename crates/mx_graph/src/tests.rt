@@ -107,10 +107,19 @@ fn redactions(rt: HostRuntime) -> Result<(), Fail> {
     }
     let held = EventId::parse(alloc, "$5")?;
     let missing = EventId::parse(alloc, "$100")?;
-    assert_eq!(rt; graph.redactions_of(&held), numbers(alloc, &[6, 8])?.as_slice());
-    assert_eq!(rt; graph.redactions_of(&missing), numbers(alloc, &[7])?.as_slice());
+    assert_eq!(rt;
+        graph.redactions_of(&held),
+        numbers(alloc, &[6, 8])?.as_slice()
+    );
+    assert_eq!(rt;
+        graph.redactions_of(&missing),
+        numbers(alloc, &[7])?.as_slice()
+    );
     graph.remove_last();
-    assert_eq!(rt; graph.redactions_of(&held), numbers(alloc, &[6])?.as_slice());
+    assert_eq!(rt;
+        graph.redactions_of(&held),
+        numbers(alloc, &[6])?.as_slice()
+    );
     Ok(())
 }
 
