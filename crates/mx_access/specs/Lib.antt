@@ -2,4 +2,3 @@ pub mod Acl
 pub mod Access
 pub mod ViewerView
 pub mod StateCode
-pub mod Redactions

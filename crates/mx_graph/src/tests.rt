@@ -10,7 +10,19 @@ fn row(alloc: Global, id: &str, prev_events: &str, auth_events: &str) -> Option<
     let json = format!(in alloc;
         "{{\"auth_events\":{auth_events},\"content\":{{}},\"depth\":1,\"hashes\":{{}},\"origin_server_ts\":5,\"prev_events\":{prev_events},\"room_id\":\"!r:a.example\",\"sender\":\"@a:a.example\",\"signatures\":{{}},\"type\":\"m.room.message\"}}"
     );
-    let value = Value::from_str(alloc, json.ok()?.as_str()).ok()?;
+    parsed_row(alloc, id, json.ok()?.as_str())
+}
+
+// A redaction with this id that names an event and follows the last row of `base`.
+fn redaction(alloc: Global, id: &str, target: &str) -> Option<GraphRow> {
+    let json = format!(in alloc;
+        "{{\"auth_events\":[\"$1\"],\"content\":{{}},\"depth\":1,\"hashes\":{{}},\"origin_server_ts\":5,\"prev_events\":[\"$6\"],\"redacts\":\"{target}\",\"room_id\":\"!r:a.example\",\"sender\":\"@a:a.example\",\"signatures\":{{}},\"type\":\"m.room.redaction\"}}"
+    );
+    parsed_row(alloc, id, json.ok()?.as_str())
+}
+
+fn parsed_row(alloc: Global, id: &str, json: &str) -> Option<GraphRow> {
+    let value = Value::from_str(alloc, json).ok()?;
     let event = Pdu::from_value(alloc, value).ok()?;
     let id = EventId::parse(alloc, id).ok()?;
     Some(GraphRow {
@@ -82,4 +94,51 @@ fn closures_or_no_memory(rt: HostRuntime) {
     if let Ok(found) = graph.auth_chain(alloc, &last) {
         assert_eq!(rt; found.len(), 4);
     }
+}
+
+// Redactions of an event that is there and of one that is not, until the last one is removed.
+#[test]
+fn redactions(rt: HostRuntime) -> Result<(), Fail> {
+    let alloc = rt.alloc();
+    let mut graph = base(alloc).ok_or("no memory")?;
+    for (id, target) in [("$7", "$5"), ("$8", "$100"), ("$9", "$5")] {
+        let row = redaction(alloc, id, target).ok_or("no memory")?;
+        graph.add(row)?;
+    }
+    let held = EventId::parse(alloc, "$5")?;
+    let missing = EventId::parse(alloc, "$100")?;
+    assert_eq!(rt;
+        graph.redactions_of(&held),
+        numbers(alloc, &[6, 8])?.as_slice()
+    );
+    assert_eq!(rt;
+        graph.redactions_of(&missing),
+        numbers(alloc, &[7])?.as_slice()
+    );
+    graph.remove_last();
+    assert_eq!(rt;
+        graph.redactions_of(&held),
+        numbers(alloc, &[6])?.as_slice()
+    );
+    Ok(())
+}
+
+#[test]
+fn redactions_or_no_memory(rt: HostRuntime) {
+    let alloc = rt.alloc();
+    let Some(mut graph) = base(alloc) else {
+        return;
+    };
+    let Some(row) = redaction(alloc, "$7", "$5") else {
+        return;
+    };
+    let Ok(target) = EventId::parse(alloc, "$5") else {
+        return;
+    };
+    let count = match graph.add(row) {
+        Ok(_) => 1,
+        Err(_) => 0,
+    };
+    assert_eq!(rt; graph.redactions_of(&target).len(), count);
+    assert_eq!(rt; graph.len(), 6 + count);
 }

@@ -1,30 +1,21 @@
-use Rattle.std.proofs.Common.{◌≡◌, ◌<◌, ◌∷◌, ◌||◌, ℕ, length, sym, ap, subst, ◌∙◌}
-use Rattle.std.proofs.lemmas.List.Elements.{All-tail}
-use Rattle.std.specs.List.{All, list_any}
-use Rattle.mx_access.specs.Access.{is_effective, redactions_of}
-use Rattle.mx_access.specs.Redactions.{redactions_left}
-use Rattle.mx_access.proofs.RedactionLemmas.{redactions-below}
+use Rattle.std.proofs.Common.{◌||◌, ◌+◌, drop, sym, ap, ◌∙◌}
+use Rattle.std.specs.List.{list_any}
+use Rattle.mx_access.proofs.RedactionLemmas.{takes_effect, any-named, any-next, any-end}
 use Rattle.mx_access.proofs.redactions.is_redacted.Goals as goal
-
-pub loop-redaction-init : goal.loop-redaction-init
-loop-redaction-init c =
-    let all : redactions_left c.into_iter-redaction-iterator.result ≡ redactions_of c.args.timeline.now.kept c.args.number = ap redactions_left c.into_iter-redaction-iterator.ensures.into_iter_gives ∙ c.redactions_of-redaction-items.ensures in
-    record {
-      can = tt;
-      finite = tt;
-      left = ap (list_any (is_effective c.args.timeline.now.kept c.args.number)) all;
-      below = subst (λ rs. All (λ (r : ℕ). r < length c.args.timeline.now.kept) rs) (sym all) (redactions-below c.args.timeline.now.kept c.args.number);
-    }
 
 pub loop-redaction-preserved : goal.loop-redaction-preserved
 loop-redaction-preserved c =
-    let step : redactions_left c.loop-redaction.redaction-iterator ≡ c.in-Some.redaction ∷ redactions_left c.next.new.self = c.in-Some.ensures.steps in
-    record {
-      can = tt;
-      finite = tt;
-      left =
-          ap (λ b. b || list_any (is_effective c.args.timeline.now.kept c.args.number) (redactions_left c.next.new.self)) (sym c.if-is_effective.false ∙ c.is_effective.ensures)
-          ∙ ap (list_any (is_effective c.args.timeline.now.kept c.args.number)) (sym step) ∙ c.loop-redaction.invariant.left;
-      below = All-tail (λ (r : ℕ). r < length c.args.timeline.now.kept) c.in-Some.redaction (redactions_left c.next.new.self)
-          (subst (λ rs. All (λ (r : ℕ). r < length c.args.timeline.now.kept) rs) step c.loop-redaction.invariant.below);
-    }
+    ap (λ b. b || list_any (takes_effect c.args.timeline.now.kept c.args.number) (drop (c.loop-redaction.redaction-index + 1) c.redactions_naming-redactions.result.now)) (sym (sym c.takes_effect.ensures ∙ c.if-takes_effect.false))
+    ∙ sym (any-next (takes_effect c.args.timeline.now.kept c.args.number) c.redactions_naming-redactions.result.now c.loop-redaction.redaction-index c.redaction-item.result c.loop-redaction-test.true c.redaction-item.is)
+    ∙ c.loop-redaction.invariant
+
+pub returns-then-takes_effect : goal.returns-then-takes_effect
+returns-then-takes_effect c =
+    sym (ap (λ b. b || list_any (takes_effect c.args.timeline.now.kept c.args.number) (drop (c.loop-redaction.redaction-index + 1) c.redactions_naming-redactions.result.now)) (sym c.takes_effect.ensures ∙ c.if-takes_effect.true))
+    ∙ sym (any-next (takes_effect c.args.timeline.now.kept c.args.number) c.redactions_naming-redactions.result.now c.loop-redaction.redaction-index c.redaction-item.result c.loop-redaction-test.true c.redaction-item.is)
+    ∙ c.loop-redaction.invariant ∙ any-named c.args.timeline.now.kept c.args.number _ (ap (λ r. r.id) c.row.ensures) c.redactions_naming-redactions.result.now c.redactions_naming-redactions.ensures.named
+
+pub returns : goal.returns
+returns c =
+    sym (any-end (takes_effect c.args.timeline.now.kept c.args.number) c.redactions_naming-redactions.result.now c.loop-redaction.redaction-index c.loop-redaction-test.false)
+    ∙ c.loop-redaction.invariant ∙ any-named c.args.timeline.now.kept c.args.number _ (ap (λ r. r.id) c.row.ensures) c.redactions_naming-redactions.result.now c.redactions_naming-redactions.ensures.named
