@@ -13,3 +13,4 @@ pub mod ReceiptRows
 pub mod HeldLemmas
 pub mod HeldGrowth
 pub mod RemovalLemmas
+pub mod ClosureLemmas

@@ -121,6 +121,9 @@ module _ (rows : List Row) (states : List State) (js : List Judgement) (exts : L
   pub shown-extremities : exts ≡ forward_extremities kept
   shown-extremities = h.is_held.is_kept.are_extremities ∙ ap forward_extremities (sym h.shown)
 
+  pub extremities-below : All (λ p. p < length kept) exts
+  extremities-below = subst (λ n. All (λ p. p < n) exts) (judged-length h.kept_states h.kept_judgements ∙ sym shown-length) h.is_held.is_kept.below
+
   pub shown-index : (p : ℕ) → p < length kept → p < length h.kept_judgements
   shown-index p l = let e : length kept ≡ length h.kept_judgements = shown-length in omega arith
 
@@ -169,7 +172,7 @@ module _ (rows : List Row) (states : List State) (js : List Judgement) (exts : L
       let f : length h.kept_rows ≡ length h.kept_judgements = h.is_held.is_kept.count ∙ judged-length h.kept_states h.kept_judgements in
       ap (λ rs. row rs p) h.are_rows ∙ get_or_append_left h.kept_rows (option_to_list h.next_row) no_row p (omega arith) ∙ ap (λ rs. row rs p) (sym shown-rows)
 
-  shown-count : length kept ≡ length h.kept_rows
+  pub shown-count : length kept ≡ length h.kept_rows
   shown-count = shown-length ∙ sym (h.is_held.is_kept.count ∙ judged-length h.kept_states h.kept_judgements)
 
   pub shown-found : (id : List ℕ) (p : ℕ) → place_of rows id ≡ Some p → p < length kept → Some p ≡ place_of (rows_of kept) id

@@ -3,6 +3,7 @@
 #![tactic(auto)]
 
 mod citing;
+mod closures;
 mod covering;
 mod judging;
 mod receiving;

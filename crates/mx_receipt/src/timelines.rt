@@ -2,6 +2,8 @@
 ghost use Rattle.std.specs.Prelude.{◌≡◌, ◌<◌, ◌≤◌, ◌↔◌, ◌++◌, ◌∷◌, All, IfOk, IfSome, IsErrOf, None, OnErr, OnOk, Option, Some, [], ℕ, is_none, length, option_copied, option_map};
 ghost use Rattle.std.specs.List.{list_any};
 ghost use Rattle.std.specs.Result.{result_err};
+ghost use Rattle.mx_graph.specs.Edges.{Rises};
+ghost use Rattle.mx_graph.specs.Graph as closure;
 ghost use Rattle.mx_graph.specs.Record.{place_of, row as row_at};
 ghost use Rattle.mx_receipt.specs.Receipt as definition;
 ghost use Rattle.mx_receipt.specs.Receipt.{Kept};
@@ -9,6 +11,7 @@ ghost use Rattle.mx_receipt.specs.TimelineView.{IsSoundCreate};
 ghost use Rattle.mx_receipt.specs.Timelines.{IsTimeline};
 ghost use Rattle.mx_receipt.specs.declared.refusals.NotReceived.{NotReceived as Cause};
 
+use crate::closures::{earlier_ancestors, earlier_auth_chain};
 use crate::receiving::{begin_in, last_event, prepare_in, remove_last};
 use crate::refusals::{NotReceived, OfferError};
 use crate::snapshots::Judgement;
@@ -169,9 +172,39 @@ impl Timeline {
 
     /// The forward extremities, rising: the accepted events that are no ancestors of accepted events.
     pub fn extremities(&self) -> &[EventNo]
-        ensures { result.now ≡ definition.forward_extremities self.now.kept }
+        ensures forward { result.now ≡ definition.forward_extremities self.now.kept }
+        ensures below { All (λ number. number < length self.now.kept) result.now }
     {
         &self.extremities
+    }
+
+    /// The prev events of these events, their prev events, and so on, rising. A given event is among them only where
+    /// another one leads to it. `AllocError` where no memory is left.
+    ///
+    /// The time is that of [`Graph::ancestors`].
+    pub fn ancestors(&self, alloc: Global, starts: &[EventNo]) -> Result<Vec<EventNo>, AllocError>
+        requires { All (λ start. start < length self.now.kept) starts.now }
+        ensures set { IfOk result (λ found. found.items ≡ closure.ancestors (definition.rows_of self.now.kept) starts.now) }
+        ensures rises { IfOk result (λ found. Rises found.items) }
+        ensures below { IfOk result (λ found. All (λ number. number < length self.now.kept) found.items) }
+    {
+        let found = earlier_ancestors(alloc, &self.graph, starts)?;
+        Ok(found)
+    }
+
+    /// The auth events of these events, their auth events, and so on, rising. A given event is among them only where
+    /// another one leads to it. `AllocError` where no memory is left.
+    ///
+    /// The time is that of [`Graph::auth_chain`]. Source: the Matrix specification, Room Version 2, "State resolution",
+    /// auth chain.
+    pub fn auth_chain(&self, alloc: Global, starts: &[EventNo]) -> Result<Vec<EventNo>, AllocError>
+        requires { All (λ start. start < length self.now.kept) starts.now }
+        ensures set { IfOk result (λ found. found.items ≡ closure.auth_chain (definition.rows_of self.now.kept) starts.now) }
+        ensures rises { IfOk result (λ found. Rises found.items) }
+        ensures below { IfOk result (λ found. All (λ number. number < length self.now.kept) found.items) }
+    {
+        let found = earlier_auth_chain(alloc, &self.graph, starts)?;
+        Ok(found)
     }
 
     /// Whether the room takes an event, and if not, the first cause that holds. It takes no memory.

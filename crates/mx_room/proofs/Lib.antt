@@ -1,3 +1,5 @@
 pub mod RoomLemmas
+pub mod OrderLemmas
+pub mod AnswerLemmas
 pub mod RoomOnExamples
 pub mod RoomRows

@@ -3,3 +3,5 @@ pub mod Hosting
 pub mod Queries
 pub mod RoomView
 pub mod Refusals
+pub mod Answers
+pub mod EventOrders

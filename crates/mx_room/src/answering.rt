@@ -1,14 +1,22 @@
 // The answer to a query.
-ghost use Rattle.std.specs.Prelude.{◌≡◌, IfOk, IsTrue, OnErr, is_ok};
-ghost use Rattle.mx_room.specs.Queries.{query_answer};
+ghost use Rattle.std.specs.Prelude.{◌≡◌, ◌<◌, IfOk, IsTrue, OnErr, is_ok, is_some, length};
+ghost use Rattle.mx_room.specs.Answers as answers;
+ghost use Rattle.mx_room.specs.Queries.{query_answer, room_named};
 
+use crate::given_events::shown_event;
+use crate::history_queries::{backfill_answer, missing_answer};
 use crate::moments::Moment;
 use crate::queries::{Denied, Query, QueryReply};
-use mx_ident::ServerName;
+use crate::state_queries::{event_auth_answer, state_answer, state_ids_answer};
+use mx_access::{Viewer, acl_allows};
+use mx_ident::{EventId, ServerName};
 use mx_receipt::Timeline;
 use std::alloc::{AllocError, Global};
 
 /// The answer to a server's query, at a moment.
+///
+/// The access control list is asked first, and then whether the server is in the room, but not for a query that names no
+/// room.
 pub(crate) fn answer_in(
     alloc: Global,
     timeline: &Timeline,
@@ -19,5 +27,82 @@ pub(crate) fn answer_in(
     ensures reply { IfOk result (λ reply. reply ≡ query_answer timeline.now.kept origin.now now query.now) }
     ensures memory { OnErr result (IsTrue (is_ok (query_answer timeline.now.kept origin.now now query.now))) }
 {
-    Err(AllocError)
+    let names_room = names_room(query);
+    if names_room && !acl_allows(timeline, origin) {
+        return Ok(Err(Denied::AccessList));
+    }
+    let viewer = Viewer::of(timeline, origin);
+    if names_room && !viewer.is_in_room() {
+        return Ok(Err(Denied::NotInRoom));
+    }
+    let answer = allowed_answer(alloc, timeline, &viewer, query)?;
+    Ok(answer)
+}
+
+fn names_room(query: &Query) -> bool
+    ensures { result ≡ is_some (room_named query.now) }
+{
+    !matches!(query, Query::Event(_))
+}
+
+// The answer to a query of a server that may have it answered.
+fn allowed_answer(
+    alloc: Global,
+    timeline: &Timeline,
+    viewer: &Viewer<'_, '_>,
+    query: &Query,
+) -> Result<Result<QueryReply, Denied>, AllocError>
+    requires { viewer.now.kept ≡ timeline.now.kept }
+    ensures reply { IfOk result (λ reply. reply
+        ≡ answers.allowed_answer timeline.now.kept viewer.now.server query.now) }
+    ensures memory { OnErr result (IsTrue (is_ok
+        (answers.allowed_answer timeline.now.kept viewer.now.server query.now))) }
+{
+    match query {
+        Query::Event(id) => event_answer(alloc, timeline, viewer, id),
+        Query::State { event, .. } => state_answer(alloc, timeline, event),
+        Query::StateIds { event, .. } => state_ids_answer(alloc, timeline, event),
+        Query::EventAuth { event, .. } => event_auth_answer(alloc, timeline, event),
+        Query::Backfill { from, limit, .. } => {
+            backfill_answer(alloc, timeline, viewer, from.as_slice(), *limit)
+        }
+        Query::Missing {
+            earliest,
+            latest,
+            limit,
+            min_depth,
+            ..
+        } => missing_answer(
+            alloc,
+            timeline,
+            viewer,
+            earliest.as_slice(),
+            latest.as_slice(),
+            *limit,
+            *min_depth,
+        ),
+    }
+}
+
+// What the server is shown of the event with this id.
+#[tactic(auto, unfolding(crate::specs::Queries::event_shown))]
+fn event_answer(
+    alloc: Global,
+    timeline: &Timeline,
+    viewer: &Viewer<'_, '_>,
+    id: &EventId,
+) -> Result<Result<QueryReply, Denied>, AllocError>
+    requires { viewer.now.kept ≡ timeline.now.kept }
+    ensures reply { IfOk result (λ reply. reply
+        ≡ answers.event_answer timeline.now.kept viewer.now.server id.now) }
+    ensures memory { OnErr result (IsTrue (is_ok
+        (answers.event_answer timeline.now.kept viewer.now.server id.now))) }
+{
+    match timeline.find(id) {
+        Some(number) => match shown_event(alloc, viewer, number)? {
+            Some(event) => Ok(Ok(QueryReply::Event(event))),
+            None => Ok(Err(Denied::NotFound)),
+        },
+        None => Ok(Err(Denied::NotFound)),
+    }
 }

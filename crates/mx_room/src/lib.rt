@@ -4,12 +4,17 @@
 
 mod answering;
 mod event_lists;
+mod event_marks;
+mod event_orders;
 mod forms;
+mod given_events;
+mod history_queries;
 mod hosting;
 mod moments;
 mod outcomes;
 mod queries;
 mod rooms;
+mod state_queries;
 
 pub use event_lists::{EventIdList, EventList};
 pub use forms::kept_form;

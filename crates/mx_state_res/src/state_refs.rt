@@ -1,9 +1,10 @@
 // One of a room's states.
-ghost use Rattle.std.specs.Prelude.{◌≡◌, ◌<◌, ◌&&◌, All, IfOk, length};
+ghost use Rattle.std.specs.Prelude.{◌≡◌, ◌<◌, ◌&&◌, ℕ, All, IfOk, length};
 ghost use Rattle.std.specs.List.{list_any};
-ghost use Rattle.mx_orders.specs.StateMap.{entry};
+ghost use Rattle.mx_orders.specs.StateMap.{entry, events_of as events_in};
 ghost use Rattle.mx_state_res.specs.Numbered.{state_at};
 
+use crate::conflicts::events_of;
 use crate::entry_tests::EntryTest;
 use crate::state_maps::StateMap;
 use crate::state_numbers::StateNo;
@@ -67,5 +68,17 @@ impl<'s> StateRef<'s> {
         ensures { IfOk result (λ map. map ≡ self.now) }
     {
         self.states.map(alloc, self.number)
+    }
+
+    /// The events of the state, in the order of their keys. `AllocError` where no memory is left.
+    pub fn events(&self, alloc: Global) -> Result<Vec<EventNo>, AllocError>
+        ensures events { IfOk result (λ found. found.items ≡ events_in self.now) }
+        // They are below each number that those of the state are below.
+        ensures known { (bound : ℕ) → All (λ e. e.1 < bound) self.now
+            → IfOk result (λ found. All (λ event. event < bound) found.items) }
+    {
+        let map = self.map(alloc)?;
+        let events = events_of(alloc, &map)?;
+        Ok(events)
     }
 }
