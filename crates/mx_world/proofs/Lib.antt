@@ -8,5 +8,6 @@ pub mod RoomLemmas
 pub mod RunLemmas
 pub mod MakingLemmas
 pub mod StorageLemmas
+pub mod NextEventLemmas
 pub mod TextLemmas
 pub mod StepRows
