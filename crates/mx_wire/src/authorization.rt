@@ -1,12 +1,11 @@
 // The Authorization header of a request: which server sends it.
-ghost use Rattle.std.specs.Prelude.{◌≡◌, ◌⊎◌, Ok, Err, IfErr, IfOk, MatchOption, None, OnOk, Some, fold, map, option_map};
+ghost use Rattle.std.specs.Prelude.{◌≡◌, ◌⊎◌, Ok, Err, IfErr, IfOk, Some, fold, map, option_map};
 ghost use Rattle.std.specs.List.{list_any};
-ghost use Rattle.std.specs.Char.{encode_utf8};
 ghost use Rattle.mx_wire.specs.Authorization as definition;
 ghost use Rattle.mx_wire.specs.Reading.{part_shown, reading_of};
 
 use crate::faults::Fault;
-use mx_ident::{IdError, ServerName};
+use mx_ident::ServerName;
 use std::alloc::{AllocError, Global};
 use std::mem::replace;
 

@@ -24,6 +24,8 @@ impl Parameter {
 }
 
 /// The parameters of a query, which is form-encoded, in their order. Bytes that are not UTF-8 read as U+FFFD.
+///
+/// `AllocError` where no memory was left. Source: `application/x-www-form-urlencoded` of the URL Standard.
 pub fn parameters_of(alloc: Global, query: &str) -> Result<Vec<Parameter>, AllocError>
     ensures { IfOk result (λ found. map parameter_shown found.items ≡ definition.parameters query.now) }
 {
@@ -44,7 +46,7 @@ fn decoded_text(alloc: Global, bytes: &[u8]) -> Result<String, AllocError>
     Ok(text)
 }
 
-/// The value of the first parameter with this name.
+/// The value of the first parameter with this name, if there is one. It takes no memory.
 pub fn first_named<'p>(parameters: &'p [Parameter], name: &str) -> Option<&'p str>
     ensures { definition.first_named name.now (map parameter_shown parameters.now) ≡ option_map (λ v. v.now) result }
 {

@@ -1,11 +1,13 @@
 // The routes of the Server-Server API, and the route of a path.
-ghost use Rattle.std.specs.Prelude.{◌≡◌, IfOk, OnOk};
+ghost use Rattle.std.specs.Prelude.{◌≡◌, OnOk};
 ghost use Rattle.mx_wire.specs.Targets as definition;
 
 use matchit::Router;
 use std::alloc::{AllocError, Global};
 
 /// What a request asks: one of the routes under `/_matrix/federation`.
+///
+/// Source: the Server-Server API of the Matrix specification, versions 1 and 2 of its routes.
 #[derive(Clone, Copy, Debug, PartialEq, Eq, Drop)]
 pub enum Route {
     Send,

@@ -1,5 +1,5 @@
 // The target of a request: its path and query, and what the parameters of a route are in the path.
-ghost use Rattle.std.specs.Prelude.{◌≡◌, ◌⊎◌, Ok, Err, IfErr, IfOk, OnOk, string_bytes, true, false};
+ghost use Rattle.std.specs.Prelude.{◌≡◌, ◌⊎◌, Ok, Err, IfErr, IfOk, OnOk, false, string_bytes, true};
 ghost use Rattle.std.specs.List.{after_first};
 ghost use Rattle.std.specs.Str.{is_utf8};
 ghost use Rattle.percent_encoding.specs.Percent.{percent_decode};
