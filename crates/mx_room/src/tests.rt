@@ -129,7 +129,7 @@ const TOPIC_LAST: [Arrival; 5] = [
     ("$5", ACCEPTED, [false, false, false], &[5]),
 ];
 
-// The states after `$3` and after `$4` resolve three times: as the current state with `$4` and with `$7`, and as the
+// The states after `$3` and after `$4` resolve three times: as the current state with `$4` and with `$10`, and as the
 // state before `$5`.
 const MERGED_TWICE: [Arrival; 5] = [
     ("$2", ACCEPTED, [false, false, false], &[1]),
