@@ -1,7 +1,9 @@
 ghost use Rattle.std.specs.Prelude.{◌<◌, All, IfOk, length};
 
 use crate::StateMap;
-use crate::conflicts::{full_conflicted, unconflicted};
+use crate::chain_difference::sparse_chain_difference;
+use crate::conflicts::{events_of, full_conflicted, unconflicted};
+use crate::dense_difference::dense_chain_difference;
 use crate::plain_conflicts::plain_full_conflicted;
 use mx_graph::{EventNo, Graph, GraphRow};
 use mx_ident::EventId;
@@ -97,6 +99,41 @@ fn one_set_by_both_bodies(rt: HostRuntime) -> Result<(), Fail> {
         let plain = plain_full_conflicted(alloc, &graph, &agreed, &states)?;
         assert_eq!(rt; found, plain);
         if found.len() > 9 && !agreed.entries().is_empty() {
+            some = 1;
+        }
+    }
+    assert_eq!(rt; some, 1);
+    Ok(())
+}
+
+fn random_events(alloc: Global, graph: &Graph, first: u64) -> Result<Vec<EventNo>, Fail>
+    ensures { IfOk result (λ events. All (λ event. event < length graph.now) events.items) }
+{
+    let state = random_state(alloc, graph, first)?;
+    let events = events_of(alloc, &state)?;
+    Ok(events)
+}
+
+#[test]
+fn one_difference_by_both_bodies(rt: HostRuntime) -> Result<(), Fail> {
+    let alloc = rt.alloc();
+    let mut some = 0;
+    let mut seed = 11;
+    for _ in 0..300 {
+        let graph = random_graph(alloc, seed)?;
+        let shared = random_events(alloc, &graph, seed)?;
+        seed = next(seed);
+        let first = random_events(alloc, &graph, seed)?;
+        seed = next(seed);
+        let second = random_events(alloc, &graph, seed)?;
+        seed = next(seed);
+        let third = random_events(alloc, &graph, seed)?;
+        seed = next(seed);
+        let apart = [first, second, third];
+        let dense = dense_chain_difference(alloc, &graph, &shared, &apart)?;
+        let sparse = sparse_chain_difference(alloc, &graph, &shared, &apart)?;
+        assert_eq!(rt; dense, sparse);
+        if dense.len() > 2 {
             some = 1;
         }
     }
