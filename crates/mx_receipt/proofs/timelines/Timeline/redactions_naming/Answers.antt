@@ -13,7 +13,7 @@ use Rattle.mx_receipt.proofs.timelines.Timeline.redactions_naming.Goals as goal
 pub returns-clause-named : goal.returns-clause-named
 returns-clause-named c =
     let h : HasKept c.self.inside.graph c.self.inside.states c.self.inside.judgements.items c.self.inside.extremities.items c.self.inside.current c.args.self.now.kept =
-    subst (HasKept c.self.inside.graph c.self.inside.states c.self.inside.judgements.items c.self.inside.extremities.items c.self.inside.current) (ap (λ (t : TimelineView). t.kept) c.self.view_is) (has-kept c.self.inside.graph c.self.inside.states c.self.inside.judgements.items c.self.inside.extremities.items c.self.inside.current c.self.inside.prepared c.self.invariant) in
+    subst (HasKept c.self.inside.graph c.self.inside.states c.self.inside.judgements.items c.self.inside.extremities.items c.self.inside.current) (ap (λ (t : TimelineView). t.kept) c.self.view_is) (has-kept c.self.inside.graph c.self.inside.states c.self.inside.judgements.items c.self.inside.extremities.items c.self.inside.current c.self.inside.prepared c.self.invariant.0) in
     kept-redactions c.self.inside.graph h.kept_rows h.next_row c.args.id.now c.len.result c.redactions_of.result.now c.below_count.result.now h.are_rows
     (c.len.ensures ∙ shown-count c.self.inside.graph c.self.inside.states c.self.inside.judgements.items c.self.inside.extremities.items c.self.inside.current c.args.self.now.kept h)
     c.redactions_of.ensures.named (c.below_count.ensures.last, c.below_count.ensures.all)
