@@ -16,13 +16,9 @@ use Rattle.mx_graph.proofs.WalkLemmas.{equal_to, equal_from}
 use Rattle.mx_orders.proofs.MainlineLemmas.{any-position}
 use Rattle.mx_orders.proofs.Members.{In}
 use Rattle.mx_orders.proofs.RankLemmas.{in_at}
-use Rattle.mx_orders.specs.Lists.{Falls}
+use Rattle.mx_orders.specs.Lists.{Falls, IsBelow}
 
 -- ---- a line that falls, made from its first on
-
--- what comes next is below all
-abbrev pub IsBelow : Option ℕ → List ℕ → Type 0
-IsBelow next xs = (i : ℕ) → i < length xs → IfSome next (λ q. q < slice_index xs i)
 
 module _ (xs ys : List ℕ) (now next : Option ℕ) (p : ℕ) (e : now ≡ Some p) (m : ys ≡ xs ++ p ∷ []) (earlier : IfSome next (λ q. q < p)) (falls : Falls xs) (below : IsBelow now xs) where
   longer : length (xs ++ p ∷ []) ≡ length xs + 1

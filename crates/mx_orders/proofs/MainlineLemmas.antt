@@ -7,6 +7,8 @@ use Rattle.std.proofs.lemmas.Iterator.Adapters.{position_from-zero}
 use Rattle.mx_graph.specs.Record.{Row, event, auth_events, is_in}
 use Rattle.mx_graph.specs.Graph.{IsSound}
 use Rattle.mx_graph.proofs.Closure.{or_left, or_right}
+use Rattle.mx_graph.proofs.RemovalLemmas.{lt-neq}
+use Rattle.mx_orders.specs.Lists.{left}
 use Rattle.mx_orders.specs.StateMap.{auth_event_at}
 use Rattle.mx_orders.specs.Mainline.{power_key, power_levels_within, power_levels_of, mainline, mainline_position}
 
@@ -26,13 +28,13 @@ any-from test n (x ∷ xs) = by (test x) (any-from test (n + 1) xs)
     by true later = refl
     by false later = later
 
+-- a tail in which nothing passes changes no place
+from-append : (test : ℕ → Bool) (n : ℕ) (xs ys : List ℕ) → ((k : ℕ) → position_from test k ys ≡ None) → position_from test n (xs ++ ys) ≡ position_from test n xs
+from-append test n [] ys h = h n
+from-append test n (x ∷ xs) ys h = ap (cond (test x) (Some n)) (from-append test (n + 1) xs ys h)
+
 pub any-position : {A : Type 0} (test : A → Bool) (xs : List A) → list_any test xs ≡ is_some (position test xs)
 any-position test xs = any-from test 0 xs ∙ ap is_some (sym (position_from-zero test xs))
-
--- how many events a mainline has at most, from this one
-abbrev pub left : Option ℕ → ℕ
-left None = 0
-left (Some p) = suc p
 
 module _ (rows : List Row) (sound : IsSound rows) where
   abbrev power_at : ℕ → Option ℕ
@@ -106,6 +108,30 @@ module _ (rows : List Row) (sound : IsSound rows) where
   position-later line p q e k =
       first-step line p q e
       ∙ ap (λ b. option_and_then (place line) (cond b (Some q) (first_where (is_in line) (power_levels_of rows q)))) (any-position (λ x. x == q) line ∙ ap is_some k)
+
+  -- ---- a mainline that was followed in part
+
+  none-within : (n p q k : ℕ) → p ≤ q → position_from (λ x. x == q) k (power_levels_within rows n p) ≡ None
+  none-within zero p q k h = refl
+  none-within (suc n) p q k h = by (λ r l. none-within n r q (k + 1) (omega (arith, l, h))) (power_at p) refl
+    where
+      by : ((r : ℕ) → r < p → position_from (λ x. x == q) (k + 1) (power_levels_within rows n r) ≡ None) → (o : Option ℕ) → power_at p ≡ o → position_from (λ x. x == q) k (after o (power_levels_within rows n)) ≡ None
+      by later None e = refl
+      by later (Some r) e =
+          let m : r < p = (power_at-earlier p r e).1 in
+          ap (λ b. cond b (Some k) (position_from (λ x. x == q) (k + 1) (power_levels_within rows n r))) (lt-neq r q (omega (arith, m, h))) ∙ later r m
+
+  none-mainline : (next : Option ℕ) (q k : ℕ) → IfSome next (λ p. p < q) → position_from (λ x. x == q) k (mainline rows next) ≡ None
+  unfolding mainline
+  none-mainline None q k h = refl
+  none-mainline (Some p) q k h =
+      ap (λ b. cond b (Some k) (position_from (λ x. x == q) (k + 1) (power_levels_of rows p))) (lt-neq p q h) ∙ none-within (length rows) p q (k + 1) (omega (arith, h))
+
+  -- an event above what comes next has its place in what was followed
+  pub place-followed : (line : List ℕ) (next : Option ℕ) (q : ℕ) → IfSome next (λ p. p < q) → position (λ x. x == q) line ≡ position (λ x. x == q) (line ++ mainline rows next)
+  place-followed line next q h =
+      position_from-zero (λ x. x == q) line ∙ sym (from-append (λ x. x == q) 0 line (mainline rows next) (λ k. none-mainline next q k h))
+      ∙ sym (position_from-zero (λ x. x == q) (line ++ mainline rows next))
 
   -- ---- steps of the loop that makes a mainline
 

@@ -8,13 +8,16 @@ use Rattle.std.specs.Cmp.Lexicographic.{slice_cmp, options_total, lists_total}
 use Rattle.std.specs.FinMap.{slice_cmp-IsAntisymmetric, nat_cmp-IsAntisymmetric}
 use Rattle.std.specs.List.{All}
 use Rattle.std.specs.List.Sorted.{IsPermutation, IsSortedBy}
+use Rattle.std.proofs.lemmas.List.{get_or-map, length-map}
+use Rattle.std.proofs.lemmas.List.Elements.{All-map}
 use Rattle.std.proofs.lemmas.List.Sorted.{IsPermutation-map, All-permutation}
 use Rattle.mx_pdu.specs.Event.{timestamp_of}
 use Rattle.mx_graph.specs.Record.{Row, row, event}
 use Rattle.mx_graph.specs.Graph.{IsSound}
 use Rattle.mx_orders.specs.Mainline.{position_cmp, mainline_position, mainline_cmp, mainline_order}
-use Rattle.mx_orders.specs.Places.{IsPlace, place_cmp}
+use Rattle.mx_orders.specs.Places.{IsPositioned, IsRead, IsPlace, event_position, place_cmp, place_position}
 use Rattle.mx_orders.specs.declared.mainline_ordering.Place.{Place}
+use Rattle.mx_orders.specs.declared.mainline_ordering.Positioned.{Positioned}
 use Rattle.mx_orders.proofs.Members.{In}
 use Rattle.mx_orders.proofs.LeastOrder.{TellsApart}
 use Rattle.mx_orders.proofs.SortedLaws.{Below, Rising}
@@ -33,7 +36,28 @@ position_cmp-total = subst IsTotalOrder (λ i a b. position_cmp-is a b i) (optio
 pub place_cmp-total : IsTotalOrder place_cmp
 place_cmp-total = then_total (on_total (λ (p : Place). p.position) position_cmp-total) (then_total (on_total (λ (p : Place). p.timestamp) int_cmp_total) (on_total (λ (p : Place). p.id.now) (lists_total nat_cmp_total)))
 
+-- what holds of all the values of a function
+all-before : {X Y : Type 0} (P : Y → Type 0) (f : X → Y) (xs : List X) → All P (map f xs) → All (λ x. P (f x)) xs
+all-before P f xs h k d l = subst P (get_or-map f xs k d (f d) l) (h k (f d) (subst (λ n. k < n) (sym (length-map xs f)) l))
+
 module _ (rows : List Row) (line : List ℕ) where
+  pub numbers-known : (positions : List Positioned) → All (λ (p : Positioned). p.number < length rows) positions → All (λ x. x < length rows) (map (λ (p : Positioned). p.number) positions)
+  numbers-known positions h = All-map (λ x. x < length rows) (λ (p : Positioned). p.number) positions h
+
+  pub positions-known : (positions : List Positioned) → All (IsPositioned rows line) positions → All (λ (p : Positioned). p.number < length rows) positions
+  positions-known positions h k d l = (h k d l).known
+
+  -- what is read of positioned events is placed
+  pub all-placed : (positions : List Positioned) (places : List Place) → map place_position places ≡ map event_position positions
+      → All (IsRead rows) places → All (IsPositioned rows line) positions → All (IsPlace rows line) places
+  all-placed positions places same read positioned k d l =
+      let Fits : (ℕ × Option ℕ) → Type 0 = λ e. e.1 ≡ mainline_position rows line e.0 in
+      let all : All Fits (map place_position places) =
+      subst (All Fits) (sym same) (All-map Fits event_position positions (λ i e m. (positioned i e m).position))
+      in
+      let r = read k d l in
+      record { position = all-before Fits place_position places all k d l; timestamp = r.timestamp; id = r.id }
+
   pub mainline_cmp-total : IsTotalOrder (mainline_cmp rows line)
   mainline_cmp-total = then_total (on_total (mainline_position rows line) position_cmp-total) (then_total (on_total (λ p. timestamp_of (event rows p)) int_cmp_total) (on_total (λ p. (row rows p).id) (lists_total nat_cmp_total)))
 

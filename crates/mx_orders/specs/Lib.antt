@@ -2,6 +2,7 @@ pub mod Lists
 pub mod StateMap
 pub mod PowerOrder
 pub mod Mainline
+pub mod MainlineWalk
 pub mod Places
 pub mod Candidates
 pub mod Waiting

@@ -7,14 +7,15 @@ mod citing;
 mod following;
 mod levels;
 mod mainline_ordering;
+mod mainline_walks;
 mod mainlines;
+mod plain_mainline_ordering;
 mod plain_ordering;
 mod power_ordering;
 mod ranking;
 mod readiness;
 
 pub use mainline_ordering::mainline_order;
-pub use mainlines::Mainline;
 pub use power_ordering::power_order;
 
 #[cfg(test)]

@@ -1,40 +1,93 @@
 // Mainline ordering.
-ghost use Rattle.std.specs.Prelude.{◌≡◌, ◌<◌, All, IfOk, length, map};
+ghost use Rattle.std.specs.Prelude.{◌≡◌, ◌<◌, ℕ, All, IfOk, List, length, map};
 ghost use Rattle.mx_orders.specs.Mainline as definition;
-ghost use Rattle.mx_orders.specs.Places.{IsPlace, place_cmp};
+ghost use Rattle.mx_orders.specs.Places.{IsPositioned, IsRead, event_position, place_cmp, place_position};
 
-use crate::mainlines::Mainline;
+use crate::mainline_walks::MainlineWalk;
 use mx_graph::{EventNo, Graph, graph_is_sound};
 use mx_ident::EventId;
 use std::alloc::{AllocError, Global};
 use std::cmp::Ordering;
 
+// An event with its position in a mainline.
+#[derive(Clone, Copy, Debug)]
+pub(crate) struct Positioned {
+    pub(crate) number: EventNo,
+    pub(crate) position: Option<u32>,
+}
+
 // What the order of an event goes by, read once.
 #[derive(Clone, Copy, Debug)]
-pub(crate) struct Place<'g> {
+struct Place<'g> {
     position: Option<u32>,
     timestamp: i64,
     id: &'g EventId,
     number: EventNo,
 }
 
-/// Events in the order of a mainline: greater position first, infinite ones before all, then earlier
-/// `origin_server_ts`, then lesser event id by bytes.
+/// Events in the order of the mainline of a power levels event: greater position first, infinite ones before all, then
+/// earlier `origin_server_ts`, then lesser event id by bytes.
 ///
-/// The position of each event is looked for once. Source: the Matrix specification, Room Version 2, "State
-/// resolution", mainline ordering.
+/// The mainline is the power levels event, the one among its auth events, the one among that one's, and so on; without
+/// one it is empty. The position of an event is the place there, from 0, of the first power levels event that lies
+/// there of those that the event rests on: the one among its auth events, the one among that one's, and so on. The event
+/// itself does not count. Where none lies there the position is infinite.
+///
+/// The position of each event is looked for once, and the mainline is followed only down to the last event that was
+/// looked for there. `AllocError` where no memory is left.
+///
+/// Source: the Matrix specification, Room Version 2, "State resolution", mainline ordering.
 pub fn mainline_order(
     alloc: Global,
     graph: &Graph,
-    mainline: &Mainline,
+    power: Option<EventNo>,
     events: &[EventNo],
 ) -> Result<Vec<EventNo>, AllocError>
     requires { All (λ event. event < length graph.now) events.now }
-    ensures { IfOk result (λ order. order.items ≡ definition.mainline_order graph.now mainline.now events.now) }
+    ensures { IfOk result (λ order. order.items
+        ≡ definition.mainline_order graph.now (definition.mainline graph.now power) events.now) }
+{
+    let positions = positions_of(alloc, graph, power, events)?;
+    let order = in_order(alloc, graph, &positions)?;
+    Ok(order)
+}
+
+fn positions_of(
+    alloc: Global,
+    graph: &Graph,
+    power: Option<EventNo>,
+    events: &[EventNo],
+) -> Result<Vec<Positioned>, AllocError>
+    requires { All (λ event. event < length graph.now) events.now }
+    ensures numbers { IfOk result (λ positions. map (λ positioned. positioned.number) positions.items ≡ events.now) }
+    ensures positioned { IfOk result (λ positions.
+        All (IsPositioned graph.now (definition.mainline graph.now power)) positions.items) }
+{
+    let mut walk = MainlineWalk::new(alloc, power);
+    let mut positions = Vec::with_capacity(alloc, events.len())?;
+    for event in events {
+        let position = walk.position(graph, *event)?;
+        positions.push(Positioned {
+            number: *event,
+            position,
+        })?;
+    }
+    Ok(positions)
+}
+
+// These events in the order of their positions, and of what else the order goes by.
+pub(crate) fn in_order(
+    alloc: Global,
+    graph: &Graph,
+    positions: &[Positioned],
+) -> Result<Vec<EventNo>, AllocError>
+    requires { All (λ positioned. positioned.number < length graph.now) positions.now }
+    ensures { IfOk result (λ order. (line : List ℕ) → All (IsPositioned graph.now line) positions.now → order.items
+        ≡ definition.mainline_order graph.now line (map (λ positioned. positioned.number) positions.now)) }
 {
     // Each id is there once, so that no two events tie.
     graph_is_sound(graph);
-    let mut places = places_of(alloc, graph, mainline, events)?;
+    let mut places = places_of(alloc, graph, positions)?;
     places.sort_by(|a, b| compare(a, b))?;
     let order = numbers_of(alloc, &places)?;
     Ok(order)
@@ -43,27 +96,30 @@ pub fn mainline_order(
 fn places_of<'g>(
     alloc: Global,
     graph: &'g Graph,
-    mainline: &Mainline,
-    events: &[EventNo],
+    positions: &[Positioned],
 ) -> Result<Vec<Place<'g>>, AllocError>
-    requires { All (λ event. event < length graph.now) events.now }
-    ensures numbers { IfOk result (λ places. map (λ place. place.number) places.items ≡ events.now) }
-    ensures placed { IfOk result (λ places. All (IsPlace graph.now mainline.now) places.items) }
+    requires { All (λ positioned. positioned.number < length graph.now) positions.now }
+    ensures positions { IfOk result (λ places. map place_position places.items ≡ map event_position positions.now) }
+    ensures numbers { IfOk result (λ places. map (λ place. place.number) places.items
+        ≡ map (λ positioned. positioned.number) positions.now) }
+    ensures read { IfOk result (λ places. All (IsRead graph.now) places.items) }
 {
-    events
+    positions
         .iter()
-        .map(|event| order_place(graph, mainline, *event))
+        .map(|positioned| place_at(graph, *positioned))
         .collect(alloc)
 }
 
-fn order_place<'g>(graph: &'g Graph, mainline: &Mainline, number: EventNo) -> Place<'g>
-    requires { number < length graph.now }
-    ensures number { result.number ≡ number }
-    ensures place { IsPlace graph.now mainline.now result }
+fn place_at(graph: &Graph, positioned: Positioned) -> Place<'_>
+    requires { positioned.number < length graph.now }
+    ensures number { result.number ≡ positioned.number }
+    ensures position { result.position ≡ positioned.position }
+    ensures read { IsRead graph.now result }
 {
+    let number = positioned.number;
     let row = graph.row(number);
     Place {
-        position: mainline.position(graph, number),
+        position: positioned.position,
         timestamp: row.event.origin_server_ts(),
         id: &row.id,
         number,

@@ -1,4 +1,4 @@
-// The mainline of a power levels event.
+// The mainline of a power levels event, followed to its end.
 ghost use Rattle.std.specs.Prelude.{◌≡◌, ◌==◌, ◌<◌, ◌≤◌, IfOk, IfSome, length, position};
 ghost use Rattle.mx_graph.specs.Graph.{IsSound};
 ghost use Rattle.mx_graph.specs.Record as record_of;
@@ -11,12 +11,10 @@ use mx_graph::{EventNo, Graph, MOST_ROWS};
 use std::alloc::{AllocError, Global};
 use std::marker::Model;
 
-/// The mainline of a power levels event: that event, the power levels event among its auth events, the one among that
-/// one's, and so on. Without a power levels event it is empty.
-///
-/// Source: the Matrix specification, Room Version 2, "State resolution", mainline ordering.
+// The mainline of a power levels event: that event, the power levels event among its auth events, the one among that
+// one's, and so on. Without a power levels event it is empty.
 #[derive(Debug, Drop)]
-pub struct Mainline {
+pub(crate) struct Mainline {
     line: Vec<EventNo>,
 }
 
@@ -32,8 +30,12 @@ impl Model for Mainline {
 }
 
 impl Mainline {
-    /// The mainline of a power levels event. The time is that of the auth events of its events.
-    pub fn of(alloc: Global, graph: &Graph, power: Option<EventNo>) -> Result<Mainline, AllocError>
+    // The mainline of a power levels event.
+    pub(crate) fn of(
+        alloc: Global,
+        graph: &Graph,
+        power: Option<EventNo>,
+    ) -> Result<Mainline, AllocError>
         ensures { IfOk result (λ mainline. mainline ≡ definition.mainline graph.now power) }
     {
         let mut line = Vec::new(alloc);
@@ -45,11 +47,9 @@ impl Mainline {
         Ok(Mainline { line })
     }
 
-    /// The place in the mainline, from 0, of the first power levels event that lies there of those that an event rests
-    /// on: the one among its auth events, the one among that one's, and so on. The event itself does not count. `None`
-    /// where none lies there: the position is infinite. It takes no memory. The time is that of the auth events of these
-    /// and of a search in the mainline for each, which is logarithmic.
-    pub fn position(&self, graph: &Graph, event: EventNo) -> Option<u32>
+    // The place in the mainline, from 0, of the first power levels event that lies there of those that an event rests
+    // on. The event itself does not count. `None` where none lies there: the position is infinite.
+    pub(crate) fn position(&self, graph: &Graph, event: EventNo) -> Option<u32>
         ensures { result ≡ definition.mainline_position graph.now self.now event }
     {
         let mut above = event;
@@ -72,7 +72,7 @@ impl Mainline {
 }
 
 // The place of an event in a list that falls.
-fn place_in(line: &[EventNo], event: EventNo) -> Option<usize>
+pub(crate) fn place_in(line: &[EventNo], event: EventNo) -> Option<usize>
     requires { Falls line.now }
     ensures place { result ≡ position (λ other. other == event) line.now }
     ensures below { IfSome result (λ place. place < length line.now) }
@@ -81,7 +81,7 @@ fn place_in(line: &[EventNo], event: EventNo) -> Option<usize>
 }
 
 // The power levels event among the auth events of an event.
-fn power_levels_event(graph: &Graph, number: EventNo) -> Option<EventNo>
+pub(crate) fn power_levels_event(graph: &Graph, number: EventNo) -> Option<EventNo>
     ensures first { result ≡ auth_event_at graph.now (record_of.event graph.now number) definition.power_key }
     ensures earlier { IfSome result (λ other. other < number) }
     ensures known { IfSome result (λ other. other < length graph.now) }

@@ -1,8 +1,9 @@
 ghost use Rattle.std.specs.Prelude.{◌<◌, All, IfSome, length};
 ghost use Rattle.mx_orders.specs.Lists.{Distinct};
 
+use crate::plain_mainline_ordering::plain_mainline_order;
 use crate::plain_ordering::{plain_power_order, stands_in};
-use crate::power_order;
+use crate::{mainline_order, power_order};
 use mx_graph::{EventNo, Graph, GraphRow};
 use mx_ident::EventId;
 use mx_pdu::Pdu;
@@ -158,6 +159,43 @@ fn one_order_by_both_bodies(rt: HostRuntime) -> Result<(), Fail> {
         let events = numbers(alloc, &graph, &events).ok_or("no memory")?;
         let order = power_order(alloc, &graph, &events)?;
         assert_eq!(rt; order, plain_power_order(alloc, &graph, &events)?);
+    }
+    Ok(())
+}
+
+#[test]
+fn positions_before_times(rt: HostRuntime) -> Result<(), Fail> {
+    let alloc = rt.alloc();
+    let graph = larger_graph(alloc).ok_or("no memory")?;
+    // The mainline is $e16, $e8, $e4. $e3 and $e4 rest on no power levels event.
+    let power = numbers(alloc, &graph, &["$e16"]).ok_or("no memory")?;
+    let events = ["$e16", "$e12", "$e9", "$e8", "$e4", "$e3"];
+    let order = ["$e3", "$e4", "$e8", "$e16", "$e9", "$e12"];
+    let events = numbers(alloc, &graph, &events).ok_or("no memory")?;
+    let order = numbers(alloc, &graph, &order).ok_or("no memory")?;
+    assert_eq!(rt;
+        mainline_order(alloc, &graph, power.first().copied(), &events)?,
+        order
+    );
+    Ok(())
+}
+
+#[test]
+fn one_mainline_order_by_both_bodies(rt: HostRuntime) -> Result<(), Fail> {
+    let alloc = rt.alloc();
+    let graph = larger_graph(alloc).ok_or("no memory")?;
+    let powers = ["$e16", "$e12", "$e8", "$e4", "$e1"];
+    let powers = numbers(alloc, &graph, &powers).ok_or("no memory")?;
+    for events in [
+        ["$e16", "$e12", "$e9", "$e8", "$e4", "$e3"],
+        ["$e9", "$e13", "$c", "$e12", "$e15", "$e5"],
+        ["$e12", "$e16", "$e9", "$e2", "$e8", "$e14"],
+    ] {
+        let events = numbers(alloc, &graph, &events).ok_or("no memory")?;
+        for power in powers.iter().map(|power| Some(*power)).chain([None]) {
+            let order = mainline_order(alloc, &graph, power, &events)?;
+            assert_eq!(rt; order, plain_mainline_order(alloc, &graph, power, &events)?);
+        }
     }
     Ok(())
 }

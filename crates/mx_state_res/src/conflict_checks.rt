@@ -8,7 +8,7 @@ use crate::event_sets::without;
 use crate::powers::power_events;
 use crate::working_states::WorkingState;
 use mx_graph::{EventNo, Graph};
-use mx_orders::{Mainline, mainline_order, power_order};
+use mx_orders::{mainline_order, power_order};
 use std::alloc::{AllocError, Global};
 
 /// Checks the power events of a full conflicted set, with its events in their auth chains, in power order, and then its
@@ -34,8 +34,8 @@ pub(crate) fn check_conflicted(
     let others = without(alloc, full, &power)?;
     let order = power_order(alloc, graph, &power)?;
     check_each(graph, state, &order)?;
-    let mainline = Mainline::of(alloc, graph, state.get("m.room.power_levels", ""))?;
-    let rest = mainline_order(alloc, graph, &mainline, &others)?;
+    let power_levels = state.get("m.room.power_levels", "");
+    let rest = mainline_order(alloc, graph, power_levels, &others)?;
     check_each(graph, state, &rest)?;
     Ok(())
 }

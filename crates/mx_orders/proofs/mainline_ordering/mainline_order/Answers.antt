@@ -1,15 +1,16 @@
-use Rattle.std.proofs.Common.{rules, ◌≡◌, ◌∙◌, ap, map}
-use Rattle.std.specs.Ordering.{is_lt}
-use Rattle.std.proofs.lemmas.Fn.{always_returns_same}
-use Rattle.std.proofs.lemmas.List.Sorted.{ranks_by}
-use Rattle.mx_orders.specs.Places.{place_cmp}
-use Rattle.mx_orders.proofs.PlaceLemmas.{order-is, place_cmp-total}
+use Rattle.std.proofs.Common.{◌<◌, All, map, length, ap, sym, subst, ◌∙◌}
+use Rattle.mx_orders.specs.Mainline.{mainline, mainline_order}
+use Rattle.mx_orders.specs.Places.{IsPositioned}
+use Rattle.mx_orders.proofs.PlaceLemmas.{positions-known}
 use Rattle.mx_orders.proofs.mainline_ordering.mainline_order.Goals as goal
+
+pub in_order-requires : goal.in_order-requires
+in_order-requires c =
+    subst (All (λ p. p.number < length c.args.graph.now)) (sym c.deref.ensures.value)
+    (positions-known c.args.graph.now (mainline c.args.graph.now c.args.power) c.in_ok-positions.positions.items c.in_ok-positions.ensures.positioned)
 
 pub returns : goal.returns
 returns c =
-    c.in_ok-order.ensures ∙ ap (map (λ place. place.number)) c.deref.ensures.value
-    ∙ order-is c.args.graph.now c.args.mainline.now c.graph_is_sound.ensures c.args.events.now c.in_ok-places.places.items c.sort_by.new.self.items c.requires
-    c.in_ok-places.ensures.numbers c.in_ok-places.ensures.placed c.in_ok-sort_by.ensures.permutation
-    (c.in_ok-sort_by.ensures.sorted (λ a b. is_lt (place_cmp a b)) (ranks_by place_cmp-total (λ p. p))
-    (always_returns_same _ (λ a r. is_lt r ≡ is_lt (place_cmp a.0.now a.1.0.now)) _ (λ a r f k. search rules)))
+    c.in_ok-order.ensures (mainline c.args.graph.now c.args.power) (subst (All (IsPositioned c.args.graph.now (mainline c.args.graph.now c.args.power))) (sym c.deref.ensures.value) c.in_ok-positions.ensures.positioned)
+    ∙ ap (λ ps. mainline_order c.args.graph.now (mainline c.args.graph.now c.args.power) (map (λ p. p.number) ps)) c.deref.ensures.value
+    ∙ ap (mainline_order c.args.graph.now (mainline c.args.graph.now c.args.power)) c.in_ok-positions.ensures.numbers

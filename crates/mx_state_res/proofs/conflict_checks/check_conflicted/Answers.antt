@@ -26,7 +26,7 @@ mainline_order-requires c =
 pub check_each-requires-2-clause-events : goal.check_each-requires-2-clause-events
 check_each-requires-2-clause-events c =
     subst (All (λ p. p < length c.args.graph.now)) (sym (c.deref-5.ensures.value ∙ c.in_ok-rest.ensures))
-    (mainline_order-known c.args.graph.now c.in_ok-mainline.mainline c.deref-4.result.now
+    (mainline_order-known c.args.graph.now (mainline c.args.graph.now c.get-power_levels.result) c.deref-4.result.now
     (subst (All (λ p. p < length c.args.graph.now)) (sym (c.deref-4.ensures.value ∙ c.in_ok-others.ensures))
     (filter-all (λ p. p < length c.args.graph.now) (λ p. not (is_in c.deref.result.now p)) c.args.full.now c.requires.full)))
 
@@ -35,11 +35,11 @@ returns-clause-checked c =
     let rows = c.args.graph.now in
     let partial = shown_by c.check_each.new.state in
     checked-is rows (shown_by c.args.state.now) c.args.full.now c.in_ok-power.power.items c.in_ok-others.others.items c.in_ok-order.order.items
-    partial c.in_ok-mainline.mainline c.in_ok-rest.rest.items (shown_by c.check_each-2.new.state)
+    partial (mainline rows c.get-power_levels.result) c.in_ok-rest.rest.items (shown_by c.check_each-2.new.state)
     c.in_ok-power.ensures.set
     (c.in_ok-others.ensures ∙ ap (λ xs. filter (λ p. not (is_in xs p)) c.args.full.now) c.deref.ensures.value)
     (c.in_ok-order.ensures ∙ ap (power_order rows) c.deref-2.ensures.value)
     (c.in_ok-check_each.ensures.ok ∙ ap (iterative_auth_checks rows (shown_by c.args.state.now)) c.deref-3.ensures.value)
-    (c.in_ok-mainline.ensures ∙ ap (mainline rows) c.get.ensures)
-    (c.in_ok-rest.ensures ∙ ap (mainline_order rows c.in_ok-mainline.mainline) c.deref-4.ensures.value)
+    (ap (mainline rows) c.get-power_levels.ensures)
+    (c.in_ok-rest.ensures ∙ ap (mainline_order rows (mainline rows c.get-power_levels.result)) c.deref-4.ensures.value)
     (c.in_ok-check_each-2.ensures.ok ∙ ap (iterative_auth_checks rows partial) c.deref-5.ensures.value)

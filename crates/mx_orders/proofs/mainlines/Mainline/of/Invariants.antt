@@ -1,8 +1,6 @@
 use Rattle.std.proofs.Common.{◌≡◌, ◌<◌, ◌≤◌, ◌+◌, length, ◌++◌}
 use Rattle.mx_orders.specs.Mainline as definition
-use Rattle.mx_orders.specs.Lists.{Falls}
-use Rattle.mx_orders.proofs.MainlineLemmas.{left}
-use Rattle.mx_orders.proofs.FallingLemmas.{IsBelow}
+use Rattle.mx_orders.specs.Lists.{Falls, IsBelow, left}
 use Rattle.mx_orders.proofs.mainlines.Mainline.of.Given as goal
 
 -- the events so far and the mainline of the next one are the whole
