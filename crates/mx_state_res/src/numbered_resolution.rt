@@ -106,7 +106,7 @@ fn resolving_change(
     all_are_sorted(states, numbers);
     let _ = differing.entries();
     let puts = resolving_puts(alloc, graph, states, numbers, base, differing)?;
-    let change = least_change(alloc, states, numbers, base, differing, &puts)?;
+    let change = least_change(alloc, states, base, &numbers[1..], differing, &puts)?;
     Ok(change)
 }
 

@@ -1,5 +1,5 @@
 // What is to be changed in a state to make another.
-ghost use Rattle.std.specs.Prelude.{◌≡◌, ◌<◌, ◌≤◌, ◌+◌, ◌⊎◌, All, IfOk, IsTrue, [], length};
+ghost use Rattle.std.specs.Prelude.{◌≡◌, ◌<◌, ◌≤◌, ◌+◌, ◌⊎◌, ◌∷◌, All, IfOk, IsTrue, [], length};
 ghost use Rattle.mx_state_res.specs.Numbered.{change_size, edited, really_put, really_taken, restored, state_at, without};
 
 use crate::state_maps::StateMap;
@@ -32,28 +32,28 @@ impl StateChange {
     }
 }
 
-/// What makes, of one of some states, that state without the keys of `taken` and with the entries of `puts` put over it.
-/// Without those keys all the states are `base` without them. It is of the state in which the fewest keys are changed.
+/// What makes, of `base` or another state, that state without the keys of `taken` and with the entries of `puts` put over
+/// it. Without those keys the others are `base` without them. It is of the state in which the fewest keys are changed.
 pub(crate) fn least_change(
     alloc: Global,
     states: &States,
-    numbers: &[StateNo],
     base: StateNo,
+    others: &[StateNo],
     taken: &StateMap,
     puts: &StateMap,
 ) -> Result<StateChange, AllocError>
-    requires numbers { All (λ number. number < length states.now) numbers.now }
     requires base { base < length states.now }
+    requires others { All (λ number. number < length states.now) others.now }
     requires alike { All (λ number. without taken.now (state_at states.now number)
-        ≡ without taken.now (state_at states.now base)) numbers.now }
+        ≡ without taken.now (state_at states.now base)) others.now }
     ensures parent { IfOk result (λ change. change.parent < length states.now) }
     ensures made { IfOk result (λ change. edited change.taken (state_at states.now change.parent) change.puts
         ≡ edited taken.now (state_at states.now base) puts.now) }
     ensures least { IfOk result (λ change. All (λ number. length change.taken + length change.puts
-        ≤ change_size taken.now (state_at states.now number) puts.now) numbers.now) }
+        ≤ change_size taken.now (state_at states.now number) puts.now) (base ∷ others.now)) }
 {
     let mut least = change_of(alloc, states, base, taken, puts)?;
-    for number in numbers {
+    for number in others {
         let change = change_of(alloc, states, *number, taken, puts)?;
         least = lesser(least, change);
     }
