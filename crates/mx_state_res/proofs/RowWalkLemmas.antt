@@ -2,7 +2,7 @@
 use Rattle.std.proofs.Common.{◌≡◌, ℕ, ◌+◌, ◌-◌, ◌^◌, ◌==◌, ◌≤◌, ◌<◌, nat_lt, Bool, true, false, ◌&&◌, ◌||◌, ◌⊎◌, inl, inr, List, [], ◌∷◌, ◌++◌, length, get_or, refl, sym, ap, subst, ◌∙◌, arith, eqb-true}
 use Rattle.std.proofs.lemmas.List.{get_or_append_left, get_or_past, get_or-append_right, length-append}
 use Rattle.mx_graph.specs.Record.{is_in}
-use Rattle.mx_graph.specs.Edges.{LeadDown, Rises, IsAllFrom}
+use Rattle.mx_graph.specs.Edges.{LeadDown, Rises}
 use Rattle.mx_graph.proofs.Closure.{or_cases, or_left, or_right}
 use Rattle.mx_state_res.specs.Masks.{IsApart}
 use Rattle.mx_state_res.specs.RowSets.{has_state, is_reached, is_partial, AreCounted}

@@ -1,16 +1,15 @@
 -- Sets of states as numbers, and rows with such sets.
-use Rattle.std.proofs.Common.{◌≡◌, ℕ, zero, suc, ◌+◌, ◌-◌, ◌/◌, ◌%◌, ◌^◌, ◌==◌, ◌≤◌, ◌<◌, max, set, Bool, true, false, not, cond, ◌&&◌, ◌||◌, ◌⊎◌, inl, inr, List, [], ◌∷◌, ◌++◌, length, get_or, bit_or, replicate, sum_by, ◌*◌, refl, sym, ap, ap₂, subst, ◌∙◌, arith, eq-eqb, eqb-true}
+use Rattle.std.proofs.Common.{◌≡◌, ℕ, zero, suc, ◌+◌, ◌-◌, ◌/◌, ◌%◌, ◌^◌, ◌==◌, ◌≤◌, ◌<◌, max, set, Bool, true, false, not, cond, ◌&&◌, ◌||◌, ◌⊎◌, inl, inr, List, [], length, get_or, bit_or, replicate, sum_by, ◌*◌, refl, sym, ap, subst, ◌∙◌, arith, eqb-true}
 use Rattle.std.proofs.lemmas.Bool.{eqb-false}
-use Rattle.std.proofs.lemmas.Bool.Decides.{nat_tests}
-use Rattle.std.proofs.lemmas.List.{get_or_append_left, get_or_past, get_or-append_right, get_or-set_same, get_or-set_other, length-append}
-use Rattle.std.proofs.lemmas.List.Sums.{sum_by-set, sum_by-cons, sum_by_push, sum_by-le, get_or-le-sum_by}
+use Rattle.std.proofs.lemmas.List.{get_or_past, get_or-set_same, get_or-set_other}
+use Rattle.std.proofs.lemmas.List.Sums.{sum_by-set, sum_by-cons, sum_by-le, get_or-le-sum_by}
 use Rattle.std.proofs.Math.Nat.{pow-suc}
 use Rattle.std.proofs.lemmas.Nat.{or_lt, pow_pos}
 use Rattle.std.proofs.lemmas.Nat.Bits.{bit_at_or, bit_at-zero, bit_at_ones, bit_at-pow_same, bit_at-pow_other, bit_at_lowest, bit_at-suc, bit_at-lt}
 use Rattle.std.specs.Int.{bit_at}
 use Rattle.mx_state_res.specs.RowSets.{has_state, is_reached, is_partial, weight, AreCounted}
 use Rattle.mx_state_res.specs.Masks.{IsApart}
-use Rattle.mx_state_res.proofs.TestLemmas.{and-make, and-cases, not-false, not-true, and-first, and-second, or-false, order}
+use Rattle.mx_state_res.proofs.TestLemmas.{and-cases, not-false, not-true, and-first, and-second, or-false}
 
 -- ---- members of sets
 

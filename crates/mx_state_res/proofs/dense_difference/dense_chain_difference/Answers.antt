@@ -1,7 +1,7 @@
-use Rattle.std.proofs.Common.{◌≡◌, ◌<◌, ◌||◌, ◌-◌, ◌^◌, [], ℕ, Vec, true, length, map, get_or, reverse, sym, ap, ap₂, subst, ◌∙◌, arith}
+use Rattle.std.proofs.Common.{◌≡◌, ◌<◌, ◌||◌, [], ℕ, Vec, true, length, map, get_or, reverse, sym, ap, ap₂, subst, ◌∙◌}
 use Rattle.std.proofs.lemmas.List.{length-map}
 use Rattle.std.specs.declared.alloc.Global.{Global}
-use Rattle.mx_state_res.specs.ChainDifference.{cites, is_cited}
+use Rattle.mx_state_res.specs.ChainDifference.{is_cited}
 use Rattle.mx_state_res.specs.RowSets.{has_state, is_reached}
 use Rattle.mx_state_res.proofs.StateSetLemmas.{has-all}
 use Rattle.mx_state_res.proofs.TestLemmas.{and-true}

@@ -1,6 +1,6 @@
-use Rattle.std.proofs.Common.{◌≡◌, ◌≤◌, ◌<◌, ◌==◌, ◌&&◌, ◌||◌, ℕ, length, set, bit_or, get_or, slice_index_or, refl, sym, ap, ap₂, subst, ◌∙◌, arith, eqb-true}
+use Rattle.std.proofs.Common.{◌≡◌, ◌≤◌, ◌<◌, ◌==◌, ◌&&◌, ◌||◌, length, set, bit_or, get_or, sym, ap, ◌∙◌, arith, eqb-true}
 use Rattle.std.proofs.lemmas.Grind.{get_or_default_zero}
-use Rattle.mx_state_res.specs.RowSets.{has_state, is_reached, weight, AreCounted}
+use Rattle.mx_state_res.specs.RowSets.{has_state, is_reached, weight}
 use Rattle.mx_state_res.proofs.StateSetLemmas.{same-reached, set-reached, set-counted, counted-le, weight-le}
 use Rattle.mx_state_res.proofs.row_sets.RowSets.mark.Goals as goal
 

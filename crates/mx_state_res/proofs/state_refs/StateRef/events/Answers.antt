@@ -2,7 +2,6 @@ use Rattle.std.proofs.Common.{◌<◌, ℕ, All, sym, ap, subst, ◌∙◌}
 use Rattle.std.proofs.lemmas.List.Elements.{All-map}
 use Rattle.mx_auth.specs.Rules.{Key}
 use Rattle.mx_orders.specs.StateMap.{events_of as events_in}
-use Rattle.mx_state_res.specs.Numbered.{state_at}
 use Rattle.mx_state_res.proofs.state_refs.StateRef.events.Goals as goal
 
 pub returns-clause-known : goal.returns-clause-known

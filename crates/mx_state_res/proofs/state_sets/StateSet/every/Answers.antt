@@ -1,4 +1,4 @@
-use Rattle.std.proofs.Common.{◌≡◌, ◌-◌, ◌^◌, ◌≤◌, ℕ, ap, ◌∙◌, arith}
+use Rattle.std.proofs.Common.{◌≡◌, ◌-◌, ◌^◌, ℕ, ap, ◌∙◌, arith}
 use Rattle.std.proofs.lemmas.Nat.Bits.{ones_shr}
 use Rattle.mx_state_res.proofs.state_sets.StateSet.every.Goals as goal
 

@@ -1,9 +1,6 @@
-use Rattle.std.proofs.Common.{length, sym, ap, subst, ◌∙◌}
-use Rattle.mx_graph.specs.Record.{is_in}
-use Rattle.mx_orders.specs.StateMap.{events_of}
-use Rattle.mx_state_res.specs.KeyNumbers.{AllBelow, shown}
-use Rattle.mx_state_res.specs.Numbered.{without}
-use Rattle.mx_state_res.proofs.ShownLemmas.{below-at, state-shown}
+use Rattle.std.proofs.Common.{length, sym, subst, ◌∙◌}
+use Rattle.mx_state_res.specs.KeyNumbers.{AllBelow}
+use Rattle.mx_state_res.proofs.ShownLemmas.{below-at}
 use Rattle.mx_state_res.proofs.states.States.events_at_other_keys.Goals as goal
 
 pub events_at_other_keys-requires-clause-below : goal.events_at_other_keys-requires-clause-below
