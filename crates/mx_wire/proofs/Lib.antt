@@ -9,3 +9,4 @@ pub mod WireRows
 pub mod DigitLemmas
 pub mod BodyIdLemmas
 pub mod JsonLemmas
+pub mod EntryLemmas

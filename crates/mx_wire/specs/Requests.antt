@@ -1,6 +1,6 @@
 -- What a request asks for, or its first fault (Matrix specification, Server-Server API: transactions, retrieving events,
 -- joining rooms).
-use Rattle.std.specs.Prelude.{ℕ, ◌==◌, nat_le, nat_lt, min, Bool, ◌&&◌, if◌then◌else◌, List, [], ◌∷◌, codes, length, Option, Some, None, option_map, option_and_then, is_some, Result, Ok, Err}
+use Rattle.std.specs.Prelude.{ℕ, ◌==◌, nat_le, nat_lt, min, Bool, ◌&&◌, if◌then◌else◌, List, [], ◌∷◌, codes, filter, length, Option, Some, None, option_map, option_and_then, is_some, Result, Ok, Err}
 use Rattle.std.specs.List.{list_all}
 use Rattle.std.specs.Char.{is_ascii_digit}
 use Rattle.std.specs.Str.{is_utf8}
@@ -8,7 +8,8 @@ use Rattle.serde_json.specs.Data.{Data}
 use Rattle.serde_json.specs.Read.{read}
 use Rattle.serde_json.specs.Find.{as_str, as_array, as_number, as_u64}
 use Rattle.mx_ident.specs.Identifier.{decimal_value, is_event_id}
-use Rattle.mx_redact.specs.Fields.{field, is_object, item_list}
+use Rattle.mx_redact.specs.Fields.{Event, field, is_none_or, is_object, item_list}
+use Rattle.mx_pdu.specs.Format.{is_well_formed}
 use Rattle.mx_wire.specs.declared.faults.Fault.{Fault}
 use Rattle.mx_wire.specs.declared.faults.Fault.TheVariants.{NotJson, Missing, Invalid}
 use Rattle.mx_wire.specs.declared.faults.MissingParameter.TheVariants as missing
@@ -67,6 +68,14 @@ all_event_ids ids = if list_all is_event_id ids then Some ids else None
 abbrev pub ids_or_none : Option Data → Option (List (List ℕ))
 ids_or_none None = Some []
 ids_or_none (Some d) = option_and_then all_event_ids (option_and_then (λ ds. texts_of (item_list ds)) (as_array d))
+
+-- Server-Server API, transactions: at most 50 PDUs, and at most 100 EDUs, which are not looked at; a malformed PDU has no
+-- result
+abbrev pub events_in : Data → Option (List Event)
+events_in d =
+    if is_none_or (is_array_up_to 100) (field (codes "edus") d)
+    then option_map (filter is_well_formed) (option_and_then (entries_up_to 50) (field (codes "pdus") d))
+    else None
 
 -- ---- parameters
 

@@ -9,6 +9,7 @@ mod parameters;
 mod query_parameters;
 mod routes;
 mod targets;
+mod transaction_bodies;
 
 pub use authorization::origin_of;
 pub use faults::{Denial, Fault, InvalidPart, MissingParameter, memory_body, storage_body};
@@ -18,3 +19,4 @@ pub use parameters::{Parameter, all_named, first_named, parameters_of};
 pub use query_parameters::{MOST_BACKFILLED, event_id_parameter, limit_parameter, v_parameters};
 pub use routes::{Route, Routes};
 pub use targets::{event_at, path_of, query_of, room_at, txn_at, user_at};
+pub use transaction_bodies::{MOST_EPHEMERAL_EVENTS, MOST_EVENTS, transaction_events};
