@@ -10,3 +10,4 @@ pub mod DigitLemmas
 pub mod BodyIdLemmas
 pub mod JsonLemmas
 pub mod EntryLemmas
+pub mod RequestRows
