@@ -6,3 +6,8 @@ pub mod SegmentLemmas
 pub mod RouteLemmas
 pub mod OnExamples
 pub mod WireRows
+pub mod DigitLemmas
+pub mod BodyIdLemmas
+pub mod JsonLemmas
+pub mod EntryLemmas
+pub mod RequestRows

@@ -4,3 +4,6 @@ pub mod Authorization
 pub mod Reading
 pub mod Targets
 pub mod Parameters
+pub mod Requests
+pub mod BodyIds
+pub mod MissingBodies

@@ -1,0 +1,8 @@
+use Rattle.std.proofs.Common.{◌≡◌, map, drop}
+use Rattle.std.specs.List.{list_all}
+use Rattle.mx_ident.specs.Identifier.{is_event_id}
+use Rattle.mx_wire.proofs.query_parameters.are_event_ids.Given as goal
+
+abbrev pub invariant-loop-text : goal.invariant-loop-text
+invariant-loop-text l =
+    list_all is_event_id (map (λ t. t.now) (drop l.text-index l.texts)) ≡ list_all is_event_id (map (λ t. t.now) l.texts)

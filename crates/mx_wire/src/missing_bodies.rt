@@ -1,0 +1,57 @@
+// What the body of a query for missing events says.
+ghost use Rattle.std.specs.Prelude.{◌≡◌, IfOk, Some, map, option_and_then, option_map};
+ghost use Rattle.serde_json.specs.Data.{object};
+ghost use Rattle.serde_json.specs.View.{members_view};
+ghost use Rattle.mx_wire.specs.Requests as definition;
+ghost use Rattle.mx_wire.specs.MissingBodies.{body_shown};
+
+use crate::json_bodies::{ids_or_none, natural_or};
+use mx_ident::EventId;
+use mx_redact::field;
+use serde_json::{Map, Value};
+use std::alloc::{AllocError, Global};
+
+/// How many events are given where a query for missing events names no limit.
+pub const USUAL_LIMIT: u64 = 10;
+
+/// What a server that lacks events asks for: those between what it has, the earliest, and what it wants, the latest,
+/// each at least so deep, at most so many.
+#[derive(Debug, Drop)]
+pub struct MissingEvents {
+    pub earliest: Vec<EventId>,
+    pub latest: Vec<EventId>,
+    pub limit: u64,
+    pub min_depth: u64,
+}
+
+/// What an object asks for; none where a value of it is of a wrong kind.
+///
+/// An absent list is empty, an absent `limit` 10, an absent `min_depth` 0. `AllocError` where nothing is of a wrong kind
+/// and no memory is left. Source: the Matrix specification, Server-Server API,
+/// `POST /_matrix/federation/v1/get_missing_events/{roomId}`.
+pub fn missing_events(
+    alloc: Global,
+    body: &Map<String, Value>,
+) -> Result<Option<MissingEvents>, AllocError>
+    ensures { IfOk result (λ asked. option_map body_shown asked
+        ≡ definition.missing_body (object (members_view body.now.entries))) }
+{
+    let Some(earliest) = ids_or_none(alloc, field(body, "earliest_events"))? else {
+        return Ok(None);
+    };
+    let Some(latest) = ids_or_none(alloc, field(body, "latest_events"))? else {
+        return Ok(None);
+    };
+    let Some(limit) = natural_or(USUAL_LIMIT, field(body, "limit")) else {
+        return Ok(None);
+    };
+    let Some(min_depth) = natural_or(0, field(body, "min_depth")) else {
+        return Ok(None);
+    };
+    Ok(Some(MissingEvents {
+        earliest,
+        latest,
+        limit,
+        min_depth,
+    }))
+}

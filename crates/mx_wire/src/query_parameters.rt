@@ -1,0 +1,140 @@
+// What the parameters of a query say, route by route.
+ghost use Rattle.std.specs.Prelude.{◌≡◌, ◌⊎◌, Ok, Err, IfErr, IfOk, map, min, true};
+ghost use Rattle.std.specs.List.{list_all};
+ghost use Rattle.std.specs.Char.{is_ascii_digit};
+ghost use Rattle.mx_ident.specs.Identifier.{decimal_value, is_event_id};
+ghost use Rattle.mx_wire.specs.Requests as definition;
+ghost use Rattle.mx_wire.specs.Parameters.{parameter_shown};
+
+use crate::faults::{Fault, InvalidPart, MissingParameter};
+use crate::parameters::{Parameter, all_named, first_named};
+use mx_ident::{EventId, IdError};
+use std::alloc::{AllocError, Global};
+
+/// How many events a backfill gives at most.
+pub const MOST_BACKFILLED: u64 = 100;
+
+/// The event id that the first parameter `event_id` is.
+///
+/// `Missing` where there is none, `Invalid` where it is no event id; `Memory`. Source: the Matrix specification,
+/// Server-Server API, `GET /_matrix/federation/v1/state/{roomId}`.
+pub fn event_id_parameter(alloc: Global, parameters: &[Parameter]) -> Result<EventId, Fault>
+    ensures ok { IfOk result (λ id.
+        definition.event_id_parameter (map parameter_shown parameters.now) ≡ Ok id) }
+    ensures err { IfErr result (λ fault. (fault ≡ Fault.Memory)
+        ⊎ (definition.event_id_parameter (map parameter_shown parameters.now) ≡ Err fault)) }
+{
+    let Some(text) = first_named(parameters, "event_id") else {
+        return Err(Fault::Missing(MissingParameter::EventId));
+    };
+    if !EventId::is(text) {
+        return Err(Fault::Invalid(InvalidPart::EventId));
+    }
+    let id = parsed_id(alloc, text)?;
+    Ok(id)
+}
+
+/// The event ids that the parameters `v` are, in their order.
+///
+/// `Missing` where there is none, `Invalid` where one is no event id; `Memory`. Source: the Matrix specification,
+/// Server-Server API, `GET /_matrix/federation/v1/backfill/{roomId}`.
+pub fn v_parameters(alloc: Global, parameters: &[Parameter]) -> Result<Vec<EventId>, Fault>
+    ensures ok { IfOk result (λ ids.
+        definition.v_parameters (map parameter_shown parameters.now) ≡ Ok ids.items) }
+    ensures err { IfErr result (λ fault. (fault ≡ Fault.Memory)
+        ⊎ (definition.v_parameters (map parameter_shown parameters.now) ≡ Err fault)) }
+{
+    let texts = all_named(alloc, parameters, "v")?;
+    if texts.is_empty() {
+        return Err(Fault::Missing(MissingParameter::V));
+    }
+    let ids = event_ids_of(alloc, &texts)?;
+    Ok(ids)
+}
+
+// These event ids; `Invalid` where one is none.
+fn event_ids_of(alloc: Global, texts: &[&str]) -> Result<Vec<EventId>, Fault>
+    ensures ok { IfOk result (λ ids. definition.event_ids_read (map (λ t. t.now) texts.now) ≡ Ok ids.items) }
+    ensures err { IfErr result (λ fault. (fault ≡ Fault.Memory)
+        ⊎ (definition.event_ids_read (map (λ t. t.now) texts.now) ≡ Err fault)) }
+{
+    if !are_event_ids(texts) {
+        return Err(Fault::Invalid(InvalidPart::EventId));
+    }
+    let ids = parsed_ids(alloc, texts)?;
+    Ok(ids)
+}
+
+fn are_event_ids(texts: &[&str]) -> bool
+    ensures { result ≡ list_all is_event_id (map (λ t. t.now) texts.now) }
+{
+    for text in texts {
+        if !EventId::is(text) {
+            return false;
+        }
+    }
+    true
+}
+
+fn parsed_ids(alloc: Global, texts: &[&str]) -> Result<Vec<EventId>, AllocError>
+    requires { list_all is_event_id (map (λ t. t.now) texts.now) ≡ true }
+    ensures { IfOk result (λ ids. ids.items ≡ map (λ t. t.now) texts.now) }
+{
+    let mut ids = Vec::with_capacity(alloc, texts.len())?;
+    for text in texts {
+        let id = parsed_id(alloc, text)?;
+        ids.push(id)?;
+    }
+    Ok(ids)
+}
+
+// The event id that a text is.
+fn parsed_id(alloc: Global, text: &str) -> Result<EventId, AllocError>
+    requires { is_event_id text.now ≡ true }
+    ensures { IfOk result (λ id. id ≡ text.now) }
+{
+    match EventId::parse(alloc, text) {
+        Ok(id) => Ok(id),
+        Err(IdError::Memory) => Err(AllocError),
+        Err(IdError::NotAnId(_)) => unreachable!(),
+    }
+}
+
+/// The number that the first parameter `limit` is, and 100 where it is more. It takes no memory.
+///
+/// `Missing` where there is none, `Invalid` where it is not decimal digits alone. Source: the Matrix specification,
+/// Server-Server API, `GET /_matrix/federation/v1/backfill/{roomId}`.
+pub fn limit_parameter(parameters: &[Parameter]) -> Result<u64, Fault>
+    ensures { result ≡ definition.limit_parameter (map parameter_shown parameters.now) }
+{
+    let Some(text) = first_named(parameters, "limit") else {
+        return Err(Fault::Missing(MissingParameter::Limit));
+    };
+    if !is_number(text) {
+        return Err(Fault::Invalid(InvalidPart::Limit));
+    }
+    Ok(number_up_to_most(text))
+}
+
+fn is_number(text: &str) -> bool
+    ensures { result ≡ definition.is_number text.now }
+{
+    !text.is_empty() && has_only_digits(text)
+}
+
+fn has_only_digits(text: &str) -> bool
+    ensures { result ≡ list_all is_ascii_digit text.now }
+{
+    text.bytes().all(|byte| byte.is_ascii_digit())
+}
+
+// The number that decimal digits are, where it is not over the most that a backfill gives.
+fn number_up_to_most(text: &str) -> u64
+    requires { definition.is_number text.now ≡ true }
+    ensures { result ≡ min (decimal_value text.now) 100 }
+{
+    match text.parse::<u64>() {
+        Ok(number) => number.min(MOST_BACKFILLED),
+        Err(_) => MOST_BACKFILLED,
+    }
+}
