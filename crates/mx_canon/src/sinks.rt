@@ -49,6 +49,18 @@ impl TextBuffer {
         }
     }
 
+    /// A buffer that has taken nothing, with room for so many bytes.
+    pub fn with_capacity(alloc: Global, capacity: usize) -> Result<TextBuffer, AllocError>
+        ensures text { IfOk result (λ buffer. HoldsText buffer []) }
+        ensures refused { IfOk result (λ buffer. is_refused buffer ≡ false) }
+    {
+        let bytes = Vec::with_capacity(alloc, capacity)?;
+        Ok(TextBuffer {
+            bytes,
+            is_refused: false,
+        })
+    }
+
     /// The text that it has taken.
     ///
     /// `AllocError` where it was refused the memory for a piece, and nowhere else.

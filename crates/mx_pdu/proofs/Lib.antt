@@ -9,4 +9,5 @@ pub mod LengthLemmas
 pub mod LimitLemmas
 pub mod LookupLemmas
 pub mod RedactionLemmas
+pub mod RefusalLemmas
 pub mod RiseLemmas

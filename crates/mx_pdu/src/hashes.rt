@@ -5,7 +5,7 @@ ghost use Rattle.base64.specs.GeneralPurpose.{encode_of};
 ghost use Rattle.serde_json.specs.Data.{object};
 ghost use Rattle.serde_json.specs.View.{members_view};
 ghost use Rattle.mx_redact.specs.Fields.{text_field, value_at};
-ghost use Rattle.mx_redact.specs.Hashes.{hash_holds};
+ghost use Rattle.mx_redact.specs.Hashes.{content_hash, hash_holds};
 
 use crate::lookups::object_at;
 use base64::engine::general_purpose::STANDARD_NO_PAD;
@@ -16,8 +16,16 @@ use serde_json::{Map, Value};
 pub fn holds_hash(event: &Map<String, Value>) -> bool
     ensures { result ≡ hash_holds (object (members_view event.now.entries)) }
 {
+    names_hash(event, &content_digest(event))
+}
+
+// Whether the event names this hash, which is its content hash.
+pub fn names_hash(event: &Map<String, Value>, hash: &[u8; 32]) -> bool
+    requires { hash.now ≡ content_hash (object (members_view event.now.entries)) }
+    ensures { result ≡ hash_holds (object (members_view event.now.entries)) }
+{
     match named_hash(event) {
-        Some(text) => is_text_of(text, &content_digest(event)),
+        Some(text) => is_text_of(text, hash),
         None => false,
     }
 }

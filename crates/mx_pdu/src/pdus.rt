@@ -6,19 +6,19 @@ ghost use Rattle.serde_json.specs.View.{view, members_view};
 ghost use Rattle.mx_canon.specs.Canonical.{canonical_error, canonical_text, in_range, largest};
 ghost use Rattle.mx_canon.specs.KeyOrder.{KeysRise};
 ghost use Rattle.mx_redact.specs.Fields.{kind};
-ghost use Rattle.mx_redact.specs.Hashes.{hash_holds};
+ghost use Rattle.mx_redact.specs.Hashes.{event_id, hash_holds, reference_hash, signing_text};
 ghost use Rattle.mx_redact.specs.Redaction.{redact as redacted_form};
 ghost use Rattle.mx_pdu.specs.Event.{room_of, sender_of, state_key_of, content_of, prev_ids, auth_ids, depth_of, timestamp_of, redacts_of};
 ghost use Rattle.mx_pdu.specs.Format.{format_error, is_well_formed};
 ghost use Rattle.mx_pdu.specs.declared.refusals.NotAnEvent.{NotAnEvent as Cause};
 
 use crate::checking::{check_canonical_format, check_format};
-use crate::hashes::holds_hash;
+use crate::hashes::{holds_hash, names_hash};
 use crate::ids::{event_ids_at, room_id_of, user_id_of};
 use crate::lookups::{integer_at, into_object, object_at, text_copied_from, text_or_empty_at};
 use crate::refusals::{NotAnEvent, PduError};
 use mx_ident::{EventId, RoomId, UserId};
-use mx_redact::{field, redact, text_field};
+use mx_redact::{Digests, event_digests, field, id_with_hash, redact, text_field};
 use serde_json::{Map, Value};
 use std::alloc::{AllocError, Global};
 use std::marker::Model;
@@ -73,11 +73,24 @@ impl Pdu {
         ensures refused { (cause : Cause)
             → (IsErrOf result (PduError.NotAnEvent cause) ↔ (format_error (view value) ≡ Some cause)) }
     {
+        let made = Pdu::hashed_from_value(alloc, value)?;
+        Ok(made.0)
+    }
+
+    // The event that the value is, with its hashes and the text that is signed of it.
+    pub(crate) fn hashed_from_value(alloc: Global, value: Value) -> Result<(Pdu, Digests), PduError>
+        ensures ok { IfOk result (λ made. made.0 ≡ view value) }
+        ensures reference { IfOk result (λ made. made.1.reference ≡ reference_hash (view value)) }
+        ensures text { IfOk result (λ made. made.1.signing_text.items ≡ signing_text (view value)) }
+        ensures format { OnOk result (format_error (view value) ≡ None) }
+        ensures refused { (cause : Cause)
+            → (IsErrOf result (PduError.NotAnEvent cause) ↔ (format_error (view value) ≡ Some cause)) }
+    {
         check_format(&value)?;
         match into_object(value) {
             Some(event) => {
-                let pdu = Pdu::of_checked(alloc, event)?;
-                Ok(pdu)
+                let made = Pdu::of_checked(alloc, event)?;
+                Ok(made)
             }
             None => unreachable!(),
         }
@@ -94,21 +107,65 @@ impl Pdu {
         ensures refused { (cause : Cause)
             → (IsErrOf result (PduError.NotAnEvent cause) ↔ (format_error (view value) ≡ Some cause)) }
     {
+        let made = Pdu::hashed_from_canonical(alloc, value, text)?;
+        Ok(made.0)
+    }
+
+    /// The event as [`Pdu::from_canonical`] gives it, and its id.
+    ///
+    /// Source: the Matrix specification, Room Version 4, "Event IDs".
+    pub fn from_canonical_with_id(
+        alloc: Global,
+        value: Value,
+        text: &[u8],
+    ) -> Result<(Pdu, EventId), PduError>
+        requires canonical { canonical_error (view value) ≡ None }
+        requires keys { KeysRise (view value) }
+        requires text { text.now ≡ canonical_text (view value) }
+        ensures ok { IfOk result (λ made. made.0 ≡ view value) }
+        ensures id { IfOk result (λ made. made.1 ≡ event_id (view value)) }
+        ensures format { OnOk result (format_error (view value) ≡ None) }
+        ensures refused { (cause : Cause)
+            → (IsErrOf result (PduError.NotAnEvent cause) ↔ (format_error (view value) ≡ Some cause)) }
+    {
+        let made = Pdu::hashed_from_canonical(alloc, value, text)?;
+        let id = id_with_hash(alloc, &made.1.reference)?;
+        Ok((made.0, id))
+    }
+
+    fn hashed_from_canonical(
+        alloc: Global,
+        value: Value,
+        text: &[u8],
+    ) -> Result<(Pdu, Digests), PduError>
+        requires canonical { canonical_error (view value) ≡ None }
+        requires keys { KeysRise (view value) }
+        requires text { text.now ≡ canonical_text (view value) }
+        ensures ok { IfOk result (λ made. made.0 ≡ view value) }
+        ensures reference { IfOk result (λ made. made.1.reference ≡ reference_hash (view value)) }
+        ensures format { OnOk result (format_error (view value) ≡ None) }
+        ensures refused { (cause : Cause)
+            → (IsErrOf result (PduError.NotAnEvent cause) ↔ (format_error (view value) ≡ Some cause)) }
+    {
         check_canonical_format(&value, text)?;
         match into_object(value) {
             Some(event) => {
-                let pdu = Pdu::of_checked(alloc, event)?;
-                Ok(pdu)
+                let made = Pdu::of_checked(alloc, event)?;
+                Ok(made)
             }
             None => unreachable!(),
         }
     }
 
     // Of an object that is well formed.
-    fn of_checked(alloc: Global, event: Map<String, Value>) -> Result<Pdu, AllocError>
+    fn of_checked(alloc: Global, event: Map<String, Value>) -> Result<(Pdu, Digests), AllocError>
         requires well_formed { IsTrue (is_well_formed (object (members_view event.entries))) }
         requires keys { KeysRise (object (members_view event.entries)) }
-        ensures { IfOk result (λ pdu. pdu ≡ object (members_view event.entries)) }
+        ensures ok { IfOk result (λ made. made.0 ≡ object (members_view event.entries)) }
+        ensures reference { IfOk result (λ made. made.1.reference
+            ≡ reference_hash (object (members_view event.entries))) }
+        ensures text { IfOk result (λ made. made.1.signing_text.items
+            ≡ signing_text (object (members_view event.entries))) }
     {
         let kind = String::from_str(alloc, text_or_empty_at(&event, "type"))?;
         let state_key = text_copied_from(alloc, &event, "state_key")?;
@@ -116,7 +173,8 @@ impl Pdu {
         let sender = user_id_of(alloc, text_or_empty_at(&event, "sender"))?;
         let prev_events = event_ids_at(alloc, &event, "prev_events")?;
         let auth_events = event_ids_at(alloc, &event, "auth_events")?;
-        let hash_holds = holds_hash(&event);
+        let digests = event_digests(alloc, &event)?;
+        let hash_holds = names_hash(&event, &digests.content);
         let parts = Arc::new(
             alloc,
             Parts {
@@ -130,7 +188,7 @@ impl Pdu {
                 hash_holds,
             },
         )?;
-        Ok(Pdu { parts })
+        Ok((Pdu { parts }, digests))
     }
 
     /// Why the value is no event of room version 6, if it is none. It takes no memory.

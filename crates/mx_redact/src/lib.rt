@@ -2,6 +2,7 @@
 //! events").
 #![tactic(auto)]
 
+mod digests;
 mod fields;
 mod hashers;
 mod hashing;
@@ -15,6 +16,7 @@ mod signing;
 #[cfg(test)]
 mod tests;
 
+pub use digests::{Digests, event_digests};
 pub use fields::{field, text_field};
 pub use hashing::{content_digest, content_hash, reference_digest, reference_hash};
 pub use redacting::redact;

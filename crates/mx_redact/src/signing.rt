@@ -9,6 +9,7 @@ ghost use Rattle.mx_canon.specs.declared.checking.NotCanonical.{NotCanonical as 
 ghost use Rattle.mx_redact.specs.Fields.{Event};
 ghost use Rattle.mx_redact.specs.Hashes.{event_id as event_id_of, signing_text, signing_text as text_of, signed_part};
 
+use crate::digests::CAPACITY;
 use crate::hashing::reference_hash;
 use crate::parts::{fault_in_signed, write_signed};
 use base64::engine::general_purpose::URL_SAFE_NO_PAD;
@@ -39,10 +40,10 @@ pub fn signing_bytes(alloc: Global, event: &Map<String, Value>) -> Result<Vec<u8
 
 // The text of the part that is signed, in which a float has no digits.
 #[tactic(auto, unfolding(crate::specs::Hashes::signing_text))]
-fn signed_text(alloc: Global, event: &Map<String, Value>) -> Result<Vec<u8>, AllocError>
+pub(crate) fn signed_text(alloc: Global, event: &Map<String, Value>) -> Result<Vec<u8>, AllocError>
     ensures { IfOk result (λ bytes. bytes.items ≡ signing_text (object (members_view event.now.entries))) }
 {
-    let mut buffer = TextBuffer::new(alloc);
+    let mut buffer = TextBuffer::with_capacity(alloc, CAPACITY)?;
     write_signed(&mut buffer, event);
     let bytes = buffer.into_bytes()?;
     Ok(bytes)
@@ -80,11 +81,23 @@ pub fn event_id_by_text(alloc: Global, signing_text: &[u8]) -> Result<EventId, A
 pub fn id_with_hash(alloc: Global, hash: &[u8; 32]) -> Result<EventId, AllocError>
     ensures { IfOk result (λ id. id ≡ 36 ∷ encode_of url_safe_no_pad hash.now) }
 {
-    let mut text = String::from_str(alloc, "$")?;
-    URL_SAFE_NO_PAD.encode_string(hash, &mut text)?;
-    match EventId::parse(alloc, &text) {
+    let text = id_text(hash);
+    let Ok(text) = str::from_utf8(&text) else {
+        unreachable!()
+    };
+    match EventId::parse(alloc, text) {
         Ok(id) => Ok(id),
         Err(IdError::Memory) => Err(AllocError),
         Err(IdError::NotAnId(_)) => unreachable!(),
+    }
+}
+
+fn id_text(hash: &[u8; 32]) -> [u8; 44]
+    ensures { result ≡ 36 ∷ encode_of url_safe_no_pad hash.now }
+{
+    let mut text = [b'$'; 44];
+    match URL_SAFE_NO_PAD.encode_slice(hash, &mut text[1..]) {
+        Ok(_) => text,
+        Err(_) => unreachable!(),
     }
 }

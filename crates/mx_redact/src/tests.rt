@@ -1,5 +1,6 @@
 use crate::{
-    content_digest, content_hash, event_id, plain, redact, reference_digest, signing_bytes,
+    content_digest, content_hash, event_digests, event_id, plain, redact, reference_digest,
+    signing_bytes,
 };
 use mx_canon::CanonError;
 use serde_json::{Map, Value};
@@ -8,6 +9,10 @@ use std::test::Fail;
 
 const POWER_LEVELS: &str =
     "{\"auth_events\":[],\"content\":{\"ban\":50,\"invite\":50,\"notifications\":{\"room\":50},\"users\":{\"@a:a.example\":100}},\"depth\":4,\"hashes\":{\"sha256\":\"x\"},\"origin_server_ts\":40,\"prev_events\":[],\"room_id\":\"!r:a.example\",\"sender\":\"@a:a.example\",\"signatures\":{\"a.example\":{\"ed25519:1\":\"s\"}},\"state_key\":\"\",\"type\":\"m.room.power_levels\",\"unsigned\":{\"age\":5}}";
+
+// Its two texts begin alike for 141 bytes.
+const MESSAGE: &str =
+    "{\"auth_events\":[\"$RBNvo1WzZ4oRRq0W9-hknpT7T8If536DEMBg9hyq_4o\",\"$T88qUID58cSwgtjrzS_C35dNVOdZei7Dk6AJtTNbu9U\"],\"content\":{\"body\":\"a\"},\"depth\":5,\"hashes\":{\"sha256\":\"x\"},\"type\":\"m.room.message\"}";
 
 const SIGNED: &str =
     "{\"auth_events\":[],\"content\":{\"ban\":50,\"users\":{\"@a:a.example\":100}},\"depth\":4,\"hashes\":{\"sha256\":\"x\"},\"origin_server_ts\":40,\"prev_events\":[],\"room_id\":\"!r:a.example\",\"sender\":\"@a:a.example\",\"state_key\":\"\",\"type\":\"m.room.power_levels\"}";
@@ -47,6 +52,7 @@ fn walks_agree_with_the_plain_bodies(rt: HostRuntime) -> Result<(), Fail> {
     for json in [
         "{}",
         POWER_LEVELS,
+        MESSAGE,
         "{\"content\":{\"membership\":\"join\",\"a\\\"\\u0001\":[1,-2,[],{}]},\"type\":\"m.room.member\"}",
         "{\"content\":7,\"type\":\"m.room.create\",\"unsigned\":{\"x\":9007199254740992}}",
     ] {
@@ -55,6 +61,15 @@ fn walks_agree_with_the_plain_bodies(rt: HostRuntime) -> Result<(), Fail> {
         assert_eq!(rt; content, content_digest(&event), "at {json}");
         let reference = plain::reference_hash(alloc, &event)?;
         assert_eq!(rt; reference, reference_digest(&event), "at {json}");
+        let both = event_digests(alloc, &event)?;
+        assert_eq!(rt; content, both.content, "at {json}");
+        assert_eq!(rt; reference, both.reference, "at {json}");
+        let signed = signing_bytes(alloc, &event)?;
+        assert_eq!(rt;
+            signed.as_slice(),
+            both.signing_text.as_slice(),
+            "at {json}"
+        );
     }
     Ok(())
 }
@@ -73,6 +88,10 @@ fn gives_its_answers_or_no_memory(rt: HostRuntime) {
     match event_id(alloc, &event) {
         Ok(id) => assert_eq!(rt; id.as_str(), "$T88qUID58cSwgtjrzS_C35dNVOdZei7Dk6AJtTNbu9U"),
         Err(e) => assert_eq!(rt; e, CanonError::Memory),
+    }
+    if let Ok(both) = event_digests(alloc, &event) {
+        assert_eq!(rt; both.reference, reference_digest(&event));
+        assert_eq!(rt; both.signing_text.as_slice(), SIGNED.as_bytes());
     }
     if let Ok(redacted) = redact(alloc, &event) {
         assert_eq!(rt; reference_digest(&redacted), reference_digest(&event));

@@ -4,4 +4,4 @@ use Rattle.mx_redact.proofs.signing.signed_text.Goals as goal
 
 pub returns : goal.returns
 unfolding signing_text
-returns c = c.in_ok-bytes.ensures.ok _ (c.write_signed.ensures [] c.new-buffer.ensures.text)
+returns c = c.in_ok-bytes.ensures.ok _ (c.write_signed.ensures [] c.in_ok-buffer.ensures.text)
