@@ -19,8 +19,9 @@ use Rattle.mx_orders.specs.PowerOrder.{power_order}
 use Rattle.mx_orders.specs.Mainline.{mainline_order}
 use Rattle.mx_state_res.specs.Resolution.{resolve, unconflicted, full_conflicted, power_events}
 use Rattle.mx_receipt.specs.Receipt.{state_before_next, before_event, forward_extremities, current_state}
-use Rattle.mx_receipt.specs.Judgements.{Judged, IsHeld, IsKept, IsJudged, AreAfter, AreNext, leads_on, kept_row}
+use Rattle.mx_receipt.specs.Judgements.{Judged, IsHeld, IsKept, IsJudged, AreAfter, AreNext, is_marked, leads_on, kept_row}
 use Rattle.mx_receipt.specs.TimelineView.{IsSoundCreate}
+use Rattle.mx_receipt.proofs.PastLemmas.{none-past}
 use Rattle.mx_receipt.specs.declared.verdicts.Verdict.TheVariants.{Accepted}
 
 none_known : (ids : List (List ℕ)) → filter_map (place_of []) ids ≡ []
@@ -84,6 +85,7 @@ held-empty states are = subst (λ (ss : List State). IsHeld [] ss [] [] 0) (sym 
       below = λ k d l. absurd (omega arith);
       below_current = omega arith;
       known = none-known;
+      past = none-past [] [] [] (is_marked []) (λ p. refl);
     }
 
 empty-before : (e : Event) → state_before_next [] e ≡ []

@@ -1,17 +1,15 @@
 -- The events that an event leads to through events that were not accepted.
-use Rattle.std.proofs.Common.{◌≡◌, ℕ, zero, suc, ◌==◌, Bool, true, false, cond, ◌||◌, ◌⊎◌, inl, inr, List, [], ◌∷◌, refl, sym, subst, ◌∙◌, arith, eqb-true}
+use Rattle.std.proofs.Common.{◌≡◌, ℕ, ◌==◌, Bool, true, false, ◌||◌, List, [], refl, sym, ◌∙◌, arith}
 use Rattle.std.proofs.lemmas.Bool.Decides.{nat_tests}
 use Rattle.std.specs.Prelude.{if◌then◌else◌, slice_index_or}
-use Rattle.std.specs.List.{All}
 use Rattle.std.specs.Ordering.{nat_cmp, is_eq}
 use Rattle.mx_graph.specs.Edges.{IsAllFrom, LeadDown}
 use Rattle.mx_graph.specs.Graph.{IsSound}
 use Rattle.mx_graph.specs.Record.{Row, event, is_in, prev_events}
-use Rattle.mx_graph.proofs.Closure.{or_cases}
 use Rattle.mx_graph.proofs.WalkLemmas.{IsWalk}
 use Rattle.mx_receipt.specs.Receipt.{is_accepted}
-use Rattle.mx_receipt.specs.Judgements.{Judged, leads_on}
-use Rattle.mx_receipt.specs.declared.verdicts.Verdict.{Verdict}
+use Rattle.mx_receipt.specs.Judgements.{is_marked, leads_further, leads_on, verdicts_in}
+use Rattle.mx_receipt.specs.declared.snapshots.Judgement.{Judgement}
 use Rattle.mx_receipt.specs.declared.verdicts.Verdict.TheVariants.{Accepted}
 pub use Rattle.mx_graph.proofs.Closure.{in-all}
 
@@ -30,14 +28,18 @@ all_from-same cites first f g same h =
 pub is_eq-same : (k p : ℕ) → is_eq (nat_cmp k p) ≡ (k == p)
 is_eq-same k p = grind (arith, nat_tests)
 
-no_less : (b : Bool) (xs : List ℕ) (y : ℕ) → is_in (if b then [] else xs) y ≡ true → is_in xs y ≡ true
+pub no_less : (b : Bool) (xs : List ℕ) (y : ℕ) → is_in (if b then [] else xs) y ≡ true → is_in xs y ≡ true
 no_less true xs y e = absurd (cc e)
 no_less false xs y e = e
 
-pub leads_on-down : (rows : List Row) (verdicts : List Verdict) → IsSound rows → LeadDown (leads_on rows verdicts)
-leads_on-down rows verdicts sound x y e =
-    (sound.prev x y (no_less (is_accepted (slice_index_or verdicts x Accepted)) (prev_events rows (event rows x)) y e)).1
+pub leads_further-down : (rows : List Row) (judgements : List Judgement) → IsSound rows → LeadDown (leads_further rows judgements)
+leads_further-down rows judgements sound x y e =
+    (sound.prev x y
+    (no_less (is_accepted (slice_index_or (verdicts_in judgements) x Accepted)) (prev_events rows (event rows x)) y
+    (no_less (is_marked judgements x) (leads_on rows (verdicts_in judgements) x) y e))).1
 
-pub cond-or : (a b : Bool) → cond a true b ≡ (a || b)
-cond-or true b = refl
-cond-or false b = refl
+pub or-swap : (a b : Bool) → (a || b) ≡ (b || a)
+or-swap true true = refl
+or-swap true false = refl
+or-swap false true = refl
+or-swap false false = refl

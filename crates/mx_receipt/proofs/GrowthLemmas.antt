@@ -13,7 +13,7 @@ use Rattle.mx_graph.proofs.ReachedLemmas.{closures-least}
 use Rattle.mx_graph.proofs.RemovalLemmas.{lt-neq, places-before}
 use Rattle.mx_graph.proofs.RowLemmas.{row-new, row-other}
 use Rattle.mx_receipt.specs.Receipt.{is_accepted}
-use Rattle.mx_receipt.specs.Judgements.{Judged, leads_on}
+use Rattle.mx_receipt.specs.Judgements.{leads_on}
 use Rattle.mx_receipt.specs.declared.verdicts.Verdict.{Verdict}
 use Rattle.mx_receipt.specs.declared.verdicts.Verdict.TheVariants.{Accepted}
 
@@ -59,7 +59,7 @@ module _ (rows : List Row) (r : Row) (sound : IsSound rows) (after : IsSound (ro
   abbrev cites_after : ℕ → List ℕ
   cites_after p = prev_events (rows ++ r ∷ []) (event (rows ++ r ∷ []) p)
 
-  cites-old : (x : ℕ) → x < length rows → cites_after x ≡ cites x
+  pub cites-old : (x : ℕ) → x < length rows → cites_after x ≡ cites x
   cites-old x l =
       places-before rows r (prev_ids (event (rows ++ r ∷ []) x)) (λ y e. let low : y < x = (after.prev x y e).1 in omega arith)
       ∙ ap (λ (s : Row). prev_events rows s.event) (row-other rows r x (lt-neq x (length rows) l))

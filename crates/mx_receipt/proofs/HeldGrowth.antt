@@ -9,9 +9,9 @@ use Rattle.mx_orders.specs.StateMap.{State}
 use Rattle.mx_state_res.specs.Numbered.{AreAdded, AreKnown, state_at}
 use Rattle.mx_state_res.specs.Resolution.{resolve}
 use Rattle.mx_receipt.specs.Receipt.{states_at}
-use Rattle.mx_receipt.specs.Judgements.{AreBelow, IsHeld, IsJudged, IsKept, Judged, afters, judged_by, judged_in}
+use Rattle.mx_receipt.specs.Judgements.{AreBelow, ArePast, IsHeld, IsJudged, IsKept, afters, is_marked, judged_by, judged_in, verdicts_in}
 use Rattle.mx_receipt.specs.declared.snapshots.Judgement.{Judgement}
-use Rattle.mx_receipt.proofs.HeldLemmas.{added-below, added-judged, added-length, all-known, judged-length, judged-push, known-longer}
+use Rattle.mx_receipt.proofs.HeldLemmas.{added-below, added-judged, all-known, judged-length, judged-push, known-longer}
 use Rattle.mx_receipt.proofs.KeptLemmas.{below-push, kept-push}
 
 module _ (rows : List Row) (old : List State) (js : List Judgement) (exts : List ℕ) (cur : ℕ) (held : IsHeld rows old js exts cur)
@@ -44,7 +44,8 @@ module _ (rows : List Row) (old : List State) (js : List Judgement) (exts : List
       (below-push rows (judged_in old js) exts (state_at old cur) held.is_kept r (judged_by mid j) exts' is_judged)
 
   module _ (sound : IsSound rows) (after : IsSound (rows ++ r ∷ [])) (new : List State) (more : AreAdded (rows ++ r ∷ []) mid new) (cur' : ℕ) (below : cur' < length new)
-      (current : state_at new cur' ≡ resolve (rows ++ r ∷ []) (states_at (afters (judged_in mid (js ++ j ∷ []))) exts')) where
+      (current : state_at new cur' ≡ resolve (rows ++ r ∷ []) (states_at (afters (judged_in mid (js ++ j ∷ []))) exts'))
+      (past : ArePast (rows ++ r ∷ []) (verdicts_in (js ++ j ∷ [])) exts' (is_marked (js ++ j ∷ []))) where
     known-new : AreKnown (rows ++ r ∷ []) new
     known-new = all-known (rows ++ r ∷ []) mid new known-mid more
 
@@ -61,4 +62,5 @@ module _ (rows : List Row) (old : List State) (js : List Judgement) (exts : List
       below = added-below (rows ++ r ∷ []) mid new (js ++ j ∷ []) more numbers-mid;
       below_current = below;
       known = known-new;
+      past = past;
     }

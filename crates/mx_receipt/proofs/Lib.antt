@@ -3,6 +3,7 @@ pub mod CoverLemmas
 pub mod JudgementLemmas
 pub mod RecordLemmas
 pub mod GrowthLemmas
+pub mod PastLemmas
 pub mod ExtremityLemmas
 pub mod KeptLemmas
 pub mod BeginLemmas

@@ -1,5 +1,5 @@
 -- Events that are taken out of a list that rises.
-use Rattle.std.proofs.Common.{◌≡◌, ◌==◌, ◌<◌, ◌++◌, ◌||◌, ◌⊎◌, inl, inr, ℕ, zero, suc, Bool, true, false, cond, not, List, [], ◌∷◌, filter, length, refl, sym, ap, subst, ◌∙◌, arith, eq-eqb, eqb-true}
+use Rattle.std.proofs.Common.{◌≡◌, ◌==◌, ◌<◌, ◌++◌, ◌||◌, ℕ, zero, suc, Bool, true, false, cond, not, List, [], ◌∷◌, filter, length, refl, sym, ap, subst, ◌∙◌, arith, eq-eqb, eqb-true}
 use Rattle.std.proofs.Math.ListN.{get_or}
 use Rattle.std.proofs.lemmas.List.Sorted.{searched}
 use Rattle.std.specs.List.{remove}
@@ -47,7 +47,7 @@ absent-is xs x e = sym (kept-all (λ p. not (x == p)) xs (λ p m. apart x p (λ 
 
 -- ---- one more is taken out
 
-is_in-more : (xs : List ℕ) (e p : ℕ) → is_in (xs ++ e ∷ []) p ≡ (is_in xs p || (e == p))
+pub is_in-more : (xs : List ℕ) (e p : ℕ) → is_in (xs ++ e ∷ []) p ≡ (is_in xs p || (e == p))
 is_in-more [] e p = or-none (e == p)
   where
     or-none : (b : Bool) → (b || false) ≡ b

@@ -1,23 +1,26 @@
 -- What a timeline shows, and what its parts are.
-use Rattle.std.proofs.Common.{◌≡◌, ◌+◌, ◌-◌, ◌++◌, ℕ, Bool, true, false, not, ◌||◌, ◌&&◌, List, [], ◌∷◌, take, length, refl, sym, ap, subst, ◌∙◌, arith, Option, Some, None}
+use Rattle.std.proofs.Common.{◌≡◌, ◌<◌, ◌+◌, ◌-◌, ◌++◌, ℕ, Bool, true, false, not, ◌||◌, ◌&&◌, List, [], ◌∷◌, take, length, refl, sym, ap, subst, ◌∙◌, arith, Option, Some, None}
 use Rattle.std.proofs.lemmas.List.{length-append}
 use Rattle.std.proofs.lemmas.List.Folds.{list_any-append}
 use Rattle.std.specs.Prelude.{slice_get, is_some, is_none, nat_le, codes}
-use Rattle.std.specs.List.{list_any, list_all}
+use Rattle.std.specs.List.{All, list_any, list_all}
 use Rattle.mx_ident.specs.Identifier.{refuse_if}
 use Rattle.mx_redact.specs.Fields.{Event}
 use Rattle.mx_pdu.specs.Event.{has_kind, prev_ids, auth_ids}
 use Rattle.mx_graph.specs.declared.refusals.NotAdded.{NotAdded}
 use Rattle.mx_graph.specs.declared.refusals.NotAdded.TheVariants.{Known, MissingPrevEvent, MissingAuthEvent, Full}
 use Rattle.mx_graph.specs.Adding.{add_error, is_known, most_rows}
-use Rattle.mx_graph.specs.Record.{Row, place_of}
+use Rattle.mx_graph.specs.Record.{Row, is_in, place_of}
+use Rattle.mx_graph.proofs.Closure.{all-in, or_right}
 use Rattle.mx_orders.specs.StateMap.{State}
+use Rattle.mx_state_res.specs.Numbered.{state_at}
 use Rattle.mx_receipt.specs.Receipt.{Kept, offer_error, lacks_cited, installed, judged}
-use Rattle.mx_receipt.specs.Judgements.{Judged, judged_by, judged_in, kept_of, kept_row, IsHeld, IsAdded}
+use Rattle.mx_receipt.specs.Judgements.{Judged, judged_by, judged_in, kept_of, kept_row, is_marked, unmarked, verdicts_in, ArePast, IsKept, IsHeld, IsAdded}
 use Rattle.mx_receipt.specs.Timelines.{kept_in, prepared_in, IsPrepared, IsTimeline}
 use Rattle.mx_receipt.specs.declared.snapshots.Judgement.{Judgement}
 use Rattle.mx_receipt.specs.declared.timelines.Prepared.{Prepared}
-use Rattle.mx_receipt.proofs.HeldLemmas.{judged-grows, judged-push}
+use Rattle.mx_receipt.proofs.HeldLemmas.{judged-grows, judged-length, judged-push}
+use Rattle.mx_receipt.proofs.PastLemmas.{marked-below, marked-judged, marked-verdicts, past-fewer}
 use Rattle.mx_receipt.proofs.RecordLemmas.{take-whole, kept_of-push, kept_of-length}
 
 get-seam : {A : Type 0} (xs : List A) (y : A) → slice_get (xs ++ y ∷ []) (length xs) ≡ Some y
@@ -75,6 +78,29 @@ module _ (rows : List Row) (states : List State) (js : List Judgement) (exts : L
     pub discarded-shown : kept_of rows' (judged_in states' js') ≡ kept_in rows (judged_in states js) (Some p)
     discarded-shown = (λ i. kept_of (less_rows h.earlier h.row h.are_rows i) (judged_in (states-are i) (less_judgements h.judged h.judgement h.are_judgements i))) ∙ sym kept-shown
 
+  -- with the events marked that it covers
+  module _ (js' : List Judgement) (stay : unmarked js' ≡ unmarked js) (marked : (q : ℕ) → is_marked js' q ≡ (is_marked js q || is_in p.covered.items q)) where
+    pub installed-held : IsHeld rows states js' p.extremities.items p.current
+    installed-held = record {
+      is_kept = subst (λ is. IsKept rows is p.extremities.items (state_at states p.current)) (sym (marked-judged js js' stay states)) h.after.is_kept;
+      below = marked-below js js' stay (length states) h.after.below;
+      below_current = h.after.below_current;
+      known = h.after.known;
+      past =
+          subst (λ vs. ArePast rows vs p.extremities.items (is_marked js')) (sym (marked-verdicts js js' stay))
+          (past-fewer rows (verdicts_in js) p.extremities.items (λ q. is_marked js q || is_in p.covered.items q) (is_marked js') (λ q e. sym (marked q) ∙ e) h.past);
+    }
+
+    pub marked-kept : kept_of rows (judged_in states js') ≡ kept_of rows (judged_in states js)
+    marked-kept = ap (kept_of rows) (marked-judged js js' stay states)
+
+  -- they are rows
+  pub covered-known : All (λ q. q < length js) p.covered.items
+  covered-known = all-in (λ q. q < length js) p.covered.items (λ q e.
+      let l : q < length rows = h.past.below q (h.past.has q (or_right (is_marked js q) (is_in p.covered.items q) e)) in
+      let f : length rows ≡ length js = h.after.is_kept.count ∙ judged-length states js in
+      omega arith)
+
 -- where no event is shown as prepared, none is
 pub none-prepared : (rows : List Row) (states : List State) (js : List Judgement) (exts : List ℕ) (cur : ℕ) (o : Option Prepared) → IsTimeline rows states js exts cur o → prepared_in rows (judged_in states js) o ≡ None → o ≡ None
 none-prepared rows states js exts cur None h e = refl
@@ -83,7 +109,7 @@ none-prepared rows states js exts cur (Some p) h e = absurd (cc (sym (prepared-s
 -- ---- an event that was added
 
 module _ (rows : List Row) (states : List State) (js : List Judgement) (exts : List ℕ) (cur : ℕ) (held : IsHeld rows states js exts cur) (id : List ℕ) (e : Event) (rows' : List Row) (states' : List State) (js' : List Judgement) (p : Prepared)
-    (added : IsAdded rows states js id e rows' states' js' p.extremities.items p.current) (count : p.states ≡ length states) where
+    (added : IsAdded rows states js id e rows' states' js' p.extremities.items p.covered.items p.current) (count : p.states ≡ length states) where
   pub is_prepared : IsPrepared rows' states' js' exts cur p
   is_prepared = record {
     earlier = rows;
@@ -98,6 +124,7 @@ module _ (rows : List Row) (states : List State) (js : List Judgement) (exts : L
     are_judgements = added.are_judgements;
     before = held;
     after = added.is_held;
+    past = added.past;
   }
 
   pub added-kept : kept_in rows' (judged_in states' js') (Some p) ≡ kept_of rows (judged_in states js)

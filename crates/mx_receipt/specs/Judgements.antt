@@ -1,5 +1,5 @@
 -- What is kept beside the rows of a record, for private clauses.
-use Rattle.std.specs.Prelude.{◌≡◌, ℕ, ◌<◌, ◌++◌, ◌∷◌, Bool, true, false, not, List, [], All, T, length, map, filter, slice_index_or, if◌then◌else◌}
+use Rattle.std.specs.Prelude.{◌≡◌, ℕ, ◌<◌, ◌++◌, ◌∷◌, ◌||◌, Bool, true, false, not, List, [], All, T, length, map, filter, slice_index_or, if◌then◌else◌}
 use Rattle.std.specs.FinMap.Entries.{is_sorted}
 use Rattle.mx_redact.specs.Fields.{Event}
 use Rattle.mx_graph.specs.Edges.{IsAllFrom}
@@ -95,6 +95,33 @@ pub record AreAfter (rows : List Row) (verdicts : List Verdict) (prev extremitie
   pub stay : is_accepted verdict ≡ false → next ≡ extremities
   pub replace : is_accepted verdict ≡ true → AreNext rows verdicts prev extremities number next
 
+-- ---- the events that are past
+
+-- an event is marked as covered
+abbrev pub is_marked : List Judgement → ℕ → Bool
+is_marked judgements p = slice_index_or (map (λ j. j.covered) judgements) p false
+
+-- judgements without their marks
+abbrev pub unmarked : List Judgement → List (Verdict × (ℕ × ℕ))
+unmarked = map (λ j. (j.verdict, (j.before, j.after)))
+
+-- these events, and those that they lead on to, are no extremities
+pub record ArePast (rows : List Row) (verdicts : List Verdict) (extremities : List ℕ) (some : ℕ → Bool) : Type 0 where
+  pub past : ℕ → Bool
+  pub has : (p : ℕ) → some p ≡ true → past p ≡ true
+  pub closed : (x y : ℕ) → past x ≡ true → is_in (leads_on rows verdicts x) y ≡ true → past y ≡ true
+  pub below : (p : ℕ) → past p ≡ true → p < length rows
+  pub apart : (p : ℕ) → past p ≡ true → is_in extremities p ≡ false
+
+-- an event that was not accepted leads on to its prev events, unless it is marked
+abbrev pub leads_further : List Row → List Judgement → ℕ → List ℕ
+leads_further rows judgements p = if is_marked judgements p then [] else leads_on rows (verdicts_in judgements) p
+
+-- the events that a walk which ends at marked ones finds for an accepted event, and none for another one
+pub record AreCovered (rows : List Row) (judgements : List Judgement) (prev : List ℕ) (verdict : Verdict) (found : List ℕ) : Type 0 where
+  pub none : is_accepted verdict ≡ false → found ≡ []
+  pub all : is_accepted verdict ≡ true → IsAllFrom (leads_further rows judgements) (is_in prev) (is_in found)
+
 -- ---- what one more row makes of it
 
 abbrev pub kept_row : Row → Judged → Kept
@@ -114,9 +141,10 @@ pub record IsHeld (rows : List Row) (states : List State) (judgements : List Jud
   pub below : AreBelow (length states) judgements
   pub below_current : current < length states
   pub known : AreKnown rows states
+  pub past : ArePast rows (verdicts_in judgements) extremities (is_marked judgements)
 
 -- an event was added under its verdict
-pub record IsAdded (rows : List Row) (states : List State) (judgements : List Judgement) (id : List ℕ) (e : Event) (rows' : List Row) (states' : List State) (judgements' : List Judgement) (extremities : List ℕ) (current : ℕ) : Type 0 where
+pub record IsAdded (rows : List Row) (states : List State) (judgements : List Judgement) (id : List ℕ) (e : Event) (rows' : List Row) (states' : List State) (judgements' : List Judgement) (extremities covered : List ℕ) (current : ℕ) : Type 0 where
   pub judgement : Judgement
   pub more : List State
   pub is_verdict : judgement.verdict ≡ verdict (kept_of rows (judged_in states judgements)) e
@@ -124,3 +152,4 @@ pub record IsAdded (rows : List Row) (states : List State) (judgements : List Ju
   pub are_states : states' ≡ states ++ more
   pub are_judgements : judgements' ≡ judgements ++ judgement ∷ []
   pub is_held : IsHeld rows' states' judgements' extremities current
+  pub past : ArePast rows' (verdicts_in judgements') extremities (λ p. is_marked judgements' p || is_in covered p)

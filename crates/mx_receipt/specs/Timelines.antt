@@ -1,10 +1,10 @@
 -- For proofs and private clauses alone.
 -- What the parts of a timeline are, for its type.
-use Rattle.std.specs.Prelude.{◌≡◌, ◌-◌, ◌++◌, ◌∷◌, ℕ, List, [], take, length, slice_get, Option, None, Some, option_to_list}
-use Rattle.mx_graph.specs.Record.{Row}
+use Rattle.std.specs.Prelude.{◌≡◌, ◌-◌, ◌||◌, ◌++◌, ◌∷◌, ℕ, List, [], take, length, slice_get, Option, None, Some, option_to_list}
+use Rattle.mx_graph.specs.Record.{Row, is_in}
 use Rattle.mx_orders.specs.StateMap.{State}
 use Rattle.mx_receipt.specs.Receipt.{Kept}
-use Rattle.mx_receipt.specs.Judgements.{Judged, judged_in, kept_of, IsHeld}
+use Rattle.mx_receipt.specs.Judgements.{Judged, judged_in, kept_of, verdicts_in, is_marked, ArePast, IsHeld}
 use Rattle.mx_receipt.specs.declared.snapshots.Judgement.{Judgement}
 use Rattle.mx_receipt.specs.declared.timelines.Prepared.{Prepared}
 
@@ -30,6 +30,7 @@ pub record IsPrepared (rows : List Row) (states : List State) (judgements : List
   pub are_judgements : judgements ≡ judged ++ judgement ∷ []
   pub before : IsHeld earlier earlier_states judged extremities current
   pub after : IsHeld rows states judgements prepared.extremities.items prepared.current
+  pub past : ArePast rows (verdicts_in judgements) prepared.extremities.items (λ p. is_marked judgements p || is_in prepared.covered.items p)
 
 abbrev pub IsTimeline : List Row → List State → List Judgement → List ℕ → ℕ → Option Prepared → Type 0
 IsTimeline rows states judgements extremities current None = IsHeld rows states judgements extremities current

@@ -1,5 +1,5 @@
 // The receipt of an event.
-ghost use Rattle.std.specs.Prelude.{◌≡◌, ◌<◌, ◌++◌, ◌∷◌, All, IfOk, None, OnErr, OnOk, [], ℕ, List, length};
+ghost use Rattle.std.specs.Prelude.{◌≡◌, ◌<◌, ◌++◌, ◌∷◌, All, IfOk, None, OnErr, OnOk, [], ℕ, List, false, length};
 ghost use Rattle.mx_graph.specs.Adding.{add_error};
 ghost use Rattle.mx_graph.specs.Edges.{Rises};
 ghost use Rattle.mx_graph.specs.Graph.{IsSound};
@@ -7,7 +7,7 @@ ghost use Rattle.mx_graph.specs.Record as record_of;
 ghost use Rattle.mx_orders.specs.StateMap.{State};
 ghost use Rattle.mx_state_res.specs.Resolution as resolution;
 ghost use Rattle.mx_state_res.specs.Numbered.{AreAdded, AreKnown, state_at};
-ghost use Rattle.mx_receipt.specs.Judgements.{AreAfter, AreBelow, AreSorted, IsAdded, IsHeld, IsJudged, afters, judged_by, judged_in, kept_of, verdicts_in};
+ghost use Rattle.mx_receipt.specs.Judgements.{AreAfter, AreBelow, AreCovered, ArePast, AreSorted, IsAdded, IsHeld, IsJudged, afters, is_marked, judged_by, judged_in, kept_of, verdicts_in};
 ghost use Rattle.mx_receipt.specs.Receipt as definition;
 ghost use Rattle.mx_receipt.specs.Resolutions.{AreRight};
 ghost use Rattle.mx_graph.specs.Record.{Row};
@@ -15,7 +15,7 @@ ghost use Rattle.mx_receipt.specs.TimelineView.{IsSoundCreate};
 ghost use Rattle.mx_receipt.specs.declared.snapshots.Judgement.{Judgement as Judged};
 
 use crate::citing::{Cited, cited_by};
-use crate::covering::next_extremities;
+use crate::covering::{NextExtremities, next_extremities};
 use crate::judging::judged;
 use crate::resolution_cache::ResolutionCache;
 use crate::snapshots::{Judgement, resolved_after, state_after};
@@ -62,7 +62,7 @@ fn state_before(
     Ok(before)
 }
 
-// The forward extremities after an event.
+// The forward extremities after an event, and the events that it covers.
 fn extremities_after(
     alloc: Global,
     graph: &Graph,
@@ -71,25 +71,32 @@ fn extremities_after(
     extremities: &[EventNo],
     number: EventNo,
     verdict: Verdict,
-) -> Result<Vec<EventNo>, AllocError>
+) -> Result<NextExtremities, AllocError>
     requires rows { length judgements.now ≡ length graph.now }
     requires prev { All (λ prev. prev < length graph.now) prev_events.now }
     requires rises { Rises extremities.now }
-    ensures { IfOk result (λ next.
-        AreAfter graph.now (verdicts_in judgements.now) prev_events.now extremities.now number verdict next.items) }
+    requires past { ArePast graph.now (verdicts_in judgements.now) extremities.now (is_marked judgements.now) }
+    ensures after { IfOk result (λ next. AreAfter graph.now (verdicts_in judgements.now) prev_events.now extremities.now number verdict
+        next.extremities.items) }
+    ensures covered { IfOk result (λ next. AreCovered graph.now judgements.now prev_events.now verdict next.covered.items) }
 {
     if verdict.is_accepted() {
-        next_extremities(alloc, graph, judgements, prev_events, extremities, number)
-    } else {
-        Vec::from_slice(alloc, extremities)
+        let next = next_extremities(alloc, graph, judgements, prev_events, extremities, number)?;
+        return Ok(next);
     }
+    let extremities = Vec::from_slice(alloc, extremities)?;
+    Ok(NextExtremities {
+        extremities,
+        covered: Vec::new(alloc),
+    })
 }
 
-// An event's judgement, and the forward extremities after it.
+// An event's judgement, the forward extremities after it, and the events that it covers.
 #[derive(Debug, Drop)]
 struct JudgedEvent {
     judgement: Judgement,
     extremities: Vec<EventNo>,
+    covered: Vec<EventNo>,
 }
 
 // Judges an event that cites these events, and finds the states before and after it and the forward extremities after
@@ -117,6 +124,9 @@ fn judged_event(
         → IsJudged graph.now (judged_in states.old judgements.now) extremities.now
         (record { id = id; event = event.now; rejected = definition.is_rejected judged.judgement.verdict })
         (judged_by states.new judged.judgement) judged.extremities.items) }
+    ensures unmarked { IfOk result (λ judged. judged.judgement.covered ≡ false) }
+    ensures covered { IfOk result (λ judged. AreCovered graph.now judgements.now (record_of.prev_events graph.now event.now)
+        judged.judgement.verdict judged.covered.items) }
     ensures below { IfOk result (λ judged. (judged.judgement.before < length states.new) × (judged.judgement.after < length states.new)) }
     ensures added { (rows : List Row) → length graph.now < length rows → AreAdded rows states.old states.new }
     ensures right { OnOk result (AreRight graph.now states.new resolutions.new) }
@@ -142,7 +152,7 @@ fn judged_event(
     )?;
     let number = next_number(graph);
     let after = state_after(states, before, event, number, verdict)?;
-    let extremities = extremities_after(
+    let next = extremities_after(
         alloc,
         graph,
         judgements,
@@ -156,8 +166,10 @@ fn judged_event(
             verdict,
             before,
             after,
+            covered: false,
         },
-        extremities,
+        extremities: next.extremities,
+        covered: next.covered,
     })
 }
 
@@ -192,6 +204,7 @@ fn add(
     ensures rows { OnOk result (graph.new ≡ graph.old ++ row ∷ []) }
     ensures judgements { OnOk result (judgements.new.items ≡ judgements.old.items ++ event.judgement ∷ []) }
     ensures extremities { IfOk result (λ prepared. prepared.extremities.items ≡ event.extremities.items) }
+    ensures covered { IfOk result (λ prepared. prepared.covered.items ≡ event.covered.items) }
     ensures current { IfOk result (λ prepared. state_at states.new prepared.current ≡ resolution.resolve graph.new
         (definition.states_at (afters (judged_in states.old judgements.new.items)) event.extremities.items)) }
     ensures below_current { IfOk result (λ prepared. prepared.current < length states.new) }
@@ -204,6 +217,7 @@ fn add(
     let JudgedEvent {
         judgement,
         extremities,
+        covered,
     } = event;
     judgements.reserve(1)?;
     graph_is_sound(graph);
@@ -213,6 +227,7 @@ fn add(
     match resolved_after(alloc, graph, states, resolutions, judgements, &extremities) {
         Ok(current) => Ok(Prepared {
             extremities,
+            covered,
             current,
             states: count,
         }),
@@ -258,7 +273,7 @@ pub(crate) fn prepare_in(
     ensures verdict { IfOk result (λ made. made.0
         ≡ definition.verdict (kept_of graph.old (judged_in states.old judgements.old.items)) event) }
     ensures added { IfOk result (λ made. IsAdded graph.old states.old judgements.old.items id event
-        graph.new states.new judgements.new.items made.1.extremities.items made.1.current) }
+        graph.new states.new judgements.new.items made.1.extremities.items made.1.covered.items made.1.current) }
     ensures count { IfOk result (λ made. made.1.states ≡ length states.old) }
     ensures right { OnOk result (AreRight graph.new states.new resolutions.new) }
     ensures err_rows { OnErr result (graph.new ≡ graph.old) }
@@ -331,8 +346,10 @@ pub(crate) fn begin_in(
             verdict: Verdict::Accepted,
             before,
             after,
+            covered: false,
         },
         extremities,
+        covered: Vec::new(alloc),
     };
     let row = GraphRow {
         id,

@@ -21,6 +21,8 @@ pub(crate) struct Judgement {
     pub verdict: Verdict,
     pub before: StateNo,
     pub after: StateNo,
+    // An accepted event leads to it, through events that were not accepted.
+    pub covered: bool,
 }
 
 /// The resolution of the states after some events.

@@ -13,6 +13,7 @@ ghost use Rattle.mx_receipt.specs.Timelines.{IsTimeline};
 ghost use Rattle.mx_receipt.specs.declared.refusals.NotReceived.{NotReceived as Cause};
 
 use crate::closures::{earlier_ancestors, earlier_auth_chain};
+use crate::covering::mark_covered;
 use crate::receiving::{begin_in, last_event, prepare_in, remove_last};
 use crate::redactions::below_count;
 use crate::refusals::{NotReceived, OfferError};
@@ -30,6 +31,8 @@ use std::marker::Model;
 #[derive(Debug, Drop)]
 pub(crate) struct Prepared {
     pub extremities: Vec<EventNo>,
+    // The events that it covers.
+    pub covered: Vec<EventNo>,
     pub current: StateNo,
     // How many states there were before it.
     pub states: usize,
@@ -353,6 +356,7 @@ impl Timeline {
         ensures { self.new ≡ record { kept = definition.installed self.old.kept self.old.prepared; prepared = None } }
     {
         if let Some(prepared) = self.prepared.take() {
+            mark_covered(&mut self.judgements, &prepared.covered);
             self.extremities = prepared.extremities;
             self.current = prepared.current;
         }

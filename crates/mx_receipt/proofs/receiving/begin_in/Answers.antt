@@ -1,11 +1,11 @@
-use Rattle.std.proofs.Common.{◌≡◌, ◌<◌, ◌++◌, ◌∷◌, ℕ, List, [], None, false, length, refl, sym, ap, subst, ◌∙◌, arith}
+use Rattle.std.proofs.Common.{◌≡◌, ◌<◌, ◌++◌, ◌∷◌, List, [], None, false, length, refl, sym, ap, subst, ◌∙◌}
 use Rattle.mx_graph.specs.Adding.{add_error}
 use Rattle.mx_graph.specs.Graph.{IsSound}
 use Rattle.mx_graph.specs.Record.{Row}
 use Rattle.mx_orders.specs.StateMap.{State, with_event}
-use Rattle.mx_state_res.specs.Numbered.{AreAdded, AreKnown, state_at}
+use Rattle.mx_state_res.specs.Numbered.{AreAdded, state_at}
 use Rattle.mx_state_res.specs.Resolution.{resolve}
-use Rattle.mx_receipt.specs.Judgements.{IsHeld, IsJudged, afters, judged_by, judged_in}
+use Rattle.mx_receipt.specs.Judgements.{IsHeld, IsJudged, afters, is_marked, judged_by, judged_in}
 use Rattle.mx_receipt.specs.Receipt.{states_at}
 use Rattle.mx_receipt.specs.declared.snapshots.Judgement.{Judgement}
 use Rattle.mx_receipt.specs.declared.verdicts.Verdict.TheVariants.{Accepted}
@@ -13,6 +13,7 @@ use Rattle.mx_receipt.proofs.BeginLemmas.{sound-free, held-empty, begin-judged}
 use Rattle.mx_receipt.proofs.HeldGrowth.{held-push}
 use Rattle.mx_receipt.proofs.HeldLemmas.{grown-length, grown-state, known-longer}
 use Rattle.mx_receipt.specs.Resolutions.{AreRight}
+use Rattle.mx_receipt.proofs.PastLemmas.{marked-push, none-past}
 use Rattle.mx_receipt.proofs.ResolutionLemmas.{right-grown}
 use Rattle.mx_receipt.proofs.receiving.begin_in.Goals as goal
 
@@ -28,7 +29,7 @@ add-requires-clause-right c =
 pub returns-clause-held : goal.returns-clause-held
 returns-clause-held c =
     let row : Row = record { id = c.args.id; event = c.args.event; rejected = false } in
-    let j : Judgement = record { verdict = Accepted; before = c.in_ok-before.before; after = c.in_ok-after.after } in
+    let j : Judgement = record { verdict = Accepted; before = c.in_ok-before.before; after = c.in_ok-after.after; covered = false } in
     let mid : List State = c.state_after.new.states in
     let rows : c.add.new.graph ≡ row ∷ [] = c.in_ok-prepared.ensures.rows ∙ ap (λ (rs : List Row). rs ++ row ∷ []) c.requires.rows in
     let judgements : c.add.new.judgements.items ≡ j ∷ [] = c.in_ok-prepared.ensures.judgements ∙ ap (λ (js : List Judgement). js ++ j ∷ []) c.requires.judgements in
@@ -50,7 +51,8 @@ returns-clause-held c =
     (subst IsSound c.requires.rows c.graph_is_sound.ensures) (subst IsSound rows c.graph_is_sound-2.ensures)
     c.add.new.states (subst (λ (rs : List Row). AreAdded (rs ++ row ∷ []) mid c.add.new.states) c.requires.rows c.in_ok-prepared.ensures.added)
     c.in_ok-prepared.prepared.current c.in_ok-prepared.ensures.below_current
-    (c.in_ok-prepared.ensures.current ∙ λ i. resolve (rows i) (states_at (afters (judged_in mid (judgements i))) (pushed i))) in
+    (c.in_ok-prepared.ensures.current ∙ λ i. resolve (rows i) (states_at (afters (judged_in mid (judgements i))) (pushed i)))
+    (none-past (row ∷ []) (Accepted ∷ []) (0 ∷ []) (is_marked (j ∷ [])) (marked-push [] j refl)) in
     subst (λ rs. IsHeld rs c.add.new.states c.add.new.judgements.items c.in_ok-prepared.prepared.extremities.items c.in_ok-prepared.prepared.current) (sym rows)
     (subst (λ (js : List Judgement). IsHeld (row ∷ []) c.add.new.states js c.in_ok-prepared.prepared.extremities.items c.in_ok-prepared.prepared.current) (sym judgements)
     (subst (λ es. IsHeld (row ∷ []) c.add.new.states (j ∷ []) es c.in_ok-prepared.prepared.current) (sym (c.in_ok-prepared.ensures.extremities ∙ pushed)) base))

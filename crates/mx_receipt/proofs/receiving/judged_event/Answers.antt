@@ -1,12 +1,12 @@
-use Rattle.std.proofs.Common.{◌≡◌, ◌<◌, List, length, refl, sym, ap, subst, ◌∙◌}
+use Rattle.std.proofs.Common.{◌≡◌, List, length, refl, sym, ap, subst, ◌∙◌}
 use Rattle.std.specs.Prelude.{if◌then◌else◌}
 use Rattle.mx_auth.specs.Rules.{rules}
 use Rattle.mx_graph.specs.Edges.{Rises}
 use Rattle.mx_graph.specs.Record.{is_in, events_where, prev_events}
-use Rattle.mx_orders.specs.StateMap.{State, with_event, view}
-use Rattle.mx_state_res.specs.Numbered.{AreAdded, state_at}
+use Rattle.mx_orders.specs.StateMap.{with_event, view}
+use Rattle.mx_state_res.specs.Numbered.{state_at}
 use Rattle.mx_state_res.specs.Resolution.{resolve}
-use Rattle.mx_receipt.specs.Judgements.{Judged, judged_in, kept_of, afters, verdicts_of, verdicts_in, AreAfter, Knows}
+use Rattle.mx_receipt.specs.Judgements.{Judged, judged_in, kept_of, afters, verdicts_in, AreAfter, AreCovered, Knows}
 use Rattle.mx_receipt.specs.Receipt.{states_at, state_before_next, is_rejected, accept_or, auth_failure}
 use Rattle.mx_receipt.specs.declared.verdicts.Verdict.TheVariants.{Accepted, SoftFailed, Rejected}
 use Rattle.mx_receipt.proofs.ExtremityLemmas.{extremities-rise}
@@ -52,17 +52,17 @@ returns-clause-judged c = λ id.
           c.in_ok-after.ensures.after ∙ (λ i. if is_rejected c.in_ok-verdict.verdict then sym stays i else with_event (sym stays i) c.args.event.now (c.next_number-number.ensures i));
       knows_before = subst (Knows c.args.graph.now) (sym stays) (known-state c.args.graph.now c.args.states.now c.state_before.new.states c.in_ok-before.before c.requires.held.known c.in_ok-before.ensures.added c.in_ok-before.ensures.below);
       are_next =
-          subst (λ vs. AreAfter c.args.graph.now vs (prev_events c.args.graph.now c.args.event.now) c.args.extremities.now (length c.args.graph.now) c.in_ok-verdict.verdict c.in_ok-extremities.extremities.items) (sym (same-verdicts c.args.states.now c.args.judgements.now))
-          (subst (λ n. AreAfter c.args.graph.now (verdicts_in c.args.judgements.now) (prev_events c.args.graph.now c.args.event.now) c.args.extremities.now n c.in_ok-verdict.verdict c.in_ok-extremities.extremities.items) c.next_number-number.ensures
-          (subst (λ xs. AreAfter c.args.graph.now (verdicts_in c.args.judgements.now) xs c.args.extremities.now c.next_number-number.result c.in_ok-verdict.verdict c.in_ok-extremities.extremities.items) prevs-3 c.in_ok-extremities.ensures));
+          subst (λ vs. AreAfter c.args.graph.now vs (prev_events c.args.graph.now c.args.event.now) c.args.extremities.now (length c.args.graph.now) c.in_ok-verdict.verdict c.in_ok-next.next.extremities.items) (sym (same-verdicts c.args.states.now c.args.judgements.now))
+          (subst (λ n. AreAfter c.args.graph.now (verdicts_in c.args.judgements.now) (prev_events c.args.graph.now c.args.event.now) c.args.extremities.now n c.in_ok-verdict.verdict c.in_ok-next.next.extremities.items) c.next_number-number.ensures
+          (subst (λ xs. AreAfter c.args.graph.now (verdicts_in c.args.judgements.now) xs c.args.extremities.now c.next_number-number.result c.in_ok-verdict.verdict c.in_ok-next.next.extremities.items) prevs-3 c.in_ok-next.ensures.after));
     }
 
 pub returns-in_err-after-clause-added : goal.returns-in_err-after-clause-added
 returns-in_err-after-clause-added c = λ rows l.
     event-added c.args.graph.now rows c.args.states.now c.state_before.new.states c.state_after.new.states c.next_number-number.result l c.requires.held.known c.state_before.ensures.added c.next_number-number.ensures c.state_after.ensures.added
 
-pub returns-in_err-extremities-clause-added : goal.returns-in_err-extremities-clause-added
-returns-in_err-extremities-clause-added c = λ rows l.
+pub returns-in_err-next-clause-added : goal.returns-in_err-next-clause-added
+returns-in_err-next-clause-added c = λ rows l.
     event-added c.args.graph.now rows c.args.states.now c.state_before.new.states c.state_after.new.states c.next_number-number.result l c.requires.held.known c.state_before.ensures.added c.next_number-number.ensures c.state_after.ensures.added
 
 pub returns-clause-added : goal.returns-clause-added
@@ -75,3 +75,7 @@ extremities_after-requires-clause-rises c = subst Rises (sym c.requires.held.is_
 pub returns-clause-right : goal.returns-clause-right
 returns-clause-right c =
     right-grown c.args.graph.now c.state_before.new.states c.in_ok-after.ensures.grown.0 c.state_after.new.states c.state_before.new.resolutions c.in_ok-after.ensures.grown.1 c.in_ok-before.ensures.right
+
+pub returns-clause-covered : goal.returns-clause-covered
+returns-clause-covered c =
+    subst (λ xs. AreCovered c.args.graph.now c.args.judgements.now xs c.in_ok-verdict.verdict c.in_ok-next.next.covered.items) (c.deref-3.ensures.value ∙ c.requires.prev) c.in_ok-next.ensures.covered

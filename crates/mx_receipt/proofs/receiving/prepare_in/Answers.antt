@@ -1,14 +1,17 @@
-use Rattle.std.proofs.Common.{◌≡◌, ◌++◌, ◌∷◌, [], ℕ, List, sym, ap, subst, ◌∙◌}
+use Rattle.std.proofs.Common.{◌≡◌, ◌<◌, ◌||◌, ◌++◌, ◌∷◌, [], List, length, sym, ap, subst, ◌∙◌}
+use Rattle.std.specs.List.{All}
 use Rattle.mx_graph.specs.Graph.{IsSound}
-use Rattle.mx_graph.specs.Record.{Row}
-use Rattle.mx_orders.specs.StateMap.{State}
+use Rattle.mx_graph.specs.Record.{Row, is_in, prev_events}
+use Rattle.mx_graph.proofs.Closure.{or_left}
 use Rattle.mx_state_res.specs.Numbered.{AreAdded}
 use Rattle.mx_state_res.specs.Resolution.{resolve}
-use Rattle.mx_receipt.specs.Judgements.{AreBelow, IsHeld, IsJudged, judged_by, judged_in, kept_of, afters}
+use Rattle.mx_receipt.specs.Judgements.{AreAfter, AreCovered, ArePast, IsHeld, IsJudged, is_marked, judged_by, judged_in, kept_of, afters, verdicts_in}
 use Rattle.mx_receipt.specs.Receipt.{states_at, verdict, is_rejected}
 use Rattle.mx_receipt.specs.declared.snapshots.Judgement.{Judgement}
 use Rattle.mx_receipt.proofs.HeldGrowth.{known-mid, numbers-mid, extremities-mid, held-push}
-use Rattle.mx_receipt.proofs.HeldLemmas.{added-twice, grown-by-event, one-longer}
+use Rattle.mx_receipt.proofs.HeldLemmas.{added-twice, grown-by-event, judged-length, one-longer, same-verdicts}
+use Rattle.mx_receipt.proofs.CoverLemmas.{in-all}
+use Rattle.mx_receipt.proofs.PastLemmas.{past-fewer, past-push}
 use Rattle.mx_receipt.proofs.SortedStateLemmas.{held-sorted, judged-sorted, sorted-push}
 use Rattle.mx_receipt.proofs.TimelineLemmas.{taken-free}
 use Rattle.mx_receipt.proofs.receiving.prepare_in.Goals as goal
@@ -66,6 +69,16 @@ returns-clause-added c =
     let more : AreAdded (c.args.graph.now ++ row ∷ []) c.args.states.now c.add.new.states =
     added-twice (c.args.graph.now ++ row ∷ []) c.args.states.now c.judged_event.new.states c.add.new.states
     (c.in_ok-judged.ensures.added (c.args.graph.now ++ row ∷ []) (one-longer c.args.graph.now row)) c.in_ok-prepared.ensures.added in
+    let js = c.args.judgements.now.items in
+    let verdicts : verdicts_in c.deref.result.now ≡ verdicts_in js = ap verdicts_in c.deref.ensures.value in
+    let past : ArePast (c.args.graph.now ++ row ∷ []) (verdicts_in (js ++ c.in_ok-judged.judged.judgement ∷ [])) c.in_ok-judged.judged.extremities.items (λ p. is_marked (js ++ c.in_ok-judged.judged.judgement ∷ []) p || is_in c.in_ok-judged.judged.covered.items p) =
+    past-push c.args.graph.now row js c.in_ok-judged.judged.judgement c.args.extremities.now c.in_ok-judged.judged.extremities.items
+    (c.requires.held.is_kept.count ∙ judged-length c.args.states.now js) c.graph_is_sound.ensures (subst IsSound rows c.graph_is_sound-2.ensures) c.requires.held.past c.in_ok-judged.ensures.unmarked
+    c.in_ok-judged.judged.judgement.verdict c.in_ok-judged.judged.covered.items
+    (subst (λ vs. AreAfter c.args.graph.now vs (prev_events c.args.graph.now c.args.event) c.args.extremities.now (length c.args.graph.now) c.in_ok-judged.judged.judgement.verdict c.in_ok-judged.judged.extremities.items)
+    (same-verdicts c.args.states.now c.deref.result.now ∙ verdicts) (c.in_ok-judged.ensures.judged c.args.id).are_next)
+    (subst (λ (is : List Judgement). AreCovered c.args.graph.now is (prev_events c.args.graph.now c.args.event) c.in_ok-judged.judged.judgement.verdict c.in_ok-judged.judged.covered.items) c.deref.ensures.value c.in_ok-judged.ensures.covered)
+    (λ p e. in-all (λ q. q < length c.args.graph.now) (prev_events c.args.graph.now c.args.event) p (subst (All (λ q. q < length c.args.graph.now)) c.in_ok-cited.ensures.prev c.in_ok-cited.ensures.known_prev) e) in
     let base : IsHeld (c.args.graph.now ++ row ∷ []) c.add.new.states (c.args.judgements.now.items ++ c.in_ok-judged.judged.judgement ∷ []) c.in_ok-judged.judged.extremities.items c.in_ok-prepared.prepared.current =
     held-push c.args.graph.now c.args.states.now c.args.judgements.now.items c.args.extremities.now c.args.current c.requires.held
     (record { id = c.args.id; event = c.args.event; rejected = c.is_rejected.result }) c.in_ok-judged.judged.judgement c.in_ok-judged.judged.extremities.items c.judged_event.new.states
@@ -75,7 +88,10 @@ returns-clause-added c =
     c.deref.ensures.value (c.in_ok-judged.ensures.judged c.args.id)))
     c.in_ok-judged.ensures.below c.in_ok-judged.ensures.added
     c.graph_is_sound.ensures (subst IsSound rows c.graph_is_sound-2.ensures) c.add.new.states c.in_ok-prepared.ensures.added c.in_ok-prepared.prepared.current c.in_ok-prepared.ensures.below_current
-    (c.in_ok-prepared.ensures.current ∙ λ i. resolve (rows i) (states_at (afters (judged_in c.judged_event.new.states (judgements i))) c.in_ok-judged.judged.extremities.items)) in
+    (c.in_ok-prepared.ensures.current ∙ λ i. resolve (rows i) (states_at (afters (judged_in c.judged_event.new.states (judgements i))) c.in_ok-judged.judged.extremities.items))
+    (past-fewer (c.args.graph.now ++ row ∷ []) (verdicts_in (c.args.judgements.now.items ++ c.in_ok-judged.judged.judgement ∷ [])) c.in_ok-judged.judged.extremities.items
+    (λ p. is_marked (c.args.judgements.now.items ++ c.in_ok-judged.judged.judgement ∷ []) p || is_in c.in_ok-judged.judged.covered.items p) (is_marked (c.args.judgements.now.items ++ c.in_ok-judged.judged.judgement ∷ []))
+    (λ p e. or_left (is_marked (c.args.judgements.now.items ++ c.in_ok-judged.judged.judgement ∷ []) p) (is_in c.in_ok-judged.judged.covered.items p) e) past) in
     record {
       judgement = c.in_ok-judged.judged.judgement;
       more = more.more;
@@ -87,6 +103,11 @@ returns-clause-added c =
           subst (λ rs. IsHeld rs c.add.new.states c.add.new.judgements.items c.in_ok-prepared.prepared.extremities.items c.in_ok-prepared.prepared.current) (sym rows)
           (subst (λ (js : List Judgement). IsHeld (c.args.graph.now ++ row ∷ []) c.add.new.states js c.in_ok-prepared.prepared.extremities.items c.in_ok-prepared.prepared.current) (sym judgements)
           (subst (λ es. IsHeld (c.args.graph.now ++ row ∷ []) c.add.new.states (c.args.judgements.now.items ++ c.in_ok-judged.judged.judgement ∷ []) es c.in_ok-prepared.prepared.current) (sym c.in_ok-prepared.ensures.extremities) base));
+      past =
+          subst (λ rs. ArePast rs (verdicts_in c.add.new.judgements.items) c.in_ok-prepared.prepared.extremities.items (λ p. is_marked c.add.new.judgements.items p || is_in c.in_ok-prepared.prepared.covered.items p)) (sym rows)
+          (subst (λ (is : List Judgement). ArePast (c.args.graph.now ++ row ∷ []) (verdicts_in is) c.in_ok-prepared.prepared.extremities.items (λ p. is_marked is p || is_in c.in_ok-prepared.prepared.covered.items p)) (sym judgements)
+          (subst (λ es. ArePast (c.args.graph.now ++ row ∷ []) (verdicts_in (js ++ c.in_ok-judged.judged.judgement ∷ [])) es (λ p. is_marked (js ++ c.in_ok-judged.judged.judgement ∷ []) p || is_in c.in_ok-prepared.prepared.covered.items p)) (sym c.in_ok-prepared.ensures.extremities)
+          (subst (λ cs. ArePast (c.args.graph.now ++ row ∷ []) (verdicts_in (js ++ c.in_ok-judged.judged.judgement ∷ [])) c.in_ok-judged.judged.extremities.items (λ p. is_marked (js ++ c.in_ok-judged.judged.judgement ∷ []) p || is_in cs p)) (sym c.in_ok-prepared.ensures.covered) past)));
     }
 
 pub returns-in_err-judged-clause-grown : goal.returns-in_err-judged-clause-grown
