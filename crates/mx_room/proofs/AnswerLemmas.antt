@@ -1,6 +1,6 @@
 -- What answers are, by what was found.
 use Rattle.std.proofs.Common.{◌≡◌, ℕ, zero, suc, ◌+◌, ◌<◌, ◌==◌, nat_le, nat_lt, Bool, true, false, cond, ◌&&◌, ◌||◌, not, List, [], ◌∷◌, ◌++◌, length, filter, filter_map, Option, None, Some, refl, sym, ap, subst, ◌∙◌, arith}
-use Rattle.std.specs.Prelude.{IsTrue, is_some, is_ok, min, take, if◌then◌else◌, Err}
+use Rattle.std.specs.Prelude.{IsTrue, is_some, is_none, is_ok, min, take, if◌then◌else◌, option_and_then, option_map, Err}
 use Rattle.std.specs.List.{list_any, range_with_len, cons_option}
 use Rattle.std.proofs.lemmas.Bool.{lt-ltb, le-leb, ne_eqb}
 use Rattle.std.proofs.lemmas.List.{length-map, map-id}
@@ -12,11 +12,12 @@ use Rattle.mx_graph.specs.Record.{Row, row, event, place_of, events_where, is_in
 use Rattle.mx_receipt.specs.Receipt.{Kept, rows_of, kept_at, is_rejected}
 use Rattle.mx_access.specs.Access.{in_room, visible, is_redacted, served, shown, is_shown_redacted}
 use Rattle.mx_access.specs.Acl.{acl_allows}
-use Rattle.mx_room.specs.Answers.{allowed_answer, backfill_answer, behind, is_marked, is_taken}
+use Rattle.mx_room.specs.Answers.{allowed_answer, asks_unheld, backfill_answer, behind, is_marked, is_taken}
 use Rattle.mx_orders.specs.Mainline.{sorted}
-use Rattle.mx_room.specs.Queries.{Answered, events_reply, query_answer, room_named, unless, held, backfill, missing_events, depth_falling, depth_rising}
+use Rattle.mx_room.specs.Queries.{Answered, event_shown, events_reply, given_or, query_answer, room_named, unless, held, backfill, missing_events, depth_falling, depth_rising}
 use Rattle.mx_room.specs.declared.queries.Query.{Query}
 use Rattle.mx_room.specs.declared.queries.Query.TheVariants as ask
+use Rattle.mx_room.specs.declared.queries.QueryReply.TheVariants as gives
 use Rattle.mx_room.specs.declared.queries.Denied.TheVariants.{AccessList, NotInRoom, NotFound}
 
 -- ---- what is shown redacted is shown
@@ -190,6 +191,20 @@ module _ (kept : List Kept) (origin : List ℕ) (now : ℕ) where
   answer-allowed (ask.Backfill room from limit) a m = sym (λ i. gated (a refl i) (m refl i) (allowed_answer kept origin (ask.Backfill room from limit)))
   answer-allowed (ask.Missing room earliest latest limit min_depth) a m =
       sym (λ i. gated (a refl i) (m refl i) (allowed_answer kept origin (ask.Missing room earliest latest limit min_depth)))
+
+  -- an event that is not held
+  pub answer-unheld : (q : Query) → asks_unheld kept q ≡ true → Err NotFound ≡ query_answer kept origin now q
+  unfolding query_answer event_shown
+  answer-unheld (ask.Event id) e = by (place_of (rows_of kept) id) e
+    where
+      by : (o : Option ℕ) → is_none o ≡ true → Err NotFound ≡ given_or NotFound (option_map gives.Event (option_and_then (shown kept origin) o))
+      by None e = refl
+      by (Some p) e = absurd (cc e)
+  answer-unheld (ask.State room id) e = absurd (cc e)
+  answer-unheld (ask.StateIds room id) e = absurd (cc e)
+  answer-unheld (ask.EventAuth room id) e = absurd (cc e)
+  answer-unheld (ask.Backfill room from limit) e = absurd (cc e)
+  answer-unheld (ask.Missing room earliest latest limit min_depth) e = absurd (cc e)
 
 -- ---- backfill
 

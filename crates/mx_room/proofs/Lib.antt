@@ -4,3 +4,4 @@ pub mod AnswerLemmas
 pub mod RoomOnExamples
 pub mod RoomRows
 pub mod QueryRows
+pub mod DeepestLemmas

@@ -1,8 +1,8 @@
 -- For proofs and private clauses alone.
 -- The answer to a query that the room answers to the server.
-use Rattle.std.specs.Prelude.{ℕ, ◌==◌, Bool, false, ◌&&◌, ◌||◌, not, nat_le, slice_index_or, List, [], ◌∷◌, length, option_map}
+use Rattle.std.specs.Prelude.{ℕ, ◌==◌, Bool, false, ◌&&◌, ◌||◌, not, nat_le, slice_index_or, List, [], ◌∷◌, length, is_none, option_map}
 use Rattle.mx_pdu.specs.Event.{depth_of}
-use Rattle.mx_graph.specs.Record.{Row, row, event, events_where, is_in}
+use Rattle.mx_graph.specs.Record.{Row, row, event, place_of, events_where, is_in}
 use Rattle.mx_graph.specs.Graph.{ancestors}
 use Rattle.mx_orders.specs.StateMap.{events_of}
 use Rattle.mx_receipt.specs.Receipt.{Kept, rows_of, state_before}
@@ -39,6 +39,11 @@ allowed_answer kept origin (ask.StateIds room id) = state_ids_answer kept id
 allowed_answer kept origin (ask.EventAuth room id) = event_auth_answer kept id
 allowed_answer kept origin (ask.Backfill room from limit) = backfill_answer kept origin from limit
 allowed_answer kept origin (ask.Missing room earliest latest limit min_depth) = missing_answer kept origin earliest latest limit min_depth
+
+-- it asks by its id alone for an event that the room does not hold
+abbrev pub asks_unheld : List Kept → Query → Bool
+asks_unheld kept (ask.Event id) = is_none (place_of (rows_of kept) id)
+asks_unheld kept _ = false
 
 -- ---- marks, one for each event of a record
 

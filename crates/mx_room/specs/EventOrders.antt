@@ -1,6 +1,6 @@
 -- For proofs and private clauses alone.
 -- What is read of an event once, before a sort.
-use Rattle.std.specs.Prelude.{◌≡◌, ◌<◌, List, length}
+use Rattle.std.specs.Prelude.{◌≡◌, ◌<◌, ℕ, nat_le, Bool, List, length}
 use Rattle.std.specs.declared.cmp.Ordering.{Ordering}
 use Rattle.std.specs.Ordering.{then_cmp, flip_args, on, nat_cmp}
 use Rattle.std.specs.Cmp.Lexicographic.{slice_cmp}
@@ -13,6 +13,10 @@ pub record IsListed (rows : List Row) (l : Listed) : Type 0 where
   pub below : l.number < length rows
   pub depth : l.depth ≡ depth_of (event rows l.number)
   pub id : l.id.now ≡ (row rows l.number).id
+
+-- it is at least so deep
+abbrev pub is_as_deep : List Row → ℕ → ℕ → Bool
+is_as_deep rows depth p = nat_le depth (depth_of (event rows p))
 
 abbrev pub listed_id_rising : Listed → Listed → Ordering
 listed_id_rising = on (λ l. l.id.now) (slice_cmp nat_cmp)

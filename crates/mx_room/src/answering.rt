@@ -16,7 +16,7 @@ use std::alloc::{AllocError, Global};
 /// The answer to a server's query, at a moment.
 ///
 /// The access control list is asked first, and then whether the server is in the room, but not for a query that names no
-/// room.
+/// room. Of such a query a look-up of its id comes first, and nothing more is asked where the room does not hold the event.
 pub(crate) fn answer_in(
     alloc: Global,
     timeline: &Timeline,
@@ -27,6 +27,9 @@ pub(crate) fn answer_in(
     ensures reply { IfOk result (λ reply. reply ≡ query_answer timeline.now.kept origin.now now query.now) }
     ensures memory { OnErr result (IsTrue (is_ok (query_answer timeline.now.kept origin.now now query.now))) }
 {
+    if asks_unheld(timeline, query) {
+        return Ok(Err(Denied::NotFound));
+    }
     let names_room = names_room(query);
     if names_room && !acl_allows(timeline, origin) {
         return Ok(Err(Denied::AccessList));
@@ -37,6 +40,16 @@ pub(crate) fn answer_in(
     }
     let answer = allowed_answer(alloc, timeline, &viewer, query)?;
     Ok(answer)
+}
+
+// Whether it is a query for an event by its id alone, which the room does not hold.
+fn asks_unheld(timeline: &Timeline, query: &Query) -> bool
+    ensures { result ≡ answers.asks_unheld timeline.now.kept query.now }
+{
+    match query {
+        Query::Event(id) => timeline.find(id).is_none(),
+        _ => false,
+    }
 }
 
 fn names_room(query: &Query) -> bool

@@ -1,8 +1,10 @@
 // Events of a room in an order.
-ghost use Rattle.std.specs.Prelude.{◌≡◌, ◌<◌, All, IfOk, length, map};
+ghost use Rattle.std.specs.Prelude.{◌≡◌, ◌<◌, All, IfOk, IsTrue, filter, length, map, take};
+ghost use Rattle.mx_graph.specs.Record.{event};
 ghost use Rattle.mx_orders.specs.Mainline.{sorted};
+ghost use Rattle.mx_pdu.specs.Event.{depth_of};
 ghost use Rattle.mx_receipt.specs.Receipt.{rows_of};
-ghost use Rattle.mx_room.specs.EventOrders.{IsListed, listed_depth_falling, listed_depth_rising, listed_id_rising};
+ghost use Rattle.mx_room.specs.EventOrders.{IsListed, is_as_deep, listed_depth_falling, listed_depth_rising, listed_id_rising};
 ghost use Rattle.mx_room.specs.Queries.{depth_falling, depth_rising, id_rising};
 
 use mx_graph::EventNo;
@@ -35,8 +37,8 @@ pub(crate) fn by_id(
     Ok(numbers)
 }
 
-/// Events by greater depth, then lesser id.
-pub(crate) fn deepest_first(
+// Events by greater depth, then lesser id.
+fn deepest_first(
     alloc: Global,
     timeline: &Timeline,
     events: &[EventNo],
@@ -49,6 +51,69 @@ pub(crate) fn deepest_first(
     listed.sort_by(|a, b| compare_falling(a, b))?;
     let numbers = numbers_of(alloc, &listed)?;
     Ok(numbers)
+}
+
+/// The first of these events by greater depth, then lesser id, at most so many.
+///
+/// The time is that of a look at each event, and of a sort of those that are as deep as any of the last ones.
+pub(crate) fn deepest(
+    alloc: Global,
+    timeline: &Timeline,
+    events: &[EventNo],
+    most: usize,
+) -> Result<Vec<EventNo>, AllocError>
+    requires { All (λ event. event < length timeline.now.kept) events.now }
+    ensures order { IfOk result (λ numbers. numbers.items ≡ take most (sorted (depth_falling (rows_of timeline.now.kept)) events.now)) }
+    ensures below { IfOk result (λ numbers. All (λ event. event < length timeline.now.kept) numbers.items) }
+{
+    if events.len() <= most {
+        let numbers = deepest_first(alloc, timeline, events)?;
+        return Ok(numbers);
+    }
+    let depth = least_depth(timeline, &events[events.len() - most..]);
+    let deep = as_deep(alloc, timeline, events, depth)?;
+    let mut numbers = deepest_first(alloc, timeline, &deep)?;
+    numbers.truncate(most);
+    Ok(numbers)
+}
+
+// A depth that each of these events has or exceeds.
+fn least_depth(timeline: &Timeline, events: &[EventNo]) -> u64
+    requires { All (λ event. event < length timeline.now.kept) events.now }
+    ensures { All (λ event. IsTrue (is_as_deep (rows_of timeline.now.kept) result event)) events.now }
+{
+    let mut least = u64::MAX;
+    for event in events {
+        least = least.min(depth_of_event(timeline, *event));
+    }
+    least
+}
+
+// Those of these events that are at least so deep, in their order.
+fn as_deep(
+    alloc: Global,
+    timeline: &Timeline,
+    events: &[EventNo],
+    depth: u64,
+) -> Result<Vec<EventNo>, AllocError>
+    requires { All (λ event. event < length timeline.now.kept) events.now }
+    ensures deep { IfOk result (λ deep. deep.items ≡ filter (is_as_deep (rows_of timeline.now.kept) depth) events.now) }
+    ensures below { IfOk result (λ deep. All (λ event. event < length timeline.now.kept) deep.items) }
+{
+    let mut deep = Vec::new(alloc);
+    for event in events {
+        if depth <= depth_of_event(timeline, *event) {
+            deep.push(*event)?;
+        }
+    }
+    Ok(deep)
+}
+
+fn depth_of_event(timeline: &Timeline, number: EventNo) -> u64
+    requires { number < length timeline.now.kept }
+    ensures { result ≡ depth_of (event (rows_of timeline.now.kept) number) }
+{
+    timeline.row(number).event.depth()
 }
 
 /// Events by lesser depth, then lesser id.

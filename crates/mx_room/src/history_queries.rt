@@ -7,7 +7,7 @@ ghost use Rattle.mx_room.specs.Answers as answers;
 ghost use Rattle.mx_room.specs.Queries as definition;
 
 use crate::event_marks::{EventMarks, taken};
-use crate::event_orders::{deepest_first, deepest_last};
+use crate::event_orders::{deepest, deepest_last};
 use crate::given_events::all_shown;
 use crate::queries::{Denied, QueryReply};
 use mx_access::Viewer;
@@ -83,8 +83,8 @@ fn backfill(
     marks.mark(&starts);
     marks.mark(&before);
     let found = taken(alloc, timeline, &marks, 0)?;
-    let mut events = deepest_first(alloc, timeline, &found)?;
-    events.truncate(limit.min(MOST_BACKFILLED) as usize);
+    let most = limit.min(MOST_BACKFILLED) as usize;
+    let events = deepest(alloc, timeline, &found, most)?;
     Ok(events)
 }
 
@@ -102,9 +102,9 @@ fn missing_events(
     ensures below { IfOk result (λ events. All (λ event. event < length timeline.now.kept) events.items) }
 {
     let found = behind(alloc, timeline, earliest, latest, min_depth)?;
-    let mut deepest = deepest_first(alloc, timeline, &found)?;
-    deepest.truncate(limit.min(MOST_MISSING) as usize);
-    let events = deepest_last(alloc, timeline, &deepest)?;
+    let most = limit.min(MOST_MISSING) as usize;
+    let deep = deepest(alloc, timeline, &found, most)?;
+    let events = deepest_last(alloc, timeline, &deep)?;
     Ok(events)
 }
 

@@ -4,10 +4,14 @@ use Rattle.mx_access.specs.Access.{in_room}
 use Rattle.mx_access.specs.ViewerView.{ViewerView}
 use Rattle.mx_room.specs.Answers.{allowed_answer}
 use Rattle.mx_room.specs.Queries.{Answered}
-use Rattle.mx_room.proofs.AnswerLemmas.{answer-allowed, answer-not_allowed, answer-not_in_room}
+use Rattle.mx_room.proofs.AnswerLemmas.{answer-allowed, answer-not_allowed, answer-not_in_room, answer-unheld}
 use Rattle.mx_room.proofs.RoomLemmas.{at-error}
 use Rattle.mx_room.proofs.answering.answer_in.Goals as goal
 use Rattle.mx_room.proofs.answering.answer_in.Goals.{else-names_room-via-then-names_room+else-not-acl_allows, else-names_room-via-else-names_room, else-names_room-2-via-then-names_room-2+else-not-is_in_room, else-names_room-2-via-else-names_room-2}
+
+pub returns-then-asks_unheld-clause-reply : goal.returns-then-asks_unheld-clause-reply
+returns-then-asks_unheld-clause-reply c =
+    answer-unheld c.args.timeline.now.kept c.args.origin.now c.args.now c.args.query.now (sym c.asks_unheld.ensures ∙ c.if-asks_unheld.true)
 
 pub returns-then-not-acl_allows-clause-reply : goal.returns-then-not-acl_allows-clause-reply
 returns-then-not-acl_allows-clause-reply c =

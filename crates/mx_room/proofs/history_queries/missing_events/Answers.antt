@@ -10,6 +10,6 @@ returns-clause-events c =
     let rows = rows_of c.args.timeline.now.kept in
     c.in_ok-events.ensures.order
     ∙ ap (sorted (depth_rising rows))
-    (c.deref-2.ensures.value ∙ c.truncate.ensures.items
-    ∙ λ i. take (c.min.ensures i) ((c.in_ok-deepest.ensures.order ∙ ap (sorted (depth_falling rows)) (c.deref.ensures.value ∙ c.in_ok-found.ensures.events)) i))
+    (c.deref-2.ensures.value ∙ c.in_ok-deep.ensures.order
+    ∙ λ i. take (c.min-most.ensures i) (sorted (depth_falling rows) ((c.deref.ensures.value ∙ c.in_ok-found.ensures.events) i)))
     ∙ missing-is c.args.timeline.now.kept c.args.earliest.now c.args.latest.now c.args.limit c.args.min_depth
