@@ -11,7 +11,6 @@ ghost use Rattle.mx_pdu.specs.declared.refusals.NotAnEvent.{NotAnEvent as Malfor
 use mx_canon::{NotCanonical, ReadError, read, text_of_canonical};
 use mx_ident::EventId;
 use mx_pdu::{NotAnEvent, Pdu, PduError};
-use mx_redact::{id_with_hash, reference_digest};
 use serde_json::Value;
 use std::alloc::{AllocError, Global};
 use thiserror::Error;
@@ -77,15 +76,12 @@ pub fn check_event(alloc: Global, bytes: &[u8]) -> Result<Checked, CheckError>
 {
     let value = read(alloc, bytes)?;
     let text = text_of_canonical(alloc, &value)?;
-    match Pdu::from_canonical(alloc, value, &text) {
-        Ok(pdu) => {
-            let id = id_with_hash(alloc, &reference_digest(pdu.as_map()))?;
-            Ok(Checked {
-                id,
-                hash_holds: pdu.hash_holds(),
-                text,
-            })
-        }
+    match Pdu::from_canonical_with_id(alloc, value, &text) {
+        Ok((pdu, id)) => Ok(Checked {
+            id,
+            hash_holds: pdu.hash_holds(),
+            text,
+        }),
         Err(PduError::Memory) => Err(CheckError::Memory),
         Err(PduError::NotAnEvent(cause)) => Err(CheckError::NotAnEvent(cause)),
     }

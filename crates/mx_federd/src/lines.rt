@@ -3,7 +3,7 @@ use crate::line_texts::{LineTexts, texts_in};
 use json::Scratch;
 use mx_ident::{IdError, ServerName};
 use mx_keeper::TransactionId;
-use mx_pdu::{Offered, Pdu, PduError, PresenceVerifier};
+use mx_pdu::{Offered, PduError, PresenceVerifier};
 use mx_redact::text_field;
 use mx_world::{CallError, Step, TransactionKey};
 use serde_json::{Map, Value};
@@ -186,11 +186,8 @@ fn offered_among(alloc: Global, events: Vec<Value>) -> Result<Vec<Offered>, Allo
 
 // The event as it is offered, if it is well formed.
 fn offered_of(alloc: Global, event: Value) -> Result<Option<Offered>, AllocError> {
-    match Pdu::from_value(alloc, event) {
-        Ok(pdu) => {
-            let offered = Offered::of(alloc, pdu, &PresenceVerifier)?;
-            Ok(Some(offered))
-        }
+    match Offered::from_value(alloc, event, &PresenceVerifier) {
+        Ok(offered) => Ok(Some(offered)),
         Err(PduError::Memory) => Err(AllocError),
         Err(PduError::NotAnEvent(_)) => Ok(None),
     }
