@@ -7,7 +7,7 @@ use Rattle.mx_pdu.specs.Event.{room_of}
 use Rattle.mx_keeper.specs.declared.rows.ShardRow.{ShardRow}
 use Rattle.mx_receipt.specs.Receipt.{Kept}
 use Rattle.mx_room.specs.Hosting.{host_error}
-use Rattle.mx_room.specs.Offer.{Offered, is_kept, offer_outcome, row_by}
+use Rattle.mx_room.specs.Offer.{Offered, as_kept, is_kept, offer_outcome, row_by}
 use Rattle.mx_room.specs.RoomView.{RoomView, IsHosted}
 use Rattle.mx_room.specs.declared.hosting.NotARoom.{NotARoom}
 use Rattle.mx_room.specs.declared.hosting.HostError.{HostError}
@@ -104,6 +104,12 @@ pub row_kept : (o : Offered) (x : Outcome) (k : Kept) → row_by o x ≡ Some k 
 row_kept o (outcome.Kept v) k e = refl
 row_kept o (outcome.Known v) k e = absurd (cc e)
 row_kept o (outcome.Refused r) k e = absurd (cc e)
+
+-- it has the id of the event
+pub row_id : (o : Offered) (x : Outcome) (k : Kept) → row_by o x ≡ Some k → k.id ≡ o.id
+row_id o (outcome.Kept v) k e = (let same : k ≡ record { id = o.id; event = as_kept o; verdict = v } = cc e in ap (λ (r : Kept). r.id) same)
+row_id o (outcome.Known v) k e = absurd (cc e)
+row_id o (outcome.Refused r) k e = absurd (cc e)
 
 some_row : (f : Kept → ShardRow) (v : Option Kept) (row : ShardRow) → Some row ≡ option_map f v → (k : Kept) × (v ≡ Some k) × (row ≡ f k)
 some_row f None row e = absurd (cc e)

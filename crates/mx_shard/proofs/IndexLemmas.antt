@@ -14,23 +14,26 @@ use Rattle.mx_keeper.specs.declared.rows.ShardRow.{ShardRow}
 use Rattle.mx_pdu.specs.Event.{room_of}
 use Rattle.mx_receipt.specs.Receipt.{Kept, begun, kept_at}
 use Rattle.mx_receipt.specs.declared.verdicts.Verdict.TheVariants.{Accepted}
-use Rattle.mx_room.specs.Offer.{Offered, row_by}
+use Rattle.mx_room.specs.Offer.{Offered, offer_outcome, row_by}
 use Rattle.mx_room.specs.RoomView.{RoomView}
 use Rattle.mx_shard.specs.LoneRoom.{Call, call_room, to_host, to_offer, answer, added, hosting, first_rows}
 use Rattle.mx_shard.specs.Told.{tells_kept}
 use Rattle.mx_shard.specs.Journal.{Entry, entry_of, record_of, journal_after, stored, IsLegal}
+use Rattle.mx_shard.specs.Holders.{IsHolderKept, IsHolding, holder_of, may_hold}
 use Rattle.mx_shard.specs.Inside.{no_room, room_at, rows_at, rows_in, with_prepared, with_kept, IsReady, IsNumbered, IsMoved, IsSameMap, IsSound, entry_in, journal_of, IsWithin, IsIndexed}
 use Rattle.mx_shard.specs.Changes.{IsAnswered, IsNewRoom, IsNewRow, row_for}
 use Rattle.mx_shard.specs.declared.answers.Answer.{Answer}
 use Rattle.mx_shard.specs.declared.answers.Answer.TheVariants.{Hosted, ToOffered}
+use Rattle.mx_shard.specs.declared.holders.Holder.{Holder}
 use Rattle.mx_shard.specs.declared.hosting.NewRoom.{NewRoom}
 use Rattle.mx_shard.specs.declared.offering.NewRow.{NewRow}
 use Rattle.mx_shard.specs.declared.journal_places.JournalPlace.{JournalPlace}
 use Rattle.mx_shard.proofs.JournalLaws.{record-after, record-after-other}
 use Rattle.mx_shard.proofs.LegalLaws.{legal-after, legal-start}
+use Rattle.mx_shard.proofs.HolderLemmas.{holding_set}
 use Rattle.mx_shard.proofs.Places.{IsFound}
 use Rattle.mx_shard.proofs.RoomLemmas.{text-eq, room_found, rows_found, id_found, rows_push, rows_set, numbers_push, numbers_set, numbers_same, no_number, moved_back}
-use Rattle.mx_shard.proofs.ChangeLemmas.{offer_answer, offer_added, row_kept}
+use Rattle.mx_shard.proofs.ChangeLemmas.{offer_answer, offer_added, row_id, row_kept}
 
 -- ---- rooms that grow
 
@@ -209,7 +212,7 @@ place_after caller rooms rooms' places places' after e f is = is ∙ (λ i. f i 
 
 -- ---- a room that is hosted
 
-abbrev first : Offered → Kept
+abbrev pub first : Offered → Kept
 first o = record { id = o.id; event = o.pdu; verdict = Accepted }
 
 module _ (before : List RoomView) (numbers : BTreeMap (List ℕ) ℕ) (places : List JournalPlace) (caller : ℕ) (o : Offered) (new : NewRoom)
@@ -341,13 +344,23 @@ module _ (before mid : List RoomView) (numbers : BTreeMap (List ℕ) ℕ) (place
       offer_adds
       (λ q. rows_set before new.number grown (room_of o.pdu) found (id_found before (room_of o.pdu) new.number found) q ∙ ap (λ ks. cond (bytes_eq (room_of o.pdu) q) (ks ++ made.kept ∷ []) (rows_in before q)) (sym own_rows))
 
+  grown_rooms : (after : List RoomView) → after ≡ set mid new.number (with_kept (room_at mid new.number) (room_at mid new.number).prepared) → after ≡ set before new.number grown
+  grown_rooms after is =
+      is ∙ ap (λ (r : RoomView). set mid new.number (with_kept r r.prepared)) prepared_at
+      ∙ ap (λ (rs : List RoomView). set rs new.number grown) made.rooms
+      ∙ set-set before new.number (with_prepared old (Some made.kept)) grown
+
+  -- the event is one of the room that may hold it
+  pub offer_holding : (after : List RoomView) (holders holders' : BTreeMap (List ℕ) Holder) → after ≡ set mid new.number (with_kept (room_at mid new.number) (room_at mid new.number).prepared) →
+      IsHolding holders before → IsHolderKept holders holders' → IsTrue (may_hold (holder_of holders' o.id) new.number) → IsHolding holders' after
+  offer_holding after holders holders' is holding kept held =
+      holding_set holders holders' before after new.number grown made.kept holding kept found.within (grown_rooms after is) refl
+      (subst (λ i. IsTrue (may_hold (holder_of holders' i) new.number)) (sym (row_id o (offer_outcome old.kept origin o) made.kept made.adds)) held)
+
   pub offer_after : (after : List RoomView) (places' : List JournalPlace) → after ≡ set mid new.number (with_kept (room_at mid new.number) (room_at mid new.number).prepared) →
       places' ≡ places ++ record { room = new.number; row = length (room_at mid new.number).kept; caller = caller } ∷ [] → IsAfter before after numbers places places' caller (room_of o.pdu) (to_offer origin o)
   offer_after after places' is more =
-      let rooms : after ≡ set before new.number grown =
-      is ∙ ap (λ (r : RoomView). set mid new.number (with_kept r r.prepared)) prepared_at
-      ∙ ap (λ (rs : List RoomView). set rs new.number grown) made.rooms
-      ∙ set-set before new.number (with_prepared old (Some made.kept)) grown in
+      let rooms : after ≡ set before new.number grown = grown_rooms after is in
       let ps : places' ≡ places ++ last_place ∷ [] = more ∙ ap (λ (r : RoomView). places ++ (let p : JournalPlace = record { room = new.number; row = length r.kept; caller = caller } in p) ∷ []) prepared_at in
       subst (λ rs. IsAfter before rs numbers places places' caller (room_of o.pdu) (to_offer origin o)) (sym rooms)
       (subst (λ qs. IsAfter before (set before new.number grown) numbers places qs caller (room_of o.pdu) (to_offer origin o)) (sym ps) offer_one)

@@ -2,5 +2,6 @@ pub mod JournalLaws
 pub mod LegalLaws
 mod Places
 mod RoomLemmas
+mod HolderLemmas
 mod ChangeLemmas
 mod IndexLemmas

@@ -5,3 +5,4 @@ pub mod Journal
 pub mod View
 pub mod Inside
 pub mod Changes
+pub mod Holders

@@ -3,10 +3,12 @@ ghost use Rattle.std.specs.Prelude.{◌≡◌, ◌<◌, ◌++◌, ◌∷◌, [],
 ghost use Rattle.mx_pdu.specs.Event.{room_of};
 ghost use Rattle.mx_shard.specs.LoneRoom.{to_host, answer};
 ghost use Rattle.mx_shard.specs.Told.{tells_hosted};
+ghost use Rattle.mx_shard.specs.Holders.{IsHolderKept, IsHolderMoved, holder_of, holder_with, holder_without};
 ghost use Rattle.mx_shard.specs.Inside.{IsNumbered, IsMoved, IsSameMap, rows_in};
 ghost use Rattle.mx_shard.specs.Changes.{IsHosting};
 
 use crate::answers::Answer;
+use crate::holders::{Holder, add_holder, remove_holder};
 use crate::journal_places::JournalPlace;
 use crate::storing::row_for;
 use mx_ident::{EventId, RoomId};
@@ -77,6 +79,7 @@ pub(crate) fn room_with<'a>(
 pub(crate) fn reserve_room(
     rooms: &mut Vec<Room>,
     numbers: &mut BTreeMap<RoomId, usize>,
+    holders: &mut BTreeMap<EventId, Holder>,
     journal: &mut Vec<JournalPlace>,
     new: NewRoom,
 ) -> Result<NewRoom, AllocError>
@@ -86,19 +89,34 @@ pub(crate) fn reserve_room(
     ensures spare { OnOk result ((vec_len rooms.new < vec_capacity rooms.new) × (vec_len journal.new < vec_capacity journal.new)) }
     ensures moved { OnOk result (IsMoved numbers.old numbers.new new.room.id (Some (length rooms.old.items))) }
     ensures err { OnErr result (IsSameMap numbers.old numbers.new) }
+    ensures held { OnOk result (IsHolderMoved holders.old holders.new new.id (Some (holder_with (holder_of holders.old new.id) (length rooms.old.items)))) }
+    ensures kept { OnErr result (IsHolderKept holders.old holders.new) }
 {
     let key = new.room.id().clone()?;
     rooms.reserve(1)?;
     journal.reserve(1)?;
-    numbers.insert(key, rooms.as_slice().len())?;
-    Ok(new)
+    let number = rooms.as_slice().len();
+    add_holder(holders, &new.id, number)?;
+    match numbers.insert(key, number) {
+        Ok(_) => Ok(new),
+        Err(_) => {
+            remove_holder(holders, &new.id);
+            Err(AllocError)
+        }
+    }
 }
 
 /// Gives up a room for which there is space. It takes no memory.
-pub(crate) fn remove_room(numbers: &mut BTreeMap<RoomId, usize>, new: NewRoom)
-    ensures { IsMoved numbers.old numbers.new new.room.id None }
+pub(crate) fn remove_room(
+    numbers: &mut BTreeMap<RoomId, usize>,
+    holders: &mut BTreeMap<EventId, Holder>,
+    new: NewRoom,
+)
+    ensures moved { IsMoved numbers.old numbers.new new.room.id None }
+    ensures holders { IsHolderMoved holders.old holders.new new.id (holder_without (holder_of holders.old new.id)) }
 {
     numbers.remove(new.room.id());
+    remove_holder(holders, &new.id);
 }
 
 /// Adds a room for which there is space, and its entry, and gives the answer. It takes no memory.

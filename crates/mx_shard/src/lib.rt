@@ -3,6 +3,7 @@
 
 mod answers;
 mod asking;
+mod holders;
 mod hosting;
 mod journal_places;
 mod offering;

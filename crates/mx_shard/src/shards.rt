@@ -11,11 +11,12 @@ ghost use Rattle.mx_shard.specs.Journal.{record_of, journal_after, stored, IsLeg
 
 use crate::answers::Answer;
 use crate::asking::answer_in;
+use crate::holders::Holder;
 use crate::hosting::{Hosting, add_room, hosting_in, remove_room, reserve_room};
 use crate::journal_places::JournalPlace;
 use crate::offering::{Offering, discard_in, install_in, offering_in};
 use crate::storing::{store, store_with_place};
-use mx_ident::{RoomId, ServerName};
+use mx_ident::{EventId, RoomId, ServerName};
 use mx_keeper::{CallError, Keeper, KeeperFault, Place, ShardRow};
 use mx_pdu::Offered;
 use mx_room::{Moment, Query, Room};
@@ -36,6 +37,8 @@ pub struct Shard<K: Keeper<Row = ShardRow>> {
     rooms: Vec<Room>,
     // Where among the rooms each id stands.
     numbers: BTreeMap<RoomId, usize>,
+    // Which of the rooms holds the event with each id.
+    holders: BTreeMap<EventId, Holder>,
     journal: Vec<JournalPlace>,
 }
 
@@ -43,6 +46,7 @@ impl<K: Keeper<Row = ShardRow>> Model for Shard<K> {
     ghost use Rattle.std.specs.Prelude.{◌≡◌, Some, false};
     ghost use Rattle.mx_shard.specs.View.{ShardView, shard_code};
     ghost use Rattle.mx_shard.specs.Journal.{stored};
+    ghost use Rattle.mx_shard.specs.Holders.{IsHolding};
     ghost use Rattle.mx_shard.specs.Inside.{journal_of, IsSound};
 
     ghost Value = { ShardView K };
@@ -54,7 +58,8 @@ impl<K: Keeper<Row = ShardRow>> Model for Shard<K> {
     ghost invariant = { λ shard.
         IsSound shard.place shard.rooms.items shard.numbers shard.journal.items
         × (shard.is_refused ≡ false → K.is_honest shard.keeper
-        → K.is_open shard.keeper × (K.rows shard.keeper ≡ Some (stored (journal_of shard.rooms.items shard.journal.items)))) };
+        → K.is_open shard.keeper × (K.rows shard.keeper ≡ Some (stored (journal_of shard.rooms.items shard.journal.items))))
+        × IsHolding shard.holders shard.rooms.items };
 }
 
 impl<K: Keeper<Row = ShardRow>> Shard<K> {
@@ -86,6 +91,7 @@ impl<K: Keeper<Row = ShardRow>> Shard<K> {
                     is_refused: false,
                     rooms: Vec::new(alloc),
                     numbers: BTreeMap::new(alloc),
+                    holders: BTreeMap::new(alloc),
                     journal: Vec::new(alloc),
                 })
             }
@@ -140,11 +146,17 @@ impl<K: Keeper<Row = ShardRow>> Shard<K> {
         match hosting_in(self.alloc, &self.rooms, &self.numbers, caller, offered)? {
             Hosting::Answered(answer) => Ok(answer),
             Hosting::Made(new) => {
-                let new = reserve_room(&mut self.rooms, &mut self.numbers, &mut self.journal, new)?;
+                let new = reserve_room(
+                    &mut self.rooms,
+                    &mut self.numbers,
+                    &mut self.holders,
+                    &mut self.journal,
+                    new,
+                )?;
                 match store(&mut self.keeper, &mut self.is_refused, &new.row) {
                     Ok(()) => Ok(add_room(&mut self.rooms, &mut self.journal, caller, new)),
                     Err(error) => {
-                        remove_room(&mut self.numbers, new);
+                        remove_room(&mut self.numbers, &mut self.holders, new);
                         Err(error)
                     }
                 }
@@ -199,7 +211,9 @@ impl<K: Keeper<Row = ShardRow>> Shard<K> {
                     &mut self.keeper,
                     &mut self.is_refused,
                     &mut self.journal,
-                    &new.row,
+                    &mut self.holders,
+                    &offered.id,
+                    &new,
                 ) {
                     Ok(()) => Ok(install_in(&mut self.rooms, &mut self.journal, caller, new)),
                     Err(error) => {
@@ -215,7 +229,8 @@ impl<K: Keeper<Row = ShardRow>> Shard<K> {
     /// shows.
     ///
     /// `Memory` where a room gives something and no memory is left for it: it stands in for no denial. `Storage` exactly
-    /// where an earlier call was refused so. The time of a query by an event's id alone is that of a look-up in each room.
+    /// where an earlier call was refused so. A query by an event's id alone is put only to the room that holds the event,
+    /// which one look-up finds.
     ///
     /// Source: the Matrix specification, Server-Server API, "Retrieving events" and "Backfilling and retrieving missing
     /// events".
@@ -229,7 +244,15 @@ impl<K: Keeper<Row = ShardRow>> Shard<K> {
         if self.is_refused {
             return Err(CallError::Storage);
         }
-        let answer = answer_in(self.alloc, &self.rooms, &self.numbers, origin, now, query)?;
+        let answer = answer_in(
+            self.alloc,
+            &self.rooms,
+            &self.numbers,
+            &self.holders,
+            origin,
+            now,
+            query,
+        )?;
         Ok(answer)
     }
 

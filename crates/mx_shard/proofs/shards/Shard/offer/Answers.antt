@@ -9,7 +9,8 @@ use Rattle.mx_shard.specs.Journal.{record_of, journal_after, stored}
 use Rattle.mx_shard.specs.Inside.{journal_of, room_at, with_kept, with_prepared}
 use Rattle.mx_shard.specs.View.{ShardView}
 use Rattle.mx_shard.proofs.ChangeLemmas.{prepared_of, offer_told, written_back}
-use Rattle.mx_shard.proofs.IndexLemmas.{sound_same, sound_after, journal_stays, journal_is_same, number_below, offer_kept, offer_reply, offer_stored, offer_after, discarded, place_kept, either_left}
+use Rattle.mx_shard.proofs.HolderLemmas.{holding_same}
+use Rattle.mx_shard.proofs.IndexLemmas.{sound_same, sound_after, journal_stays, journal_is_same, number_below, offer_kept, offer_reply, offer_stored, offer_after, offer_holding, discarded, place_kept, either_left}
 use Rattle.mx_shard.proofs.shards.Shard.offer.Goals as goal
 
 pub returns-in-Answered-clause-journal : goal.returns-in-Answered-clause-journal
@@ -95,6 +96,8 @@ invariant_of-self-in-Ok g c =
           let was = c.self.invariant.1 c.if-self.false (c.store_with_place.ensures.honest honest) in
           let now = c.in-Ok.ensures.ok honest in
           (now.0, now.1 ∙ offer_stored b.rooms.items mid b.numbers b.journal.items c.args.caller origin o new c.self.invariant.0.indexed made (g.K.Keeper.rows b.keeper) was.1 ∙ ap (λ js. Some (stored js)) (sym after.journal)),
+      offer_holding b.rooms.items mid b.numbers b.journal.items c.args.caller origin o new c.self.invariant.0.indexed made after_rooms b.holders c.store_with_place.new.holders installed c.self.invariant.2
+          c.store_with_place.ensures.kept c.in-Ok.ensures.held,
     )
 
 pub invariant_of-self-in-Err : goal.invariant_of-self-in-Err
@@ -121,6 +124,7 @@ invariant_of-self-in-Err g c =
           let was = c.self.invariant.1 c.if-self.false (c.store_with_place.ensures.honest honest) in
           let now = c.in-Err.ensures.err honest was.0 taken in
           (now.0, now.1 ∙ was.1 ∙ ap (λ js. Some (stored js)) (sym (journal_stays b.place b.rooms.items after_rooms b.numbers b.numbers b.journal.items c.store_with_place.new.journal.items c.self.invariant.0 same c.store_with_place.ensures.journal))),
+      holding_same b.holders c.store_with_place.new.holders b.rooms.items after_rooms c.self.invariant.2 c.store_with_place.ensures.kept same,
     )
 
 pub returns-in-Ok-clause-reply : goal.returns-in-Ok-clause-reply

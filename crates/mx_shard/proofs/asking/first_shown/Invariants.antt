@@ -2,7 +2,7 @@ use Rattle.std.proofs.Common.{◌≡◌, ℕ, ◌<◌, false, get_or}
 use Rattle.std.specs.Prelude.{is_ok}
 use Rattle.mx_room.specs.Queries.{query_answer}
 use Rattle.mx_room.specs.RoomView.{RoomView}
-use Rattle.mx_shard.proofs.asking.shown_in.Given as goal
+use Rattle.mx_shard.proofs.asking.first_shown.Given as goal
 
 -- the rooms so far give nothing
 abbrev pub invariant-loop-room : goal.invariant-loop-room
