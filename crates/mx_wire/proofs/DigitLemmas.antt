@@ -25,7 +25,6 @@ only_digits s d = grind (arith, nat_tests)
 parses : {E : Type 0} (s : List ℕ) (r : Result ℕ E) → ParsesUnsigned 64 10 s r → is_number s ≡ true → OkIff r ((0 < length s) × (decimal_value s < 2 ^ 64)) (decimal_value s)
 parses s r h d = parse_digits numerals 64 s r h (only_digits s d).1
 
-
 fits : {E : Type 0} (k n : ℕ) (r : Result ℕ E) → OkIff r ((0 < k) × (n < 2 ^ 64)) n → 0 < k → (x : ℕ) → r ≡ Ok x → x ≡ n
 fits k n (Ok y) h some x is = grind (arith, nat_tests)
 fits k n (Err e) h some x is = absurd (cc is)

@@ -41,10 +41,7 @@ pub fn natural_or(absent: u64, value: Option<&Value>) -> Option<u64>
 /// The event ids in an array, of which none may be another value; an absent array is empty.
 ///
 /// None where the value is no array of event ids. `AllocError` where it is one and no memory is left.
-pub fn ids_or_none(
-    alloc: Global,
-    value: Option<&Value>,
-) -> Result<Option<Vec<EventId>>, AllocError>
+pub fn ids_or_none(alloc: Global, value: Option<&Value>) -> Result<Option<Vec<EventId>>, AllocError>
     ensures { IfOk result (λ ids. option_map (λ ids. ids.items) ids
         ≡ definition.ids_or_none (option_map (λ value. view value.now) value.entry)) }
 {
