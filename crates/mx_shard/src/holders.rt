@@ -8,7 +8,7 @@ use std::alloc::AllocError;
 use std::collections::BTreeMap;
 
 /// Which rooms hold an event. `Room`: the room with this number, and no other. `Several`: it may be any of the rooms. An
-/// event's id is the hash of an event that names its room, so this is not to be met.
+/// event's id is the hash of an event that names its room, so that `Several` is not to be met.
 #[derive(Clone, Copy, Debug)]
 pub(crate) enum Holder {
     Room(usize),
