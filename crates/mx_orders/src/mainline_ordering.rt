@@ -35,8 +35,9 @@ struct Place<'g> {
 /// there of those that the event rests on: the one among its auth events, the one among that one's, and so on. The event
 /// itself does not count. Where none lies there the position is infinite.
 ///
-/// The position of each event is looked for once, and the mainline is followed only down to the last event that was
-/// looked for there. `AllocError` where no memory is left.
+/// The mainline is followed only as far as positions have to be compared: down to the last event that is looked for
+/// there, and not down to the oldest of the events' first power levels events, since the events that come to it tie.
+/// Where an event does not come to it, its exact position is looked for. `AllocError` where no memory is left.
 ///
 /// Source: the Matrix specification, Room Version 2, "State resolution", mainline ordering.
 pub fn mainline_order(

@@ -10,13 +10,13 @@ use crate::mainlines::power_levels_event;
 use mx_graph::{EventNo, Graph};
 use std::alloc::{AllocError, Global};
 
-// The place that all the oldest events have, whose own may not be known. It comes after each place in a mainline.
+// The place of all the oldest events, whose position is not looked for. It comes after each place in a mainline.
 const LAST_PLACE: u32 = u32::MAX;
 
-// Each event with a position that compares with the others' as those in the mainline do. The oldest events are those
-// that rest on the oldest of all the events' first power levels events, with none of the mainline in between: they have
-// one position, which lies after all that was followed, and stand at the last place. `None` where an event is no such
-// one and has no place above.
+// Each event with a position that compares with the others' as those in the mainline do: that in the mainline, or the
+// last place for the oldest events. These come to the oldest of all the events' first power levels events, with none of
+// the mainline before it, so that they have one position, which is infinite or after each place that was looked for.
+// `None` where an event has neither.
 pub(crate) fn tied_positions(
     alloc: Global,
     graph: &Graph,
@@ -61,8 +61,7 @@ fn oldest_power_levels_event(graph: &Graph, events: &[EventNo]) -> Option<EventN
 }
 
 // The place in the mainline of the first power levels event that lies there of those that an event rests on, as far as
-// these come after `oldest`; the last place of all where they come to `oldest` with none found. `None` where they do
-// not come to it.
+// they come after `oldest`. Where none does, the last place if they come to `oldest`, and otherwise `None`.
 fn place_of(
     walk: &mut MainlineWalk,
     graph: &Graph,
