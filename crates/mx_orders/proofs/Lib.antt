@@ -7,6 +7,7 @@ pub mod StateLemmas
 pub mod MainlineLemmas
 pub mod CountLemmas
 pub mod PlaceLemmas
+pub mod TieLemmas
 pub mod CandidateLemmas
 pub mod Taken
 pub mod WaitingLemmas

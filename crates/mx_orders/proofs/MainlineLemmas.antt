@@ -1,9 +1,11 @@
 -- The power levels events that an event rests on, step by step.
-use Rattle.std.proofs.Common.{◌≡◌, ℕ, zero, suc, ◌+◌, ◌==◌, ◌≤◌, ◌<◌, ◌||◌, Bool, true, false, cond, List, [], ◌∷◌, ◌++◌, length, refl, sym, ap, ◌∙◌, arith, eq-eqb, append_assoc}
+use Rattle.std.proofs.Common.{◌≡◌, ℕ, zero, suc, ◌+◌, ◌==◌, ◌≤◌, ◌<◌, ◌||◌, ◌⊎◌, inl, inr, Bool, true, false, cond, List, [], ◌∷◌, ◌++◌, length, slice_index, refl, sym, ap, ◌∙◌, arith, eq-eqb, eqb-true, append_assoc}
 use Rattle.std.proofs.lemmas.List.{append-nil, length-append}
 use Rattle.std.specs.Prelude.{find as first_where, position, Option, Some, None, option_and_then, is_some, IfSome}
 use Rattle.std.specs.List.{list_any, position_from}
 use Rattle.std.proofs.lemmas.Iterator.Adapters.{position_from-zero}
+use Rattle.std.proofs.lemmas.Bool.{cases_lt}
+use Rattle.std.proofs.lemmas.List.Quantifiers.{position-Some}
 use Rattle.mx_graph.specs.Record.{Row, event, auth_events, is_in}
 use Rattle.mx_graph.specs.Graph.{IsSound}
 use Rattle.mx_graph.proofs.Closure.{or_left, or_right}
@@ -11,6 +13,7 @@ use Rattle.mx_graph.proofs.RemovalLemmas.{lt-neq}
 use Rattle.mx_orders.specs.Lists.{left}
 use Rattle.mx_orders.specs.StateMap.{auth_event_at}
 use Rattle.mx_orders.specs.Mainline.{power_key, power_levels_within, power_levels_of, mainline, mainline_position}
+use Rattle.mx_orders.specs.Ties.{position_on}
 
 first-member : (test : ℕ → Bool) (xs : List ℕ) (q : ℕ) → first_where test xs ≡ Some q → is_in xs q ≡ true
 first-member test [] q e = absurd (cc e)
@@ -109,6 +112,10 @@ module _ (rows : List Row) (sound : IsSound rows) where
       first-step line p q e
       ∙ ap (λ b. option_and_then (place line) (cond b (Some q) (first_where (is_in line) (power_levels_of rows q)))) (any-position (λ x. x == q) line ∙ ap is_some k)
 
+  pub position_on-is : (line : List ℕ) (p q : ℕ) → power_at p ≡ Some q → mainline_position rows line p ≡ position_on rows line q
+  unfolding position_on
+  position_on-is line p q e = first-step line p q e
+
   -- ---- a mainline that was followed in part
 
   none-within : (n p q k : ℕ) → p ≤ q → position_from (λ x. x == q) k (power_levels_within rows n p) ≡ None
@@ -126,6 +133,29 @@ module _ (rows : List Row) (sound : IsSound rows) where
   none-mainline None q k h = refl
   none-mainline (Some p) q k h =
       ap (λ b. cond b (Some k) (position_from (λ x. x == q) (k + 1) (power_levels_of rows p))) (lt-neq p q h) ∙ none-within (length rows) p q (k + 1) (omega (arith, h))
+
+  none-here : (xs : List ℕ) (q : ℕ) → position_from (λ x. x == q) 0 xs ≡ None → is_in xs q ≡ false
+  none-here xs q e = any-from (λ x. x == q) 0 xs ∙ ap is_some e
+
+  -- what an event rests on is not above it
+  rests-under : (q r : ℕ) → is_in (q ∷ power_levels_of rows q) r ≡ true → r ≤ q
+  rests-under q r h = by (cases_lt q r)
+    where
+      by : (q < r) ⊎ (r ≤ q) → r ≤ q
+      by (inl l) = absurd (cc (sym (none-here (q ∷ power_levels_of rows q) r (ap (λ b. cond b (Some 0) (position_from (λ x. x == r) 1 (power_levels_of rows q))) (lt-neq q r l) ∙ none-within (length rows) q r 1 (omega (arith, l)))) ∙ h))
+      by (inr l) = l
+
+  -- the position of those that rest on an event first is a place of an event that is not above it
+  pub position_on-under : (line : List ℕ) (q m : ℕ) → position_on rows line q ≡ Some m → slice_index line m ≤ q
+  unfolding position_on
+  position_on-under line q m e = by (first_where (is_in line) (q ∷ power_levels_of rows q)) refl e
+    where
+      by : (o : Option ℕ) → first_where (is_in line) (q ∷ power_levels_of rows q) ≡ o → option_and_then (place line) o ≡ Some m → slice_index line m ≤ q
+      by None k j = absurd (cc j)
+      by (Some r) k j =
+          let here : slice_index line m ≡ r = eqb-true _ _ (position-Some (λ x. x == r) line m 0 j).1 in
+          let under : r ≤ q = rests-under q r (first-member (is_in line) (q ∷ power_levels_of rows q) r k) in
+          omega (arith, here, under)
 
   -- an event above what comes next has its place in what was followed
   pub place-followed : (line : List ℕ) (next : Option ℕ) (q : ℕ) → IfSome next (λ p. p < q) → position (λ x. x == q) line ≡ position (λ x. x == q) (line ++ mainline rows next)

@@ -4,6 +4,7 @@ pub mod PowerOrder
 pub mod Mainline
 pub mod MainlineWalk
 pub mod Places
+pub mod Ties
 pub mod Candidates
 pub mod Waiting
 pub mod Ranks

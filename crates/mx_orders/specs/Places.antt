@@ -3,6 +3,7 @@ use Rattle.std.specs.Prelude.{◌≡◌, ◌<◌, ℕ, List, length, Option}
 use Rattle.std.specs.declared.cmp.Ordering.{Ordering}
 use Rattle.std.specs.Ordering.{then_cmp, on, nat_cmp, int_cmp}
 use Rattle.std.specs.Cmp.Lexicographic.{slice_cmp}
+use Rattle.std.specs.List.{All}
 use Rattle.mx_pdu.specs.Event.{timestamp_of}
 use Rattle.mx_graph.specs.Record.{Row, row, event}
 use Rattle.mx_orders.specs.Mainline.{mainline_position, position_cmp}
@@ -26,11 +27,10 @@ pub record IsRead (rows : List Row) (p : Place) : Type 0 where
   pub timestamp : p.timestamp ≡ timestamp_of (event rows p.number)
   pub id : p.id.now ≡ (row rows p.number).id
 
--- the place is that of its event
-pub record IsPlace (rows : List Row) (line : List ℕ) (p : Place) : Type 0 where
-  pub position : p.position ≡ mainline_position rows line p.number
-  pub timestamp : p.timestamp ≡ timestamp_of (event rows p.number)
-  pub id : p.id.now ≡ (row rows p.number).id
+-- the positions of these events compare as those in the mainline do
+abbrev pub CompareAlike : List Row → List ℕ → List (ℕ × Option ℕ) → Type 0
+CompareAlike rows line xs =
+    All (λ x. All (λ y. position_cmp x.1 y.1 ≡ position_cmp (mainline_position rows line x.0) (mainline_position rows line y.0)) xs) xs
 
 abbrev pub place_cmp : Place → Place → Ordering
 place_cmp = then_cmp (on (λ p. p.position) position_cmp) (then_cmp (on (λ p. p.timestamp) int_cmp) (on (λ p. p.id.now) (slice_cmp nat_cmp)))

@@ -14,6 +14,7 @@ mod plain_ordering;
 mod power_ordering;
 mod ranking;
 mod readiness;
+mod tied_positions;
 
 pub use mainline_ordering::mainline_order;
 pub use power_ordering::power_order;

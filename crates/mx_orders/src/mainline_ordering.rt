@@ -1,9 +1,11 @@
 // Mainline ordering.
 ghost use Rattle.std.specs.Prelude.{◌≡◌, ◌<◌, ℕ, All, IfOk, List, length, map};
 ghost use Rattle.mx_orders.specs.Mainline as definition;
-ghost use Rattle.mx_orders.specs.Places.{IsPositioned, IsRead, event_position, place_cmp, place_position};
+ghost use Rattle.mx_orders.specs.MainlineWalk.{IsWalk, whole};
+ghost use Rattle.mx_orders.specs.Places.{CompareAlike, IsPositioned, IsRead, event_position, place_cmp, place_position};
 
 use crate::mainline_walks::MainlineWalk;
+use crate::tied_positions::tied_positions;
 use mx_graph::{EventNo, Graph, graph_is_sound};
 use mx_ident::EventId;
 use std::alloc::{AllocError, Global};
@@ -33,8 +35,9 @@ struct Place<'g> {
 /// there of those that the event rests on: the one among its auth events, the one among that one's, and so on. The event
 /// itself does not count. Where none lies there the position is infinite.
 ///
-/// The position of each event is looked for once, and the mainline is followed only down to the last event that was
-/// looked for there. `AllocError` where no memory is left.
+/// The mainline is followed only as far as positions have to be compared: down to the last event that is looked for
+/// there, and not down to the oldest of the events' first power levels events, since the events that come to it tie.
+/// Where an event does not come to it, its exact position is looked for. `AllocError` where no memory is left.
 ///
 /// Source: the Matrix specification, Room Version 2, "State resolution", mainline ordering.
 pub fn mainline_order(
@@ -52,6 +55,7 @@ pub fn mainline_order(
     Ok(order)
 }
 
+// Each event with a position, which compares with the others' as their positions in the mainline do.
 fn positions_of(
     alloc: Global,
     graph: &Graph,
@@ -60,10 +64,31 @@ fn positions_of(
 ) -> Result<Vec<Positioned>, AllocError>
     requires { All (λ event. event < length graph.now) events.now }
     ensures numbers { IfOk result (λ positions. map (λ positioned. positioned.number) positions.items ≡ events.now) }
-    ensures positioned { IfOk result (λ positions.
-        All (IsPositioned graph.now (definition.mainline graph.now power)) positions.items) }
+    ensures alike { IfOk result (λ positions.
+        CompareAlike graph.now (definition.mainline graph.now power) (map event_position positions.items)) }
 {
     let mut walk = MainlineWalk::new(alloc, power);
+    let tied = tied_positions(alloc, graph, &mut walk, events)?;
+    if let Some(positions) = tied {
+        return Ok(positions);
+    }
+    let positions = exact_positions(alloc, graph, &mut walk, events)?;
+    Ok(positions)
+}
+
+// Each event with its position in the mainline.
+fn exact_positions(
+    alloc: Global,
+    graph: &Graph,
+    walk: &mut MainlineWalk,
+    events: &[EventNo],
+) -> Result<Vec<Positioned>, AllocError>
+    requires walk { IsWalk walk.old }
+    requires known { All (λ event. event < length graph.now) events.now }
+    ensures numbers { IfOk result (λ positions. map (λ positioned. positioned.number) positions.items ≡ events.now) }
+    ensures positioned { IfOk result (λ positions.
+        All (IsPositioned graph.now (whole graph.now walk.old)) positions.items) }
+{
     let mut positions = Vec::with_capacity(alloc, events.len())?;
     for event in events {
         let position = walk.position(graph, *event)?;
@@ -82,8 +107,8 @@ pub(crate) fn in_order(
     positions: &[Positioned],
 ) -> Result<Vec<EventNo>, AllocError>
     requires { All (λ positioned. positioned.number < length graph.now) positions.now }
-    ensures { IfOk result (λ order. (line : List ℕ) → All (IsPositioned graph.now line) positions.now → order.items
-        ≡ definition.mainline_order graph.now line (map (λ positioned. positioned.number) positions.now)) }
+    ensures { IfOk result (λ order. (line : List ℕ) → CompareAlike graph.now line (map event_position positions.now)
+        → order.items ≡ definition.mainline_order graph.now line (map (λ positioned. positioned.number) positions.now)) }
 {
     // Each id is there once, so that no two events tie.
     graph_is_sound(graph);

@@ -54,7 +54,7 @@ impl MainlineWalk {
     }
 
     // Follows the mainline as far as there are events with this number or a greater one.
-    fn follow(&mut self, graph: &Graph, least: EventNo) -> Result<(), AllocError>
+    pub(crate) fn follow(&mut self, graph: &Graph, least: EventNo) -> Result<(), AllocError>
         requires { IsWalk self.old }
         ensures walk { OnOk result (IsWalk self.new) }
         ensures whole { OnOk result (whole graph.now self.new ≡ whole graph.now self.old) }
@@ -71,7 +71,7 @@ impl MainlineWalk {
     }
 
     // The place of an event in the mainline, which was followed down to it.
-    fn place_so_far(&self, graph: &Graph, event: EventNo) -> Option<u32>
+    pub(crate) fn place_so_far(&self, graph: &Graph, event: EventNo) -> Option<u32>
         requires walk { IsWalk self.now }
         requires followed { IfSome self.now.next (λ next. next < event) }
         ensures { result ≡ position (λ other. other == event) (whole graph.now self.now) }

@@ -105,6 +105,11 @@ fn larger_graph(alloc: Global) -> Option<Graph> {
             ("$e14", rules, "", 53, "[\"$c\",\"$e7\",\"$e10\"]", "{}"),
             ("$e15", rules, "", 50, "[\"$c\",\"$e11\",\"$e14\"]", "{}"),
             ("$e16", power, "", 52, "[\"$c\",\"$e8\",\"$e12\"]", LEVELS),
+            ("$e17", rules, "", 51, "[\"$c\",\"$e12\"]", "{}"),
+            ("$e18", rules, "", 50, "[\"$c\",\"$e16\"]", "{}"),
+            ("$e19", power, "", 53, "[\"$c\"]", LEVELS),
+            ("$e20", rules, "", 52, "[\"$c\",\"$e19\"]", "{}"),
+            ("$e21", rules, "", 50, "[\"$c\",\"$e4\"]", "{}"),
         ],
     )
 }
@@ -181,17 +186,47 @@ fn positions_before_times(rt: HostRuntime) -> Result<(), Fail> {
 }
 
 #[test]
+fn oldest_events_first(rt: HostRuntime) -> Result<(), Fail> {
+    let alloc = rt.alloc();
+    let graph = larger_graph(alloc).ok_or("no memory")?;
+    // In the mainline of $e16 both $e21 and $e8 rest on $e4. $e20 rests on $e19, which is in no other's mainline.
+    let power = numbers(alloc, &graph, &["$e16"]).ok_or("no memory")?;
+    for (events, order) in [
+        (
+            ["$e18", "$e17", "$e8", "$e16", "$e21"],
+            ["$e21", "$e8", "$e17", "$e16", "$e18"],
+        ),
+        (
+            ["$e18", "$e17", "$e8", "$e20", "$e21"],
+            ["$e20", "$e21", "$e8", "$e17", "$e18"],
+        ),
+    ] {
+        let events = numbers(alloc, &graph, &events).ok_or("no memory")?;
+        let order = numbers(alloc, &graph, &order).ok_or("no memory")?;
+        assert_eq!(rt;
+            mainline_order(alloc, &graph, power.first().copied(), &events)?,
+            order
+        );
+    }
+    Ok(())
+}
+
+#[test]
 fn one_mainline_order_by_both_bodies(rt: HostRuntime) -> Result<(), Fail> {
     let alloc = rt.alloc();
     let graph = larger_graph(alloc).ok_or("no memory")?;
     let powers = ["$e16", "$e12", "$e8", "$e4", "$e1"];
     let powers = numbers(alloc, &graph, &powers).ok_or("no memory")?;
-    for events in [
-        ["$e16", "$e12", "$e9", "$e8", "$e4", "$e3"],
-        ["$e9", "$e13", "$c", "$e12", "$e15", "$e5"],
-        ["$e12", "$e16", "$e9", "$e2", "$e8", "$e14"],
-    ] {
-        let events = numbers(alloc, &graph, &events).ok_or("no memory")?;
+    let cases: [&[&str]; 6] = [
+        &["$e16", "$e12", "$e9", "$e8", "$e4", "$e3"],
+        &["$e9", "$e13", "$c", "$e12", "$e15", "$e5"],
+        &["$e12", "$e16", "$e9", "$e2", "$e8", "$e14"],
+        &["$e9", "$e18", "$e21", "$e12", "$e8", "$e17"],
+        &["$e17", "$e9", "$e20", "$e21", "$e16", "$e8"],
+        &["$e18", "$e17"],
+    ];
+    for events in cases {
+        let events = numbers(alloc, &graph, events).ok_or("no memory")?;
         for power in powers.iter().map(|power| Some(*power)).chain([None]) {
             let order = mainline_order(alloc, &graph, power, &events)?;
             assert_eq!(rt; order, plain_mainline_order(alloc, &graph, power, &events)?);
