@@ -1,4 +1,3 @@
--- For proofs and private clauses alone.
 -- What a server asks for that lacks events, as the definitions'.
 use Rattle.mx_wire.specs.declared.missing_bodies.MissingEvents.{MissingEvents}
 use Rattle.mx_wire.specs.Requests.{MissingBody}

@@ -11,7 +11,8 @@ use std::alloc::{AllocError, Global};
 
 /// The value that a body is JSON for.
 ///
-/// `NotJson` where it is not UTF-8, or no JSON, or nested deeper than 127; `Memory`.
+/// `NotJson` where it is not UTF-8, or no JSON, or nested deeper than 127; `Memory`. Source: the Matrix specification,
+/// Server-Server API, "API standards", and RFC 8259.
 pub fn body_value(alloc: Global, body: &[u8]) -> Result<Value, Fault>
     ensures ok { IfOk result (λ value. definition.body_value body.now ≡ Ok (view value)) }
     ensures err { IfErr result (λ fault. (fault ≡ Fault.Memory) ⊎ (definition.body_value body.now ≡ Err fault)) }
@@ -28,7 +29,8 @@ pub fn body_value(alloc: Global, body: &[u8]) -> Result<Value, Fault>
     }
 }
 
-/// The integer, from 0, that a value is, or what stands for an absent one; none where it is another value.
+/// The integer, from 0, that a value is, or what stands for an absent one; none where it is another value. It takes no
+/// memory. Source: the Matrix specification, Server-Server API, the bodies of requests.
 pub fn natural_or(absent: u64, value: Option<&Value>) -> Option<u64>
     ensures { result ≡ definition.natural_or absent (option_map (λ value. view value.now) value.entry) }
 {
@@ -40,7 +42,8 @@ pub fn natural_or(absent: u64, value: Option<&Value>) -> Option<u64>
 
 /// The event ids in an array, of which none may be another value; an absent array is empty.
 ///
-/// None where the value is no array of event ids. `AllocError` where it is one and no memory is left.
+/// None where the value is no array of event ids. `AllocError` where no memory is left for an id that comes before any
+/// other value in the array. Source: the Matrix specification, Server-Server API, the bodies of requests.
 pub fn ids_or_none(alloc: Global, value: Option<&Value>) -> Result<Option<Vec<EventId>>, AllocError>
     ensures { IfOk result (λ ids. option_map (λ ids. ids.items) ids
         ≡ definition.ids_or_none (option_map (λ value. view value.now) value.entry)) }

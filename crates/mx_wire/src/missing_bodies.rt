@@ -26,9 +26,9 @@ pub struct MissingEvents {
 
 /// What an object asks for; none where a value of it is of a wrong kind.
 ///
-/// An absent list is empty, an absent `limit` 10, an absent `min_depth` 0. `AllocError` where nothing is of a wrong kind
-/// and no memory is left. Source: the Matrix specification, Server-Server API,
-/// `POST /_matrix/federation/v1/get_missing_events/{roomId}`.
+/// An absent list is empty, an absent `limit` 10, an absent `min_depth` 0. `AllocError` where no memory is left for the
+/// ids of a list, which are read before what follows them is looked at. Source: the Matrix specification, Server-Server
+/// API, `POST /_matrix/federation/v1/get_missing_events/{roomId}`.
 pub fn missing_events(
     alloc: Global,
     body: &Map<String, Value>,
