@@ -28,6 +28,15 @@ pub fn write_text<S: TextSink>(sink: &mut S, value: &Value)
     write_value(sink, value);
 }
 
+/// Gives the sink the canonical text of an object with these members, in which a float has no digits. It takes no memory
+/// of its own.
+pub fn write_object<S: TextSink>(sink: &mut S, members: &Map<String, Value>)
+    ensures { (taken : List ℕ) → S.has_taken sink.old taken
+        → S.has_taken sink.new (taken ++ canonical_text (object (members_view members.now.entries))) }
+{
+    write_members(sink, members);
+}
+
 #[cycle(write)]
 fn write_value<S: TextSink>(sink: &mut S, value: &Value)
     ensures { (taken : List ℕ) → S.has_taken sink.old taken
