@@ -8,3 +8,4 @@ pub mod NeededKeyLemmas
 pub mod RoomBase
 pub mod RulesOnExamples
 pub mod RuleRows
+pub mod JoinLemmas

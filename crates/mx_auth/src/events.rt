@@ -5,6 +5,7 @@ ghost use Rattle.std.specs.Option.{option_copied};
 ghost use Rattle.mx_redact.specs.Fields.{is_text as is_that_text};
 ghost use Rattle.mx_pdu.specs.Event.{membership_of as membership_text};
 ghost use Rattle.mx_levels.specs.Level.{is_creator as is_creator_of};
+ghost use Rattle.mx_auth.specs.Joins as joins;
 ghost use Rattle.mx_auth.specs.Rules.{target_of as target, is_own as is_own_event, all_are as all_are_that, is_kept_out as is_kept_out_by};
 
 use mx_ident::EventId;
@@ -71,10 +72,18 @@ pub(crate) fn is_creator(create: Option<&Pdu>, user: &str) -> bool
 }
 
 /// Whether the create event keeps the event out, because it is of another server.
-#[tactic(auto, unfolding(crate::specs::Rules::is_kept_out))]
+#[tactic(auto, unfolding(crate::specs::Rules::is_kept_out, crate::specs::Joins::keeps_out))]
 pub(crate) fn is_kept_out(event: &Pdu, create: &Pdu) -> bool
     ensures { result ≡ is_kept_out_by event.now create.now }
 {
+    keeps_out(create, event.sender().server())
+}
+
+/// Whether the create event keeps a server out, because it is another one than its own.
+#[tactic(auto, unfolding(crate::specs::Joins::keeps_out))]
+pub(crate) fn keeps_out(create: &Pdu, server: &str) -> bool
+    ensures { result ≡ joins.keeps_out create.now server.now }
+{
     let federates = field(create.content(), "m.federate").and_then(Value::as_bool);
-    federates == Some(false) && event.sender().server() != create.sender().server()
+    federates == Some(false) && server != create.sender().server()
 }

@@ -4,6 +4,7 @@
 mod citing;
 mod creating;
 mod events;
+mod joining;
 mod judging;
 mod memberships;
 mod power_levels;
@@ -12,6 +13,7 @@ mod selecting;
 mod states;
 
 pub use citing::{CitedEvent, judge_auth_events};
+pub use joining::judge_own_join;
 pub use judging::{agreeing_states_judge_alike, judge};
 pub use refusals::Rule;
 pub use selecting::{NeededKeys, StateKey, needed_keys};

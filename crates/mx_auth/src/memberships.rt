@@ -1,6 +1,7 @@
 // The rules of member events.
 ghost use Rattle.std.specs.Prelude.{◌≡◌};
 ghost use Rattle.std.specs.Result.{result_err};
+ghost use Rattle.mx_auth.specs.Joins.{join_lines_of};
 ghost use Rattle.mx_auth.specs.Rules.{first_line, join_lines, invite_lines, leave_lines, ban_lines, member_lines};
 
 use crate::events::{all_are, is_creator, is_own, membership_of, target_of};
@@ -29,15 +30,33 @@ pub(crate) fn judge_member<S: RoomState>(event: &Pdu, state: &S) -> Result<(), R
     }
 }
 
-#[tactic(auto, unfolding(crate::specs::Rules::join_lines))]
+#[tactic(auto, unfolding(crate::specs::Rules::join_lines, crate::specs::Joins::join_lines_of))]
 fn judge_join<S: RoomState>(event: &Pdu, state: &S) -> Result<(), Rule>
     ensures { result_err result ≡ first_line (join_lines event.now (S.state state.now)) }
 {
-    let user = target_of(event);
-    if all_are(state.create_id(), event.prev_events()) && is_creator(create_event(state), user) {
+    let follows_create_alone = all_are(state.create_id(), event.prev_events());
+    judge_join_of(
+        event.sender().as_str(),
+        target_of(event),
+        follows_create_alone,
+        state,
+    )
+}
+
+/// Judges a join of a user by a sender, which follows the create event alone or does not.
+#[tactic(auto, unfolding(crate::specs::Joins::join_lines_of))]
+pub(crate) fn judge_join_of<S: RoomState>(
+    sender: &str,
+    user: &str,
+    follows_create_alone: bool,
+    state: &S,
+) -> Result<(), Rule>
+    ensures { result_err result ≡ first_line (join_lines_of sender.now user.now follows_create_alone (S.state state.now)) }
+{
+    if follows_create_alone && is_creator(create_event(state), user) {
         return Ok(());
     }
-    if !is_own(event) {
+    if sender != user {
         return Err(Rule::JoinForAnother);
     }
     if is_banned(state, user) {
