@@ -5,5 +5,6 @@ pub mod RedactionLemmas
 pub mod VisibilityLemmas
 pub mod AccessOnExamples
 pub mod ExampleRoom
+pub mod ExampleHistories
 pub mod AclRows
 pub mod AccessRows
