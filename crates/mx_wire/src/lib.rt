@@ -26,3 +26,6 @@ pub use requests::{LARGEST_BODY, WireRequest, read_request};
 pub use routes::{Route, Routes};
 pub use targets::{event_at, path_of, query_of, room_at, txn_at, user_at};
 pub use transaction_bodies::{MOST_EPHEMERAL_EVENTS, MOST_EVENTS, transaction_events};
+
+#[cfg(test)]
+mod tests;
