@@ -3,6 +3,7 @@ pub mod ReadingLemmas
 pub mod PartLemmas
 pub mod ParameterLemmas
 pub mod SegmentLemmas
+pub mod TextLemmas
 pub mod RouteLemmas
 pub mod OnExamples
 pub mod WireRows
@@ -11,3 +12,4 @@ pub mod BodyIdLemmas
 pub mod JsonLemmas
 pub mod EntryLemmas
 pub mod RequestRows
+pub mod CallRows

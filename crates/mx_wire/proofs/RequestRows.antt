@@ -9,7 +9,9 @@ use Rattle.mx_wire.specs.declared.faults.Fault.TheVariants.{NotJson, WrongForm, 
 use Rattle.mx_wire.specs.declared.faults.MissingParameter.TheVariants as missing
 use Rattle.mx_wire.specs.declared.faults.InvalidPart.TheVariants as invalid
 use Rattle.mx_wire.specs.Targets.{parameters}
-use Rattle.mx_wire.specs.Requests.{Read, MissingBody, on_ok, ok_or_fault, body_value, events_in, missing_body, limit_parameter, v_parameters, event_id_parameter}
+use Rattle.mx_room.specs.declared.queries.Query.{Query}
+use Rattle.mx_room.specs.declared.queries.Query.TheVariants as ask
+use Rattle.mx_wire.specs.Requests.{Read, on_ok, ok_or_fault, body_value, events_in, missing_query, limit_parameter, v_parameters, event_id_parameter}
 use Rattle.mx_wire.proofs.OnExamples.{wire_on_examples}
 
 unfoldable pub bodies_on_examples : ⊤
@@ -77,11 +79,11 @@ sent-not_utf8 = refl
 
 -- ---- the body of a query for missing events
 
-abbrev asked : String → Read MissingBody
-asked body = on_ok (body_value (codes body)) (λ d. ok_or_fault WrongForm (missing_body d))
+abbrev asked : String → Read Query
+asked body = on_ok (body_value (codes body)) (λ d. ok_or_fault WrongForm (missing_query (codes "!r:a") d))
 
-abbrev asks : List (List ℕ) → List (List ℕ) → ℕ → ℕ → Read MissingBody
-asks earliest latest limit min_depth = Ok (record { earliest = earliest; latest = latest; limit = limit; min_depth = min_depth })
+abbrev asks : List (List ℕ) → List (List ℕ) → ℕ → ℕ → Read Query
+asks earliest latest limit min_depth = Ok (ask.Missing (codes "!r:a") earliest latest limit min_depth)
 
 missing-forms : map asked ("{}" ∷ "{\"earliest_events\":[\"$1\"],\"latest_events\":[\"$2\",\"$3\"],\"limit\":18446744073709551615,\"min_depth\":7,\"x\":1.5}" ∷ [])
     ≡ asks [] [] 10 0 ∷ asks (codes "$1" ∷ []) (codes "$2" ∷ codes "$3" ∷ []) 18446744073709551615 7 ∷ []

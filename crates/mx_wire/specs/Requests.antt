@@ -1,5 +1,5 @@
--- What a request asks for, or its first fault (Matrix specification, Server-Server API: transactions, retrieving events,
--- joining rooms).
+-- What the parameters and the body of a request say (Matrix specification, Server-Server API: transactions, retrieving
+-- events, joining rooms).
 use Rattle.std.specs.Prelude.{ℕ, ◌==◌, nat_le, nat_lt, min, Bool, ◌&&◌, if◌then◌else◌, List, [], ◌∷◌, codes, filter, length, Option, Some, None, option_map, option_and_then, is_some, Result, Ok, Err}
 use Rattle.std.specs.List.{list_all}
 use Rattle.std.specs.Char.{is_ascii_digit}
@@ -10,6 +10,8 @@ use Rattle.serde_json.specs.Find.{as_str, as_array, as_number, as_u64}
 use Rattle.mx_ident.specs.Identifier.{decimal_value, is_event_id}
 use Rattle.mx_redact.specs.Fields.{Event, field, is_none_or, is_object, item_list}
 use Rattle.mx_pdu.specs.Format.{is_well_formed}
+use Rattle.mx_room.specs.declared.queries.Query.{Query}
+use Rattle.mx_room.specs.declared.queries.Query.TheVariants as ask
 use Rattle.mx_wire.specs.declared.faults.Fault.{Fault}
 use Rattle.mx_wire.specs.declared.faults.Fault.TheVariants.{NotJson, Missing, Invalid}
 use Rattle.mx_wire.specs.declared.faults.MissingParameter.TheVariants as missing
@@ -101,20 +103,13 @@ limit_parameter ps =
     on_ok (ok_or_fault (Missing missing.Limit) (first_named (codes "limit") ps)) (λ s.
     if is_number s then Ok (min (decimal_value s) 100) else Err (Invalid invalid.Limit))
 
--- ---- Server-Server API, get_missing_events: the body
+-- ---- Server-Server API, get_missing_events
 
--- the earliest and the latest events, at most how many, and how deep at least
-pub record MissingBody : Type 0 where
-  pub earliest : List (List ℕ)
-  pub latest : List (List ℕ)
-  pub limit : ℕ
-  pub min_depth : ℕ
-
--- an absent `limit` is 10, an absent `min_depth` 0
-abbrev pub missing_body : Data → Option MissingBody
-missing_body d =
+-- what the body asks of a room; an absent `limit` is 10, an absent `min_depth` 0
+abbrev pub missing_query : List ℕ → Data → Option Query
+missing_query room d =
     if is_object d
-    then option_and_then (λ earliest. option_and_then (λ latest. option_and_then (λ limit. option_map (λ min_depth. record { earliest = earliest; latest = latest; limit = limit; min_depth = min_depth })
+    then option_and_then (λ earliest. option_and_then (λ latest. option_and_then (λ limit. option_map (λ min_depth. ask.Missing room earliest latest limit min_depth)
     (natural_or 0 (field (codes "min_depth") d)))
     (natural_or 10 (field (codes "limit") d)))
     (ids_or_none (field (codes "latest_events") d)))

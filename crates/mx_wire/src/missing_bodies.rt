@@ -3,38 +3,28 @@ ghost use Rattle.std.specs.Prelude.{◌≡◌, IfOk, Some, map, option_and_then,
 ghost use Rattle.serde_json.specs.Data.{object};
 ghost use Rattle.serde_json.specs.View.{members_view};
 ghost use Rattle.mx_wire.specs.Requests as definition;
-ghost use Rattle.mx_wire.specs.MissingBodies.{body_shown};
 
 use crate::json_bodies::{ids_or_none, natural_or};
-use mx_ident::EventId;
+use mx_ident::RoomId;
 use mx_redact::field;
+use mx_room::{EventIdList, Query};
 use serde_json::{Map, Value};
 use std::alloc::{AllocError, Global};
 
 /// How many events are given where a query for missing events names no limit.
 pub const USUAL_LIMIT: u64 = 10;
 
-/// What a server that lacks events asks for: those between what it has, the earliest, and what it wants, the latest,
-/// each at least so deep, at most so many.
-#[derive(Debug, Drop)]
-pub struct MissingEvents {
-    pub earliest: Vec<EventId>,
-    pub latest: Vec<EventId>,
-    pub limit: u64,
-    pub min_depth: u64,
-}
-
-/// What an object asks for; none where a value of it is of a wrong kind.
+/// What an object asks of a room; none where a value of it is of a wrong kind.
 ///
 /// An absent list is empty, an absent `limit` 10, an absent `min_depth` 0. `AllocError` where no memory is left for the
 /// ids of a list, which are read before what follows them is looked at. Source: the Matrix specification, Server-Server
 /// API, `POST /_matrix/federation/v1/get_missing_events/{roomId}`.
-pub fn missing_events(
+pub fn missing_query(
     alloc: Global,
+    room: RoomId,
     body: &Map<String, Value>,
-) -> Result<Option<MissingEvents>, AllocError>
-    ensures { IfOk result (λ asked. option_map body_shown asked
-        ≡ definition.missing_body (object (members_view body.now.entries))) }
+) -> Result<Option<Query>, AllocError>
+    ensures { IfOk result (λ asked. asked ≡ definition.missing_query room (object (members_view body.now.entries))) }
 {
     let Some(earliest) = ids_or_none(alloc, field(body, "earliest_events"))? else {
         return Ok(None);
@@ -48,9 +38,10 @@ pub fn missing_events(
     let Some(min_depth) = natural_or(0, field(body, "min_depth")) else {
         return Ok(None);
     };
-    Ok(Some(MissingEvents {
-        earliest,
-        latest,
+    Ok(Some(Query::Missing {
+        room,
+        earliest: EventIdList::new(earliest),
+        latest: EventIdList::new(latest),
         limit,
         min_depth,
     }))

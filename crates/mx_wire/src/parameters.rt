@@ -16,7 +16,8 @@ pub struct Parameter {
 impl Parameter {
     ghost use Rattle.std.specs.Prelude.{◌≡◌, bytes_eq, string_bytes};
 
-    fn is_named(&self, name: &str) -> bool
+    // Whether this is its name.
+    pub(crate) fn is_named(&self, name: &str) -> bool
         ensures { result ≡ bytes_eq (string_bytes self.now.name) name.now }
     {
         self.name.as_str() == name

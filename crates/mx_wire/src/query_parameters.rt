@@ -1,14 +1,16 @@
 // What the parameters of a query say, route by route.
-ghost use Rattle.std.specs.Prelude.{◌≡◌, ◌⊎◌, Ok, Err, IfErr, IfOk, map, min, true};
+ghost use Rattle.std.specs.Prelude.{◌≡◌, ◌⊎◌, Ok, Err, IfErr, IfOk, IsOk, codes, map, min, string_bytes, true};
 ghost use Rattle.std.specs.List.{list_all};
 ghost use Rattle.std.specs.Char.{is_ascii_digit};
 ghost use Rattle.mx_ident.specs.Identifier.{decimal_value, is_event_id};
 ghost use Rattle.mx_wire.specs.Requests as definition;
 ghost use Rattle.mx_wire.specs.Parameters.{parameter_shown};
+ghost use Rattle.mx_wire.specs.Targets.{all_named as all_named_of};
 
 use crate::faults::{Fault, InvalidPart, MissingParameter};
 use crate::parameters::{Parameter, all_named, first_named};
 use mx_ident::{EventId, IdError};
+use mx_room::VersionList;
 use std::alloc::{AllocError, Global};
 
 /// How many events a backfill gives at most.
@@ -16,12 +18,13 @@ pub const MOST_BACKFILLED: u64 = 100;
 
 /// The event id that the first parameter `event_id` is.
 ///
-/// `Missing` where there is none, `Invalid` where it is no event id; `Memory`. Source: the Matrix specification,
-/// Server-Server API, `GET /_matrix/federation/v1/state/{roomId}`.
+/// `Missing` where there is none, `Invalid` where it is no event id; `Memory` where it is one, and none was left. Source:
+/// the Matrix specification, Server-Server API, `GET /_matrix/federation/v1/state/{roomId}`.
 pub fn event_id_parameter(alloc: Global, parameters: &[Parameter]) -> Result<EventId, Fault>
     ensures ok { IfOk result (λ id.
         definition.event_id_parameter (map parameter_shown parameters.now) ≡ Ok id) }
-    ensures err { IfErr result (λ fault. (fault ≡ Fault.Memory)
+    ensures err { IfErr result (λ fault.
+        ((fault ≡ Fault.Memory) × IsOk (definition.event_id_parameter (map parameter_shown parameters.now)))
         ⊎ (definition.event_id_parameter (map parameter_shown parameters.now) ≡ Err fault)) }
 {
     let Some(text) = first_named(parameters, "event_id") else {
@@ -36,40 +39,32 @@ pub fn event_id_parameter(alloc: Global, parameters: &[Parameter]) -> Result<Eve
 
 /// The event ids that the parameters `v` are, in their order.
 ///
-/// `Missing` where there is none, `Invalid` where one is no event id; `Memory`. Source: the Matrix specification,
-/// Server-Server API, `GET /_matrix/federation/v1/backfill/{roomId}`.
+/// `Missing` where there is none, `Invalid` where one is no event id; `Memory` where all are, and none was left. Source:
+/// the Matrix specification, Server-Server API, `GET /_matrix/federation/v1/backfill/{roomId}`.
 pub fn v_parameters(alloc: Global, parameters: &[Parameter]) -> Result<Vec<EventId>, Fault>
     ensures ok { IfOk result (λ ids.
         definition.v_parameters (map parameter_shown parameters.now) ≡ Ok ids.items) }
-    ensures err { IfErr result (λ fault. (fault ≡ Fault.Memory)
+    ensures err { IfErr result (λ fault.
+        ((fault ≡ Fault.Memory) × IsOk (definition.v_parameters (map parameter_shown parameters.now)))
         ⊎ (definition.v_parameters (map parameter_shown parameters.now) ≡ Err fault)) }
 {
-    let texts = all_named(alloc, parameters, "v")?;
-    if texts.is_empty() {
+    if first_named(parameters, "v").is_none() {
         return Err(Fault::Missing(MissingParameter::V));
     }
-    let ids = event_ids_of(alloc, &texts)?;
-    Ok(ids)
-}
-
-// These event ids; `Invalid` where one is none.
-fn event_ids_of(alloc: Global, texts: &[&str]) -> Result<Vec<EventId>, Fault>
-    ensures ok { IfOk result (λ ids. definition.event_ids_read (map (λ t. t.now) texts.now) ≡ Ok ids.items) }
-    ensures err { IfErr result (λ fault. (fault ≡ Fault.Memory)
-        ⊎ (definition.event_ids_read (map (λ t. t.now) texts.now) ≡ Err fault)) }
-{
-    if !are_event_ids(texts) {
+    if !are_event_ids(parameters, "v") {
         return Err(Fault::Invalid(InvalidPart::EventId));
     }
-    let ids = parsed_ids(alloc, texts)?;
+    let texts = all_named(alloc, parameters, "v")?;
+    let ids = parsed_ids(alloc, &texts)?;
     Ok(ids)
 }
 
-fn are_event_ids(texts: &[&str]) -> bool
-    ensures { result ≡ list_all is_event_id (map (λ t. t.now) texts.now) }
+// Whether each value under this name is an event id.
+fn are_event_ids(parameters: &[Parameter], name: &str) -> bool
+    ensures { result ≡ list_all is_event_id (all_named_of name.now (map parameter_shown parameters.now)) }
 {
-    for text in texts {
-        if !EventId::is(text) {
+    for parameter in parameters {
+        if parameter.is_named(name) && !EventId::is(&parameter.value) {
             return false;
         }
     }
@@ -137,4 +132,31 @@ fn number_up_to_most(text: &str) -> u64
         Ok(number) => number.min(MOST_BACKFILLED),
         Err(_) => MOST_BACKFILLED,
     }
+}
+
+/// The versions of rooms that the parameters `ver` are, in their order, each of them any text; none where there is none.
+///
+/// `AllocError` where no memory was left. Source: the Matrix specification, Server-Server API,
+/// `GET /_matrix/federation/v1/make_join/{roomId}/{userId}`.
+pub fn version_parameters(
+    alloc: Global,
+    parameters: &[Parameter],
+) -> Result<VersionList, AllocError>
+    ensures { IfOk result (λ versions.
+        versions ≡ all_named_of (codes "ver") (map parameter_shown parameters.now)) }
+{
+    let texts = all_named(alloc, parameters, "ver")?;
+    let versions = copies_of(alloc, &texts)?;
+    Ok(VersionList::new(versions))
+}
+
+fn copies_of(alloc: Global, texts: &[&str]) -> Result<Vec<String>, AllocError>
+    ensures { IfOk result (λ copies. map string_bytes copies.items ≡ map (λ t. t.now) texts.now) }
+{
+    let mut copies = Vec::with_capacity(alloc, texts.len())?;
+    for text in texts {
+        let copy = String::from_str(alloc, text)?;
+        copies.push(copy)?;
+    }
+    Ok(copies)
 }

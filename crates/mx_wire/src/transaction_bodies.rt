@@ -5,8 +5,9 @@ ghost use Rattle.serde_json.specs.View.{view, members_view};
 ghost use Rattle.mx_pdu.specs.Format.{is_well_formed};
 ghost use Rattle.mx_redact.specs.Fields.{field as field_of, is_none_or};
 ghost use Rattle.mx_wire.specs.Requests as definition;
+ghost use Rattle.mx_wire.specs.Offers.{offer_by};
 
-use mx_pdu::{Pdu, PduError};
+use mx_pdu::{Offered, PduError, Verifier};
 use mx_redact::field;
 use serde_json::{Map, Value};
 use std::alloc::{AllocError, Global};
@@ -21,23 +22,24 @@ pub const MOST_EVENTS: usize = 50;
 /// Source: the Matrix specification, Server-Server API, "Transactions".
 pub const MOST_EPHEMERAL_EVENTS: usize = 100;
 
-/// The events of a transaction that are well formed, in their order.
+/// The events of a transaction that are well formed, in their order, each with its id and the verifier's answer.
 ///
 /// None where `pdus` is no array of at most [`MOST_EVENTS`], or `edus` is there and is no array of at most
 /// [`MOST_EPHEMERAL_EVENTS`]. `AllocError` where it is a transaction and no memory is left. Source: the Matrix
 /// specification, Server-Server API, `PUT /_matrix/federation/v1/send/{txnId}`.
-pub fn transaction_events(
+pub fn transaction_events<V: Verifier>(
     alloc: Global,
     body: &mut Map<String, Value>,
-) -> Result<Option<Vec<Pdu>>, AllocError>
+    verifier: &V,
+) -> Result<Option<Vec<Offered>>, AllocError>
     ensures { IfOk result (λ events. option_map (λ events. events.items) events
-        ≡ definition.events_in (object (members_view body.old.entries))) }
+        ≡ option_map (map (offer_by (V.judges verifier.now))) (definition.events_in (object (members_view body.old.entries)))) }
 {
     if !has_few_ephemeral_events(body) {
         return Ok(None);
     }
     match body.remove("pdus") {
-        Some(events) => events_in(alloc, events),
+        Some(events) => events_in(alloc, events, verifier),
         None => Ok(None),
     }
 }
@@ -61,9 +63,13 @@ fn is_array_up_to(value: &Value, most: usize) -> bool
     }
 }
 
-fn events_in(alloc: Global, value: Value) -> Result<Option<Vec<Pdu>>, AllocError>
+fn events_in<V: Verifier>(
+    alloc: Global,
+    value: Value,
+    verifier: &V,
+) -> Result<Option<Vec<Offered>>, AllocError>
     ensures { IfOk result (λ events. option_map (λ events. events.items) events
-        ≡ option_map (filter is_well_formed) (definition.entries_up_to 50 (view value))) }
+        ≡ option_map (map (offer_by (V.judges verifier.now))) (option_map (filter is_well_formed) (definition.entries_up_to 50 (view value)))) }
 {
     let Value::Array(entries) = value else {
         return Ok(None);
@@ -71,27 +77,37 @@ fn events_in(alloc: Global, value: Value) -> Result<Option<Vec<Pdu>>, AllocError
     if entries.len() > MOST_EVENTS {
         return Ok(None);
     }
-    let events = well_formed_among(alloc, entries)?;
+    let events = well_formed_among(alloc, entries, verifier)?;
     Ok(Some(events))
 }
 
-fn well_formed_among(alloc: Global, entries: Vec<Value>) -> Result<Vec<Pdu>, AllocError>
-    ensures { IfOk result (λ events. events.items ≡ filter is_well_formed (map view entries.items)) }
+fn well_formed_among<V: Verifier>(
+    alloc: Global,
+    entries: Vec<Value>,
+    verifier: &V,
+) -> Result<Vec<Offered>, AllocError>
+    ensures { IfOk result (λ events.
+        events.items ≡ map (offer_by (V.judges verifier.now)) (filter is_well_formed (map view entries.items))) }
 {
     let mut events = Vec::with_capacity(alloc, entries.len())?;
     for entry in entries {
-        if let Some(event) = well_formed(alloc, entry)? {
+        if let Some(event) = well_formed(alloc, entry, verifier)? {
             events.push(event)?;
         }
     }
     Ok(events)
 }
 
-// The event that a value is.
-fn well_formed(alloc: Global, value: Value) -> Result<Option<Pdu>, AllocError>
-    ensures { IfOk result (λ event. event ≡ (if is_well_formed (view value) then Some (view value) else None)) }
+// The event that a value is, as it is offered.
+fn well_formed<V: Verifier>(
+    alloc: Global,
+    value: Value,
+    verifier: &V,
+) -> Result<Option<Offered>, AllocError>
+    ensures { IfOk result (λ event.
+        event ≡ (if is_well_formed (view value) then Some (offer_by (V.judges verifier.now) (view value)) else None)) }
 {
-    match Pdu::from_value(alloc, value) {
+    match Offered::from_value(alloc, value, verifier) {
         Ok(event) => Ok(Some(event)),
         Err(PduError::Memory) => Err(AllocError),
         Err(PduError::NotAnEvent(_)) => Ok(None),
