@@ -4,4 +4,5 @@ pub mod AnswerLemmas
 pub mod RoomOnExamples
 pub mod RoomRows
 pub mod QueryRows
+pub mod JoinRows
 pub mod DeepestLemmas
