@@ -1,6 +1,7 @@
 // A room's events under their verdicts.
 ghost use Rattle.std.specs.Prelude.{◌≡◌, ◌<◌, ◌≤◌, ◌↔◌, ◌++◌, ◌∷◌, All, IfOk, IfSome, IsErrOf, None, OnErr, OnOk, Option, Some, [], ℕ, is_none, length, option_copied, option_map};
 ghost use Rattle.std.specs.List.{list_any};
+ghost use Rattle.std.specs.Fn.{FnOnceReturnsAt};
 ghost use Rattle.std.specs.Result.{result_err};
 ghost use Rattle.mx_graph.specs.Edges.{Rises};
 ghost use Rattle.mx_graph.specs.Graph as closure;
@@ -26,6 +27,7 @@ use mx_pdu::Pdu;
 use mx_state_res::{StateNo, StateRef, States};
 use std::alloc::{AllocError, Global};
 use std::marker::Model;
+use std::mem;
 
 // What an event that is prepared will make of the room.
 #[derive(Debug, Drop)]
@@ -359,6 +361,30 @@ impl Timeline {
             mark_covered(&mut self.judgements, &prepared.covered);
             self.extremities = prepared.extremities;
             self.current = prepared.current;
+        }
+    }
+
+    /// What is read of the timeline as it will be when the event that is prepared is installed, or as it is where none
+    /// is prepared. Nothing changes, and only what is read may take memory.
+    pub fn as_installed<A, F: FnOnce(&Timeline) -> A>(&mut self, read: F) -> A
+        requires { F.IsAlwaysCallable read }
+        ensures answer { FnOnceReturnsAt F.FnOnce read (record {
+          kept = definition.installed self.old.kept self.old.prepared;
+          prepared = None;
+        }) result }
+        ensures stays { self.new ≡ self.old }
+    {
+        match self.prepared.take() {
+            Some(mut prepared) => {
+                mem::swap(&mut self.extremities, &mut prepared.extremities);
+                mem::swap(&mut self.current, &mut prepared.current);
+                let answer = read(self);
+                mem::swap(&mut self.extremities, &mut prepared.extremities);
+                mem::swap(&mut self.current, &mut prepared.current);
+                self.prepared = Some(prepared);
+                answer
+            }
+            None => read(self),
         }
     }
 

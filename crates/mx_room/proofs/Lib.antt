@@ -5,4 +5,5 @@ pub mod RoomOnExamples
 pub mod RoomRows
 pub mod QueryRows
 pub mod HistoryRows
+pub mod JoinRows
 pub mod DeepestLemmas

@@ -27,7 +27,12 @@ pub(crate) fn all_served(
     Ok(EventList::new(given))
 }
 
-fn served_event(alloc: Global, timeline: &Timeline, number: EventNo) -> Result<Pdu, AllocError>
+/// An event as it is served.
+pub(crate) fn served_event(
+    alloc: Global,
+    timeline: &Timeline,
+    number: EventNo,
+) -> Result<Pdu, AllocError>
     requires { number < length timeline.now.kept }
     ensures { IfOk result (λ event. event ≡ access.served timeline.now.kept number) }
 {

@@ -6,6 +6,7 @@ ghost use Rattle.mx_receipt.specs.Receipt as receipt;
 ghost use Rattle.mx_receipt.specs.Receipt.{Kept, rows_of};
 ghost use Rattle.mx_room.specs.Hosting.{host_error};
 ghost use Rattle.mx_access.specs.Acl as access;
+ghost use Rattle.mx_room.specs.Joins.{join_reply, row_by_join, takes_memory};
 ghost use Rattle.mx_room.specs.Offer.{allowed_outcome, is_kept, offer_outcome, refusal_by, refusal_error, row_by};
 ghost use Rattle.mx_room.specs.Queries.{query_answer};
 ghost use Rattle.mx_room.specs.RoomView.{IsHosted, create_id};
@@ -14,6 +15,7 @@ ghost use Rattle.mx_room.specs.declared.hosting.NotARoom.{NotARoom as Cause};
 use crate::answering::answer_in;
 use crate::forms::kept_form;
 use crate::hosting::{HostError, hosting_fault};
+use crate::joining::{JoinReply, prepare_join_in};
 use crate::moments::Moment;
 use crate::outcomes::{Outcome, Refusal};
 use crate::queries::{Denied, Query, QueryReply};
@@ -115,6 +117,55 @@ impl Room {
         prepare_in(alloc, &mut self.timeline, origin, offered)
     }
 
+    /// The reply to a join that a server sends, which is kept where it can be.
+    ///
+    /// A join whose sender is a user of another server is not offered. Any other one is offered as by
+    /// [`receive`](Room::receive). `AllocError` where the event is kept, or the server is given an answer, and no memory
+    /// is left for it; the room stays. Any other reply takes no memory.
+    ///
+    /// Source: the Matrix specification, Server-Server API, "Joining Rooms".
+    pub fn join(
+        &mut self,
+        alloc: Global,
+        origin: &ServerName,
+        offered: &Offered,
+    ) -> Result<JoinReply, AllocError>
+        ensures reply { IfOk result (λ reply. reply ≡ join_reply self.old.kept origin.now offered.now) }
+        ensures joined { OnOk result (self.new ≡ record {
+          id = self.old.id;
+          kept = receipt.installed self.old.kept (row_by_join offered.now (join_reply self.old.kept origin.now offered.now));
+          prepared = None;
+        }) }
+        ensures memory { OnErr result (IsTrue (takes_memory (join_reply self.old.kept origin.now offered.now))) }
+        ensures err { OnErr result (self.new ≡ record { id = self.old.id; kept = self.old.kept; prepared = None }) }
+    {
+        let reply = self.prepare_join(alloc, origin, offered);
+        self.install();
+        reply
+    }
+
+    /// The reply to a join that a server sends: whatever needs memory to keep the event is made, and nothing else
+    /// changes. An event that was prepared before is given up.
+    ///
+    /// The error is that of [`join`](Room::join).
+    pub fn prepare_join(
+        &mut self,
+        alloc: Global,
+        origin: &ServerName,
+        offered: &Offered,
+    ) -> Result<JoinReply, AllocError>
+        ensures reply { IfOk result (λ reply. reply ≡ join_reply self.old.kept origin.now offered.now) }
+        ensures prepared { OnOk result (self.new ≡ record {
+          id = self.old.id;
+          kept = self.old.kept;
+          prepared = row_by_join offered.now (join_reply self.old.kept origin.now offered.now);
+        }) }
+        ensures memory { OnErr result (IsTrue (takes_memory (join_reply self.old.kept origin.now offered.now))) }
+        ensures err { OnErr result (self.new ≡ record { id = self.old.id; kept = self.old.kept; prepared = None }) }
+    {
+        prepare_join_in(alloc, &mut self.timeline, origin, offered)
+    }
+
     /// Adds the event that is prepared. It takes no memory.
     pub fn install(&mut self)
         ensures { self.new ≡ record { id = self.old.id; kept = receipt.installed self.old.kept self.old.prepared; prepared = None } }
@@ -195,8 +246,9 @@ fn begun(alloc: Global, offered: &Offered) -> Result<Room, AllocError>
     Ok(Room { id, timeline })
 }
 
+/// [`Room::prepare`] of a room's timeline.
 #[tactic(auto, unfolding(crate::specs::Offer::offer_outcome))]
-fn prepare_in(
+pub(crate) fn prepare_in(
     alloc: Global,
     timeline: &mut Timeline,
     origin: &ServerName,

@@ -118,8 +118,8 @@ fn standing(timeline: &Timeline, id: &EventId) -> Option<EventNo>
     Some(number)
 }
 
-// The events of the state before an event, in the order of their keys.
-fn events_before(
+/// The events of the state before an event, in the order of their keys.
+pub(crate) fn events_before(
     alloc: Global,
     timeline: &Timeline,
     number: EventNo,
@@ -133,8 +133,8 @@ fn events_before(
     Ok(events)
 }
 
-// The auth chains of these events in one list, by lesser id.
-fn chain_by_id(
+/// The auth chains of these events in one list, by lesser id.
+pub(crate) fn chain_by_id(
     alloc: Global,
     timeline: &Timeline,
     events: &[EventNo],

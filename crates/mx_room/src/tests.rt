@@ -1,6 +1,6 @@
 use crate::{
-    Denied, EventIdList, EventList, HostError, Moment, Outcome, Query, QueryReply, Refusal, Room,
-    hosting_fault,
+    Denied, EventIdList, EventList, HostError, JoinReply, Moment, Outcome, Query, QueryReply,
+    Refusal, Room, hosting_fault,
 };
 use mx_auth::Rule;
 use mx_graph::EventNo;
@@ -268,6 +268,19 @@ fn prepare(alloc: Global, room: &mut Room, id: &str) -> Result<Outcome, AllocErr
     room.prepare(alloc, &origin, &offered)
 }
 
+// Sends a join, or another event, from the server with this name.
+fn join(alloc: Global, room: &mut Room, name: &str, id: &str) -> Result<JoinReply, AllocError> {
+    let offered = offered(alloc, id, true)?;
+    let origin = server(alloc, name)?;
+    room.join(alloc, &origin, &offered)
+}
+
+fn prepare_join(alloc: Global, room: &mut Room, id: &str) -> Result<JoinReply, AllocError> {
+    let offered = offered(alloc, id, true)?;
+    let origin = server(alloc, SERVER_OF_A)?;
+    room.prepare_join(alloc, &origin, &offered)
+}
+
 // The room with these events.
 fn room_with(alloc: Global, ids: &[&str]) -> Result<Room, HostError> {
     let mut room = hosted(alloc)?;
@@ -371,6 +384,23 @@ fn text_of_reply(alloc: Global, reply: &Result<QueryReply, Denied>) -> Result<St
     }
 }
 
+// The reply to a join as a text: the times of its events.
+fn text_of_join(alloc: Global, reply: &JoinReply) -> Result<String, AllocError> {
+    match reply {
+        JoinReply::NotOffered => String::from_str(alloc, "not offered"),
+        JoinReply::Offered { joined: None, .. } => String::from_str(alloc, "not let in"),
+        JoinReply::Offered {
+            joined: Some(joined),
+            ..
+        } => {
+            let state = times_of(alloc, &joined.state)?;
+            let chain = times_of(alloc, &joined.auth_chain)?;
+            let time = joined.event.origin_server_ts();
+            format!(in alloc; "state{state} chain{chain} join {time}")
+        }
+    }
+}
+
 fn times_of(alloc: Global, events: &EventList) -> Result<String, AllocError> {
     let mut text = String::new(alloc);
     for event in events.as_slice() {
@@ -425,6 +455,39 @@ fn events_prepared_by_a_room(rt: HostRuntime) -> Result<(), Fail> {
     assert!(rt; room.len() == 1 && !shows(alloc, &room, "$2")?);
     assert_eq!(rt; prepare(alloc, &mut room, "$6")?, Outcome::Kept(REJECTED));
     assert_eq!(rt; prepare(alloc, &mut room, "$2")?, Outcome::Kept(ACCEPTED));
+    assert!(rt; room.len() == 1 && !shows(alloc, &room, "$2")?);
+    room.install();
+    assert!(rt; room.len() == 2 && shows(alloc, &room, "$2")?);
+    Ok(())
+}
+
+#[test]
+fn joins_of_a_room(rt: HostRuntime) -> Result<(), Fail> {
+    let alloc = rt.alloc();
+    let mut room = hosted(alloc)?;
+    for (name, id, expected, count) in [
+        (SERVER_OF_B, "$2", "not offered", 1),
+        (SERVER_OF_A, "$2", "state 10 chain 10 join 20", 2),
+        (SERVER_OF_A, "$2", "state 10 chain 10 join 20", 2),
+        (SERVER_OF_B, "$6", "not let in", 3),
+        (SERVER_OF_A, "$4", "state 10 20 chain 10 20 join 40", 4),
+    ] {
+        let reply = join(alloc, &mut room, name, id)?;
+        assert_eq!(rt; text_of_join(alloc, &reply)?.as_str(), expected, "at {id}");
+        assert_eq!(rt; room.len(), count, "at {id}");
+    }
+    Ok(())
+}
+
+#[test]
+fn a_join_prepared_by_a_room(rt: HostRuntime) -> Result<(), Fail> {
+    let alloc = rt.alloc();
+    let mut room = hosted(alloc)?;
+    let reply = prepare_join(alloc, &mut room, "$2")?;
+    assert_eq!(rt;
+        text_of_join(alloc, &reply)?.as_str(),
+        "state 10 chain 10 join 20"
+    );
     assert!(rt; room.len() == 1 && !shows(alloc, &room, "$2")?);
     room.install();
     assert!(rt; room.len() == 2 && shows(alloc, &room, "$2")?);
@@ -535,6 +598,25 @@ fn queries_or_no_memory(rt: HostRuntime) {
         && let Ok(reply) = ask(alloc, &room, SERVER_OF_A, &query)
     {
         assert!(rt; reply.is_ok());
+    }
+}
+
+#[test]
+fn joins_or_no_memory(rt: HostRuntime) {
+    let alloc = rt.alloc();
+    let Ok(mut room) = hosted(alloc) else {
+        return;
+    };
+    if let Ok(reply) = join(alloc, &mut room, SERVER_OF_A, "$2") {
+        assert!(rt;
+            matches!(
+                &reply,
+                JoinReply::Offered {
+                    joined: Some(_),
+                    ..
+                }
+            )
+        );
     }
 }
 
