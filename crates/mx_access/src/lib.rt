@@ -16,4 +16,5 @@ pub use access_lists::acl_allows;
 pub use globs::{glob_matches, globs_match_by_cases};
 pub use redactions::is_redacted;
 pub use serving::served;
+pub use states::StateInRoom;
 pub use viewers::{Viewer, in_room, shown, visible};

@@ -3,7 +3,9 @@ ghost use Rattle.std.specs.Prelude.{◌≡◌, ◌<◌, All, length};
 ghost use Rattle.mx_receipt.specs.Receipt as receipt;
 
 use crate::member_tests::MemberTest;
+use mx_auth::RoomState;
 use mx_graph::EventNo;
+use mx_ident::EventId;
 use mx_levels::Levels;
 use mx_pdu::Pdu;
 use mx_receipt::{Timeline, timeline_is_sound};
@@ -11,8 +13,10 @@ use mx_state_res::StateRef;
 use std::marker::Model;
 
 /// A state of a room, with the timeline that has its events. Nothing here takes memory.
+///
+/// The rules can judge an event on it, since it is a [`RoomState`].
 #[derive(Debug, Drop)]
-pub(crate) struct StateInRoom<'t> {
+pub struct StateInRoom<'t> {
     timeline: &'t Timeline,
     state: StateRef<'t>,
 }
@@ -41,7 +45,7 @@ impl<'t> StateInRoom<'t> {
     ghost use Rattle.mx_access.specs.Access.{has_member as has_member_in};
 
     /// The room's current state.
-    pub(crate) fn current(timeline: &'t Timeline) -> StateInRoom<'t>
+    pub fn current(timeline: &'t Timeline) -> StateInRoom<'t>
         ensures { result ≡ (timeline.now.kept, receipt.current_state timeline.now.kept) }
     {
         timeline_is_sound(timeline);
@@ -77,7 +81,8 @@ impl<'t> StateInRoom<'t> {
         Some(&self.timeline.row(number).event)
     }
 
-    fn number_at(&self, kind: &str, key: &str) -> Option<EventNo>
+    /// The number of the event at a type and a state key.
+    pub fn number_at(&self, kind: &str, key: &str) -> Option<EventNo>
         ensures number { result ≡ entry_at self.now.1 (kind.now, key.now) }
         ensures known { IfSome result (λ n. n < length self.now.0) }
     {
@@ -105,5 +110,23 @@ impl<'t> StateInRoom<'t> {
             membership,
             server,
         })
+    }
+}
+
+impl<'t> RoomState for StateInRoom<'t> {
+    ghost use Rattle.mx_orders.specs.StateMap.{view};
+    ghost use Rattle.mx_receipt.specs.Receipt.{rows_of};
+
+    ghost state = { λ s. view (rows_of s.0) s.1 };
+
+    fn create_id(&self) -> Option<&EventId> {
+        match self.number_at("m.room.create", "") {
+            Some(number) => Some(&self.timeline.row(number).id),
+            None => None,
+        }
+    }
+
+    fn entry(&self, kind: &str, key: &str) -> Option<&Pdu> {
+        self.event(kind, key)
     }
 }

@@ -56,6 +56,13 @@ impl<'t, 's> Viewer<'t, 's> {
         }
     }
 
+    /// The server. It takes no memory.
+    pub fn server(&self) -> &'s ServerName
+        ensures { result.now ≡ self.now.server }
+    {
+        self.server
+    }
+
     /// Whether the server is in the room ([`in_room`]). It takes no memory.
     pub fn is_in_room(&self) -> bool
         ensures { result ≡ definition.in_room self.now.kept self.now.server }

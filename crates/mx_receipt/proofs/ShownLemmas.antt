@@ -8,6 +8,7 @@ use Rattle.std.specs.List.{All}
 use Rattle.std.specs.Option.{option_or}
 use Rattle.mx_auth.specs.Rules.{Key}
 use Rattle.mx_graph.proofs.RowLemmas.{place_of-push, place_of-below}
+use Rattle.mx_graph.specs.Graph.{IsSound}
 use Rattle.mx_graph.specs.Record.{Row, no_row, row, place_of}
 use Rattle.mx_orders.specs.StateMap.{State}
 use Rattle.mx_receipt.specs.Receipt.{Kept, rows_of, kept_at, states_after, state_before, state_after, forward_extremities, current_state}
@@ -207,3 +208,14 @@ module _ (rows : List Row) (states : List State) (js : List Judgement) (exts : L
       (subst (Knows h.kept_rows)
       (ap (λ ss. slice_index_or ss p []) h.is_held.is_kept.afters ∙ states_after-at (kept_of h.kept_rows judged) (length judged) p (judged-index p l) ∙ ap (λ ks. state_after ks p) (sym h.shown))
       (All-map (Knows h.kept_rows) (λ (j : Judged). j.after) judged h.is_held.is_kept.knows p [] (below (λ (j : Judged). j.after) p l)))
+
+  -- each event has an id of its own
+  pub shown-ids : IsSound rows → (x y : ℕ) → x < length kept → y < length kept → (row (rows_of kept) x).id ≡ (row (rows_of kept) y).id → x ≡ y
+  shown-ids sound x y k l e =
+      sound.ids x y (in-rows x k) (in-rows y l) (ap (λ (r : Row). r.id) (shown-row x k) ∙ e ∙ sym (ap (λ (r : Row). r.id) (shown-row y l)))
+    where
+      in-rows : (p : ℕ) → p < length kept → p < length rows
+      in-rows p m =
+          let f : length kept ≡ length h.kept_rows = shown-count in
+          let g : length rows ≡ length h.kept_rows + length (option_to_list h.next_row) = ap length h.are_rows ∙ length-append h.kept_rows (option_to_list h.next_row) in
+          omega arith

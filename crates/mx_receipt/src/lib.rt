@@ -16,5 +16,5 @@ mod timelines;
 mod verdicts;
 
 pub use refusals::{NotReceived, OfferError};
-pub use timelines::{Timeline, timeline_is_sound};
+pub use timelines::{Timeline, timeline_ids_differ, timeline_is_sound};
 pub use verdicts::Verdict;

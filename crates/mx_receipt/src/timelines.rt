@@ -21,7 +21,7 @@ use crate::refusals::{NotReceived, OfferError};
 use crate::resolution_cache::ResolutionCache;
 use crate::snapshots::Judgement;
 use crate::verdicts::Verdict;
-use mx_graph::{EventNo, Graph, GraphRow, MOST_ROWS};
+use mx_graph::{EventNo, Graph, GraphRow, MOST_ROWS, graph_is_sound};
 use mx_ident::EventId;
 use mx_pdu::Pdu;
 use mx_state_res::{StateNo, StateRef, States};
@@ -410,4 +410,12 @@ pub fn timeline_is_sound(timeline: &Timeline)
         → All (λ e. e.1 < length timeline.now.kept) (definition.state_after timeline.now.kept number) }
 {
     let _ = timeline.graph.len();
+}
+
+/// A law: each event of a timeline has an id of its own.
+pub fn timeline_ids_differ(timeline: &Timeline)
+    ensures { (x y : ℕ) → x < length timeline.now.kept → y < length timeline.now.kept
+        → (row_at (definition.rows_of timeline.now.kept) x).id ≡ (row_at (definition.rows_of timeline.now.kept) y).id → x ≡ y }
+{
+    graph_is_sound(&timeline.graph);
 }
