@@ -5,3 +5,4 @@ pub mod RoomOnExamples
 pub mod RoomRows
 pub mod QueryRows
 pub mod DeepestLemmas
+pub mod JoinLemmas
