@@ -12,7 +12,7 @@ use Rattle.mx_graph.specs.Record.{Row, row, event, place_of, events_where, is_in
 use Rattle.mx_receipt.specs.Receipt.{Kept, rows_of, kept_at, is_rejected}
 use Rattle.mx_access.specs.Access.{in_room, visible, is_redacted, served, shown, is_shown_redacted}
 use Rattle.mx_access.specs.Acl.{acl_allows}
-use Rattle.mx_room.specs.Answers.{allowed_answer, asks_unheld, backfill_answer, behind, is_marked, is_taken}
+use Rattle.mx_room.specs.Answers.{allowed_answer, asks_unheld, backfill_answer, behind, is_for_members, is_marked, is_taken}
 use Rattle.mx_orders.specs.Mainline.{sorted}
 use Rattle.mx_room.specs.Queries.{Answered, event_shown, events_reply, given_or, query_answer, room_named, unless, held, backfill, missing_events, depth_falling, depth_rising}
 use Rattle.mx_room.specs.declared.queries.Query.{Query}
@@ -164,33 +164,49 @@ abbrev gated : Bool → Bool → Answered → Answered
 gated allows member rest = unless (not allows) AccessList (unless (not member) NotInRoom rest)
 
 module _ (kept : List Kept) (origin : List ℕ) (now : ℕ) where
-  -- a query that names a room is asked of its members
-  of-members : (q : Query) → is_some (room_named q) ≡ true → query_answer kept origin now q ≡ gated (acl_allows kept origin) (in_room kept origin) (allowed_answer kept origin q)
+  -- a query that names a room is asked of the servers that its access control list allows, and, unless it is about a
+  -- join, of its members alone
+  of-named : (q : Query) → is_some (room_named q) ≡ true → query_answer kept origin now q
+      ≡ gated (acl_allows kept origin) (not (is_for_members q) || in_room kept origin) (allowed_answer kept origin now q)
   unfolding query_answer
-  of-members (ask.Event id) e = absurd (cc e)
-  of-members (ask.State room id) e = refl
-  of-members (ask.StateIds room id) e = refl
-  of-members (ask.EventAuth room id) e = refl
-  of-members (ask.Backfill room from limit) e = refl
-  of-members (ask.Missing room earliest latest limit min_depth) e = refl
+  of-named (ask.Event id) e = absurd (cc e)
+  of-named (ask.State room id) e = refl
+  of-named (ask.StateIds room id) e = refl
+  of-named (ask.EventAuth room id) e = refl
+  of-named (ask.Backfill room from limit) e = refl
+  of-named (ask.Missing room earliest latest limit min_depth) e = refl
+  of-named (ask.MakeJoin room user versions) e = refl
+
+  -- a query of members alone names a room
+  named-for_members : (q : Query) → is_for_members q ≡ true → is_some (room_named q) ≡ true
+  named-for_members (ask.Event id) e = absurd (cc e)
+  named-for_members (ask.State room id) e = refl
+  named-for_members (ask.StateIds room id) e = refl
+  named-for_members (ask.EventAuth room id) e = refl
+  named-for_members (ask.Backfill room from limit) e = refl
+  named-for_members (ask.Missing room earliest latest limit min_depth) e = refl
+  named-for_members (ask.MakeJoin room user versions) e = absurd (cc e)
 
   pub answer-not_allowed : (q : Query) → is_some (room_named q) ≡ true → acl_allows kept origin ≡ false → Err AccessList ≡ query_answer kept origin now q
-  answer-not_allowed q e a = sym (of-members q e ∙ λ i. gated (a i) (in_room kept origin) (allowed_answer kept origin q))
+  answer-not_allowed q e a = sym (of-named q e ∙ λ i. gated (a i) (not (is_for_members q) || in_room kept origin) (allowed_answer kept origin now q))
 
-  pub answer-not_in_room : (q : Query) → is_some (room_named q) ≡ true → (is_some (room_named q) ≡ true → acl_allows kept origin ≡ true) → in_room kept origin ≡ false
+  pub answer-not_in_room : (q : Query) → is_for_members q ≡ true → (is_some (room_named q) ≡ true → acl_allows kept origin ≡ true) → in_room kept origin ≡ false
       → Err NotInRoom ≡ query_answer kept origin now q
-  answer-not_in_room q e a m = sym (of-members q e ∙ λ i. gated (a e i) (m i) (allowed_answer kept origin q))
+  answer-not_in_room q e a m =
+      sym (of-named q (named-for_members q e) ∙ λ i. gated (a (named-for_members q e) i) (not (e i) || m i) (allowed_answer kept origin now q))
 
-  pub answer-allowed : (q : Query) → (is_some (room_named q) ≡ true → acl_allows kept origin ≡ true) → (is_some (room_named q) ≡ true → in_room kept origin ≡ true)
-      → allowed_answer kept origin q ≡ query_answer kept origin now q
+  pub answer-allowed : (q : Query) → (is_some (room_named q) ≡ true → acl_allows kept origin ≡ true) → (is_for_members q ≡ true → in_room kept origin ≡ true)
+      → allowed_answer kept origin now q ≡ query_answer kept origin now q
   unfolding query_answer
   answer-allowed (ask.Event id) a m = refl
-  answer-allowed (ask.State room id) a m = sym (λ i. gated (a refl i) (m refl i) (allowed_answer kept origin (ask.State room id)))
-  answer-allowed (ask.StateIds room id) a m = sym (λ i. gated (a refl i) (m refl i) (allowed_answer kept origin (ask.StateIds room id)))
-  answer-allowed (ask.EventAuth room id) a m = sym (λ i. gated (a refl i) (m refl i) (allowed_answer kept origin (ask.EventAuth room id)))
-  answer-allowed (ask.Backfill room from limit) a m = sym (λ i. gated (a refl i) (m refl i) (allowed_answer kept origin (ask.Backfill room from limit)))
+  answer-allowed (ask.State room id) a m = sym (λ i. gated (a refl i) (m refl i) (allowed_answer kept origin now (ask.State room id)))
+  answer-allowed (ask.StateIds room id) a m = sym (λ i. gated (a refl i) (m refl i) (allowed_answer kept origin now (ask.StateIds room id)))
+  answer-allowed (ask.EventAuth room id) a m = sym (λ i. gated (a refl i) (m refl i) (allowed_answer kept origin now (ask.EventAuth room id)))
+  answer-allowed (ask.Backfill room from limit) a m = sym (λ i. gated (a refl i) (m refl i) (allowed_answer kept origin now (ask.Backfill room from limit)))
   answer-allowed (ask.Missing room earliest latest limit min_depth) a m =
-      sym (λ i. gated (a refl i) (m refl i) (allowed_answer kept origin (ask.Missing room earliest latest limit min_depth)))
+      sym (λ i. gated (a refl i) (m refl i) (allowed_answer kept origin now (ask.Missing room earliest latest limit min_depth)))
+  answer-allowed (ask.MakeJoin room user versions) a m =
+      sym (λ i. gated (a refl i) true (allowed_answer kept origin now (ask.MakeJoin room user versions)))
 
   -- an event that is not held
   pub answer-unheld : (q : Query) → asks_unheld kept q ≡ true → Err NotFound ≡ query_answer kept origin now q
@@ -205,6 +221,7 @@ module _ (kept : List Kept) (origin : List ℕ) (now : ℕ) where
   answer-unheld (ask.EventAuth room id) e = absurd (cc e)
   answer-unheld (ask.Backfill room from limit) e = absurd (cc e)
   answer-unheld (ask.Missing room earliest latest limit min_depth) e = absurd (cc e)
+  answer-unheld (ask.MakeJoin room user versions) e = absurd (cc e)
 
 -- ---- backfill
 

@@ -31,7 +31,7 @@ module _ {A : Type 0} (cmp : A → A → Ordering) where
       by Equal k = refl
       by Greater k = ap suc k
 
-  length-sorted : (xs : List A) → length (sorted cmp xs) ≡ length xs
+  pub length-sorted : (xs : List A) → length (sorted cmp xs) ≡ length xs
   length-sorted [] = refl
   length-sorted (x ∷ xs) = length-put x (sorted cmp xs) ∙ ap suc (length-sorted xs)
 

@@ -7,3 +7,4 @@ pub mod QueryRows
 pub mod HistoryRows
 pub mod JoinRows
 pub mod DeepestLemmas
+pub mod JoinLemmas

@@ -1,16 +1,19 @@
 -- Worked examples of queries, and of an access control list in a room.
 use Rattle.std.specs.Prelude.{◌≡◌, refl, ℕ, List, [], ◌∷◌, codes, map, Ok, Err, true}
-use Rattle.serde_json.specs.Data.{Data, array}
-use Rattle.mx_redact.specs.Fields.{Event}
-use Rattle.mx_auth.proofs.RoomBase.{event, fields, keyed, no_fields, texts}
+use Rattle.std.specs.Fmt.{digits}
+use Rattle.serde_json.specs.Data.{Data, array, object, put, string}
+use Rattle.mx_canon.specs.Canonical.{canonical_text}
+use Rattle.mx_redact.specs.Fields.{Event, members_of}
+use Rattle.mx_auth.proofs.RoomBase.{event, fields, keyed, membership, no_fields, texts}
+use Rattle.mx_auth.specs.declared.refusals.Rule.TheVariants.{JoinOfBanned}
 use Rattle.mx_receipt.specs.Receipt.{Kept, kept_at}
 use Rattle.mx_receipt.specs.declared.verdicts.Verdict.TheVariants.{Accepted}
 use Rattle.mx_access.proofs.ExampleRoom.{Arrival, arrival, base, received_all, state_event, message}
 use Rattle.mx_room.specs.Offer.{Offered, offer_outcome}
-use Rattle.mx_room.specs.Queries.{query_answer}
+use Rattle.mx_room.specs.Queries.{Answered, query_answer}
 use Rattle.mx_room.specs.declared.outcomes.Outcome.TheVariants.{Kept as now_kept, Refused}
 use Rattle.mx_room.specs.declared.outcomes.Refusal.TheVariants.{AccessList as denied_offer}
-use Rattle.mx_room.specs.declared.queries.Denied.TheVariants.{AccessList, NotInRoom, NotFound}
+use Rattle.mx_room.specs.declared.queries.Denied.TheVariants.{AccessList, NotInRoom, NotFound, OtherServer, WrongVersion, Rule}
 use Rattle.mx_room.specs.declared.queries.Query.TheVariants as ask
 use Rattle.mx_room.specs.declared.queries.QueryReply.TheVariants as gives
 use Rattle.mx_room.proofs.RoomOnExamples.{room_on_examples}
@@ -105,3 +108,39 @@ denied-query = refl
 undenied-query : query_answer with_acl (codes "x.evil.example") 0 (ask.Event (codes "$5")) ≡ Err NotFound
 unfolding room_on_examples
 undenied-query = refl
+
+-- ---- joins
+
+abbrev d : List ℕ
+d = codes "@d:d.example"
+
+abbrev d_server : List ℕ
+d_server = codes "d.example"
+
+-- what a server gives of a template
+template_text : Answered → List ℕ
+template_text (Ok (gives.Template e)) = canonical_text (object (put (codes "origin") (string (codes "hub.example")) (members_of e)))
+template_text other = []
+
+make_join-d : template_text (query_answer base d_server 1000 (ask.MakeJoin r d (codes "6" ∷ [])))
+    ≡ codes "{\"auth_events\":[\"$1\",\"$3\",\"$4\"],\"content\":{\"membership\":\"join\"},\"depth\":7,\"origin\":\"hub.example\",\"origin_server_ts\":1000,\"prev_events\":[\"$6\"],\"room_id\":\"!r:a.example\",\"sender\":\"@d:d.example\",\"state_key\":\"@d:d.example\",\"type\":\"m.room.member\"}"
+unfolding canonical_text digits room_on_examples template_text
+make_join-d = refl
+
+make_join-version : query_answer base d_server 1000 (ask.MakeJoin r d []) ≡ Err WrongVersion
+unfolding room_on_examples
+make_join-version = refl
+
+make_join-server : query_answer base b_server 1000 (ask.MakeJoin r d (codes "6" ∷ [])) ≡ Err OtherServer
+unfolding room_on_examples
+make_join-server = refl
+
+-- C is banned
+abbrev banned : List Kept
+banned =
+    received_all base
+    (arrival "$7" (event 7 "m.room.member" (keyed "@c:c.example") "@a:a.example" (membership "ban") (codes "$6" ∷ []) (codes "$1" ∷ codes "$2" ∷ codes "$3" ∷ codes "$6" ∷ [])) ∷ [])
+
+make_join-banned : query_answer banned (codes "c.example") 1000 (ask.MakeJoin r (codes "@c:c.example") (codes "6" ∷ [])) ≡ Err (Rule JoinOfBanned)
+unfolding room_on_examples
+make_join-banned = refl

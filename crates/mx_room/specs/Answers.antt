@@ -1,16 +1,19 @@
 -- For proofs and private clauses alone.
 -- The answer to a query that the room answers to the server.
-use Rattle.std.specs.Prelude.{ℕ, ◌==◌, Bool, false, ◌&&◌, ◌||◌, not, nat_le, slice_index_or, List, [], ◌∷◌, length, is_none, option_map}
+use Rattle.std.specs.Prelude.{ℕ, ◌==◌, Bool, true, false, ◌&&◌, ◌||◌, not, nat_le, slice_index_or, List, [], ◌∷◌, length, codes, bytes_eq, is_none, option_map}
+use Rattle.std.specs.List.{list_any}
+use Rattle.mx_ident.specs.Identifier.{server_of}
+use Rattle.mx_auth.specs.Rules.{Key, rules}
 use Rattle.mx_pdu.specs.Event.{depth_of}
 use Rattle.mx_graph.specs.Record.{Row, row, event, place_of, events_where, is_in}
 use Rattle.mx_graph.specs.Graph.{ancestors}
 use Rattle.mx_orders.specs.StateMap.{events_of}
 use Rattle.mx_receipt.specs.Receipt.{Kept, rows_of, state_before}
-use Rattle.mx_room.specs.Queries.{Answered, all_served, backfill, chain_by_id, event_shown, events_reply, given_or, held, if_standing, missing_events, state_ids_reply, state_reply, unless}
+use Rattle.mx_room.specs.Queries.{Answered, all_served, backfill, chain_by_id, event_shown, events_reply, given_or, held, if_standing, current_view, join_template, missing_events, state_ids_reply, state_reply, template_by, unless}
 use Rattle.mx_room.specs.declared.queries.Query.{Query}
 use Rattle.mx_room.specs.declared.queries.Query.TheVariants as ask
 use Rattle.mx_room.specs.declared.queries.QueryReply.TheVariants as gives
-use Rattle.mx_room.specs.declared.queries.Denied.TheVariants.{NotFound}
+use Rattle.mx_room.specs.declared.queries.Denied.TheVariants.{NotFound, OtherServer, WrongVersion}
 
 abbrev pub event_answer : List Kept → List ℕ → List ℕ → Answered
 event_answer kept origin id = given_or NotFound (option_map gives.Event (event_shown kept origin id))
@@ -32,13 +35,38 @@ abbrev pub missing_answer : List Kept → List ℕ → List (List ℕ) → List 
 missing_answer kept origin earliest latest limit min_depth =
     events_reply kept origin (missing_events (rows_of kept) earliest latest limit min_depth)
 
-abbrev pub allowed_answer : List Kept → List ℕ → Query → Answered
-allowed_answer kept origin (ask.Event id) = event_answer kept origin id
-allowed_answer kept origin (ask.State room id) = state_answer kept id
-allowed_answer kept origin (ask.StateIds room id) = state_ids_answer kept id
-allowed_answer kept origin (ask.EventAuth room id) = event_auth_answer kept id
-allowed_answer kept origin (ask.Backfill room from limit) = backfill_answer kept origin from limit
-allowed_answer kept origin (ask.Missing room earliest latest limit min_depth) = missing_answer kept origin earliest latest limit min_depth
+-- the keys of a state that a join of a user of its own needs
+abbrev pub join_keys : List ℕ → List Key
+join_keys user =
+    (codes "m.room.create", []) ∷ (codes "m.room.power_levels", []) ∷ (codes "m.room.member", user)
+    ∷ (codes "m.room.join_rules", []) ∷ []
+
+-- the user is of the server, which knows version 6, and the rules allow the join in the current state
+abbrev pub join_answer : List Kept → List ℕ → ℕ → List ℕ → List ℕ → List (List ℕ) → Answered
+join_answer kept origin now room user versions =
+    let template = join_template kept now room user in
+    unless (not (bytes_eq (server_of user) origin)) OtherServer
+    (unless (not (list_any (bytes_eq (codes "6")) versions)) WrongVersion
+    (template_by (rules template (current_view kept)) template))
+
+abbrev pub allowed_answer : List Kept → List ℕ → ℕ → Query → Answered
+allowed_answer kept origin now (ask.Event id) = event_answer kept origin id
+allowed_answer kept origin now (ask.State room id) = state_answer kept id
+allowed_answer kept origin now (ask.StateIds room id) = state_ids_answer kept id
+allowed_answer kept origin now (ask.EventAuth room id) = event_auth_answer kept id
+allowed_answer kept origin now (ask.Backfill room from limit) = backfill_answer kept origin from limit
+allowed_answer kept origin now (ask.Missing room earliest latest limit min_depth) = missing_answer kept origin earliest latest limit min_depth
+allowed_answer kept origin now (ask.MakeJoin room user versions) = join_answer kept origin now room user versions
+
+-- it is asked by servers in the room alone
+abbrev pub is_for_members : Query → Bool
+is_for_members (ask.Event id) = false
+is_for_members (ask.State room id) = true
+is_for_members (ask.StateIds room id) = true
+is_for_members (ask.EventAuth room id) = true
+is_for_members (ask.Backfill room from limit) = true
+is_for_members (ask.Missing room earliest latest limit min_depth) = true
+is_for_members (ask.MakeJoin room user versions) = false
 
 -- it asks by its id alone for an event that the room does not hold
 abbrev pub asks_unheld : List Kept → Query → Bool

@@ -1,16 +1,23 @@
--- The queries of a room and their answers (Matrix specification, Server-Server API, retrieving events, and backfilling
--- and retrieving missing events).
-use Rattle.std.specs.Prelude.{ℕ, nat_le, min, ◌==◌, Bool, not, ◌&&◌, ◌||◌, if◌then◌else◌, List, [], ◌∷◌, length, map, filter_map, take, Option, None, Some, option_map, option_and_then, Result, Ok, Err}
+-- The queries of a room and their answers (Matrix specification, Server-Server API, retrieving events, backfilling and
+-- retrieving missing events, and joining rooms).
+use Rattle.std.specs.Prelude.{ℕ, ◌+◌, nat_le, min, max, ◌==◌, Bool, not, ◌&&◌, ◌||◌, if◌then◌else◌, List, [], ◌∷◌, length, map, filter_map, fold, take, codes, bytes_eq, Option, None, Some, option_map, option_and_then, Result, Ok, Err}
 use Rattle.std.specs.declared.cmp.Ordering.{Ordering}
 use Rattle.std.specs.Ordering.{then_cmp, flip_args, on, nat_cmp}
 use Rattle.std.specs.Cmp.Lexicographic.{slice_cmp}
+use Rattle.std.specs.List.{list_any}
+use Rattle.serde_json.specs.Data.{Items, no_items, item, no_members, member, string, array, object, number, unsigned}
+use Rattle.mx_canon.specs.Canonical.{largest}
+use Rattle.mx_ident.specs.Identifier.{server_of}
 use Rattle.mx_redact.specs.Fields.{Event}
 use Rattle.mx_pdu.specs.Event.{depth_of}
+use Rattle.mx_auth.specs.Rules.{needed_keys, rules}
+use Rattle.mx_auth.specs.StateView.{StateView}
+use Rattle.mx_auth.specs.declared.refusals.Rule.{Rule}
 use Rattle.mx_graph.specs.Record.{Row, row, event, place_of, events_where, is_in}
 use Rattle.mx_graph.specs.Graph.{ancestors, auth_chain}
 use Rattle.mx_orders.specs.Mainline.{sorted}
-use Rattle.mx_orders.specs.StateMap.{events_of}
-use Rattle.mx_receipt.specs.Receipt.{Kept, rows_of, state_before}
+use Rattle.mx_orders.specs.StateMap.{entry, events_of, view}
+use Rattle.mx_receipt.specs.Receipt.{Kept, rows_of, state_before, current_state, forward_extremities}
 use Rattle.mx_access.specs.Acl.{acl_allows}
 use Rattle.mx_access.specs.Access.{in_room, served, shown}
 use Rattle.mx_room.specs.declared.queries.Query.{Query}
@@ -18,7 +25,8 @@ use Rattle.mx_room.specs.declared.queries.Query.TheVariants as ask
 use Rattle.mx_room.specs.declared.queries.QueryReply.{QueryReply}
 use Rattle.mx_room.specs.declared.queries.QueryReply.TheVariants as gives
 use Rattle.mx_room.specs.declared.queries.Denied.{Denied}
-use Rattle.mx_room.specs.declared.queries.Denied.TheVariants.{AccessList, NotInRoom, NotFound}
+use Rattle.mx_room.specs.declared.queries.Denied.TheVariants.{AccessList, NotInRoom, NotFound, OtherServer, WrongVersion}
+use Rattle.mx_room.specs.declared.queries.Denied.TheVariants as denied
 
 -- the room that a query names
 abbrev pub room_named : Query → Option (List ℕ)
@@ -28,6 +36,7 @@ room_named (ask.StateIds room id) = Some room
 room_named (ask.EventAuth room id) = Some room
 room_named (ask.Backfill room from limit) = Some room
 room_named (ask.Missing room earliest latest limit min_depth) = Some room
+room_named (ask.MakeJoin room user versions) = Some room
 
 -- ---- sets of events, in an order
 
@@ -73,6 +82,44 @@ missing_events rows earliest latest limit min_depth =
     && nat_le min_depth (depth_of (event rows p)) && not (row rows p).rejected) in
     sorted (depth_rising rows) (take (min limit 20) (sorted (depth_falling rows) found))
 
+-- ---- Server-Server API, joining rooms, make_join: the template, without the `origin` that the server adds
+
+abbrev pub string_items : List (List ℕ) → Items
+string_items [] = no_items
+string_items (s ∷ ss) = item (string s) (string_items ss)
+
+-- a join of the user
+abbrev pub join_event : List (List ℕ) → List (List ℕ) → ℕ → ℕ → List ℕ → List ℕ → Event
+join_event auth prev depth now room user =
+    object (member (codes "auth_events") (array (string_items auth))
+    (member (codes "content") (object (member (codes "membership") (string (codes "join")) no_members))
+    (member (codes "depth") (number (unsigned depth))
+    (member (codes "origin_server_ts") (number (unsigned now))
+    (member (codes "prev_events") (array (string_items prev))
+    (member (codes "room_id") (string room)
+    (member (codes "sender") (string user)
+    (member (codes "state_key") (string user) (member (codes "type") (string (codes "m.room.member")) no_members)))))))))
+
+-- the greatest depth of these events
+abbrev pub greatest_depth : List Row → List ℕ → ℕ
+greatest_depth rows ps = fold (λ d p. max d (depth_of (event rows p))) 0 ps
+
+-- the events on which a join is to follow: the deepest forward extremities, at most 20
+abbrev pub join_prev_events : List Kept → List ℕ
+join_prev_events kept = take 20 (sorted (depth_falling (rows_of kept)) (forward_extremities kept))
+
+-- the events of the current state on which a join of the user is to rest
+abbrev pub join_auth_events : List Kept → ℕ → List ℕ → List ℕ → List ℕ
+join_auth_events kept now room user =
+    filter_map (entry (current_state kept)) (needed_keys (join_event [] [] 0 now room user))
+
+unfoldable pub join_template : List Kept → ℕ → List ℕ → List ℕ → Event
+join_template kept now room user =
+    let rows = rows_of kept in
+    let auth = join_auth_events kept now room user in
+    let prev = join_prev_events kept in
+    join_event (ids_of rows auth) (ids_of rows prev) (min (greatest_depth rows prev + 1) largest) now room user
+
 -- ---- the answer to a query, refused by the first of its checks
 
 abbrev pub Answered : Type 0
@@ -116,6 +163,23 @@ events_reply kept origin ps = Ok (gives.Events (filter_map (shown kept origin) p
 unfoldable pub event_shown : List Kept → List ℕ → List ℕ → Option Event
 event_shown kept origin id = option_and_then (shown kept origin) (place_of (rows_of kept) id)
 
+-- the room's current state, as the rules look at it
+abbrev pub current_view : List Kept → StateView
+current_view kept = view (rows_of kept) (current_state kept)
+
+abbrev pub template_by : Option Rule → Event → Answered
+template_by None e = Ok (gives.Template e)
+template_by (Some rule) e = Err (denied.Rule rule)
+
+-- the user is of the asking server, which knows version 6, and the rules allow the join in the current state
+abbrev pub make_join : List Kept → List ℕ → ℕ → List ℕ → List ℕ → List (List ℕ) → Answered
+make_join kept origin now room user versions =
+    let template = join_template kept now room user in
+    unless (not (acl_allows kept origin)) AccessList
+    (unless (not (bytes_eq (server_of user) origin)) OtherServer
+    (unless (not (list_any (bytes_eq (codes "6")) versions)) WrongVersion
+    (template_by (rules template (current_view kept)) template)))
+
 unfoldable pub query_answer : List Kept → List ℕ → ℕ → Query → Answered
 query_answer kept origin now (ask.Event id) = given_or NotFound (option_map gives.Event (event_shown kept origin id))
 query_answer kept origin now (ask.State room id) =
@@ -130,3 +194,4 @@ query_answer kept origin now (ask.Backfill room from limit) =
     (events_reply kept origin (backfill (rows_of kept) from limit)))
 query_answer kept origin now (ask.Missing room earliest latest limit min_depth) =
     to_members kept origin (events_reply kept origin (missing_events (rows_of kept) earliest latest limit min_depth))
+query_answer kept origin now (ask.MakeJoin room user versions) = make_join kept origin now room user versions

@@ -5,6 +5,7 @@ ghost use Rattle.mx_room.specs.Queries.{query_answer, room_named};
 
 use crate::given_events::shown_event;
 use crate::history_queries::{backfill_answer, missing_answer};
+use crate::join_queries::join_answer;
 use crate::moments::Moment;
 use crate::queries::{Denied, Query, QueryReply};
 use crate::state_queries::{event_auth_answer, state_answer, state_ids_answer};
@@ -17,6 +18,7 @@ use std::alloc::{AllocError, Global};
 ///
 /// The access control list is asked first, and then whether the server is in the room, but not for a query that names no
 /// room. Of such a query a look-up of its id comes first, and nothing more is asked where the room does not hold the event.
+/// A server that asks how one of its users can join need not be in the room.
 pub(crate) fn answer_in(
     alloc: Global,
     timeline: &Timeline,
@@ -30,15 +32,14 @@ pub(crate) fn answer_in(
     if asks_unheld(timeline, query) {
         return Ok(Err(Denied::NotFound));
     }
-    let names_room = names_room(query);
-    if names_room && !acl_allows(timeline, origin) {
+    if names_room(query) && !acl_allows(timeline, origin) {
         return Ok(Err(Denied::AccessList));
     }
     let viewer = Viewer::of(timeline, origin);
-    if names_room && !viewer.is_in_room() {
+    if is_for_members(query) && !viewer.is_in_room() {
         return Ok(Err(Denied::NotInRoom));
     }
-    let answer = allowed_answer(alloc, timeline, &viewer, query)?;
+    let answer = allowed_answer(alloc, timeline, &viewer, now, query)?;
     Ok(answer)
 }
 
@@ -58,18 +59,26 @@ fn names_room(query: &Query) -> bool
     !matches!(query, Query::Event(_))
 }
 
+// Whether a server that is not in the room may not ask it.
+fn is_for_members(query: &Query) -> bool
+    ensures { result ≡ answers.is_for_members query.now }
+{
+    !matches!(query, Query::Event(_) | Query::MakeJoin { .. })
+}
+
 // The answer to a query of a server that may have it answered.
 fn allowed_answer(
     alloc: Global,
     timeline: &Timeline,
     viewer: &Viewer<'_, '_>,
+    now: Moment,
     query: &Query,
 ) -> Result<Result<QueryReply, Denied>, AllocError>
     requires { viewer.now.kept ≡ timeline.now.kept }
     ensures reply { IfOk result (λ reply. reply
-        ≡ answers.allowed_answer timeline.now.kept viewer.now.server query.now) }
+        ≡ answers.allowed_answer timeline.now.kept viewer.now.server now query.now) }
     ensures memory { OnErr result (IsTrue (is_ok
-        (answers.allowed_answer timeline.now.kept viewer.now.server query.now))) }
+        (answers.allowed_answer timeline.now.kept viewer.now.server now query.now))) }
 {
     match query {
         Query::Event(id) => event_answer(alloc, timeline, viewer, id),
@@ -94,6 +103,11 @@ fn allowed_answer(
             *limit,
             *min_depth,
         ),
+        Query::MakeJoin {
+            room,
+            user,
+            versions,
+        } => join_answer(alloc, timeline, viewer.server(), now, room, user, versions),
     }
 }
 

@@ -1,5 +1,5 @@
-// Lists of events, and of ids, that queries and their answers hold.
-ghost use Rattle.std.specs.Prelude.{◌≡◌};
+// Lists of events, of ids, and of versions, that queries and their answers hold.
+ghost use Rattle.std.specs.Prelude.{◌≡◌, map, string_bytes};
 
 use mx_ident::EventId;
 use mx_pdu::Pdu;
@@ -67,5 +67,37 @@ impl EventIdList {
         ensures { result.now ≡ self.now }
     {
         &self.ids
+    }
+}
+
+/// Some versions of rooms, each of them any text.
+///
+/// Source: the Matrix specification, "Room Versions".
+#[derive(Debug, Drop)]
+pub struct VersionList {
+    versions: Vec<String>,
+}
+
+impl Model for VersionList {
+    ghost use Rattle.std.specs.Prelude.{List, ℕ, map, string_bytes};
+
+    ghost Value = { List (List ℕ) };
+
+    ghost view = { λ list. map string_bytes list.versions.items };
+}
+
+impl VersionList {
+    /// The list of these versions.
+    pub fn new(versions: Vec<String>) -> VersionList
+        ensures { result ≡ map string_bytes versions.items }
+    {
+        VersionList { versions }
+    }
+
+    /// Its versions.
+    pub fn as_slice(&self) -> &[String]
+        ensures { map string_bytes result.now ≡ self.now }
+    {
+        &self.versions
     }
 }

@@ -109,7 +109,8 @@ fn as_deep(
     Ok(deep)
 }
 
-fn depth_of_event(timeline: &Timeline, number: EventNo) -> u64
+/// The depth of an event.
+pub(crate) fn depth_of_event(timeline: &Timeline, number: EventNo) -> u64
     requires { number < length timeline.now.kept }
     ensures { result ≡ depth_of (event (rows_of timeline.now.kept) number) }
 {

@@ -2,8 +2,10 @@
 ghost use Rattle.std.specs.Prelude.{◌≡◌, option_copied};
 ghost use Rattle.mx_room.specs.Queries.{room_named};
 
-use crate::event_lists::{EventIdList, EventList};
-use mx_ident::{EventId, RoomId};
+use crate::event_lists::{EventIdList, EventList, VersionList};
+use crate::join_templates::JoinTemplate;
+use mx_auth::Rule;
+use mx_ident::{EventId, RoomId, UserId};
 use mx_pdu::Pdu;
 
 /// A query of another server.
@@ -12,10 +14,11 @@ use mx_pdu::Pdu;
 /// chain. `StateIds`: the same, by ids. `EventAuth`: the auth chain of an event. `Backfill`: the events with these ids
 /// and their ancestors, at most `limit` of them, and never more than 100. `Missing`: the ancestors of the latest events
 /// that are neither among the earliest events nor their ancestors, each at least `min_depth` deep, at most `limit` of
-/// them, and never more than 20.
+/// them, and never more than 20. `MakeJoin`: what a join of the user is to be made of; `versions` are the versions of
+/// rooms that the server knows, each of them any text.
 ///
-/// Source: the Matrix specification, Server-Server API, "Retrieving events" and "Backfilling and retrieving missing
-/// events".
+/// Source: the Matrix specification, Server-Server API, "Retrieving events", "Backfilling and retrieving missing events"
+/// and "Joining Rooms".
 #[derive(Debug, Drop)]
 pub enum Query {
     Event(EventId),
@@ -43,6 +46,11 @@ pub enum Query {
         limit: u64,
         min_depth: u64,
     },
+    MakeJoin {
+        room: RoomId,
+        user: UserId,
+        versions: VersionList,
+    },
 }
 
 impl Query {
@@ -57,6 +65,7 @@ impl Query {
             Query::EventAuth { room, .. } => Some(room),
             Query::Backfill { room, .. } => Some(room),
             Query::Missing { room, .. } => Some(room),
+            Query::MakeJoin { room, .. } => Some(room),
         }
     }
 }
@@ -66,7 +75,7 @@ impl Query {
 /// `Event`: the event, as it is shown. `State`: the events of a state in the order of their keys, and their auth chain in
 /// the order of its ids, each as it is served. `StateIds`: the ids of these. `EventAuth`: the auth chain of an event, in
 /// the order of its ids, each as it is served. `Events`: events as they are shown; for `Backfill` the deepest first, for
-/// `Missing` the deepest last, and of one depth in the order of their ids.
+/// `Missing` the deepest last, and of one depth in the order of their ids. `Template`: what the join is to be made of.
 #[derive(Debug, Drop)]
 pub enum QueryReply {
     Event(Pdu),
@@ -80,16 +89,24 @@ pub enum QueryReply {
     },
     EventAuth(EventList),
     Events(EventList),
+    Template(JoinTemplate),
 }
 
 /// Why a query gives nothing, in the order in which it is asked.
 ///
 /// `AccessList`: the room's access control list denies the server. `NotInRoom`: no user of the server is joined in the
 /// room. `NotFound`: the event is not held, or was rejected, or is not shown; for `Backfill`, none of the events is held.
-/// A query for an event by its id alone is refused by the last of these alone.
+/// A query for an event by its id alone is refused by `NotFound` alone.
+///
+/// `MakeJoin` is refused by `AccessList`, and by the last three alone. `OtherServer`: the user is of another server than
+/// the one that asks. `WrongVersion`: the server does not know version 6 of rooms. `Rule`: the line of the authorization
+/// rules that does not allow the join in the room's current state.
 #[derive(Clone, Copy, Debug, PartialEq, Eq)]
 pub enum Denied {
     AccessList,
     NotInRoom,
     NotFound,
+    OtherServer,
+    WrongVersion,
+    Rule(Rule),
 }

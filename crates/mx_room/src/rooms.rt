@@ -215,8 +215,11 @@ impl Room {
     /// whatever denies it is asked first, and takes no memory.
     ///
     /// The room's access control list is asked for every query but one for an event by its id alone, then whether the
-    /// server is in the room, then whether the event is held. Source: the Matrix specification, Server-Server API,
-    /// "Retrieving events", "Backfilling and retrieving missing events", and "Server Access Control Lists".
+    /// server is in the room, then whether the event is held. For a join it is asked, after that list, whether the user is
+    /// of the server, whether the server knows version 6 of rooms, and whether the authorization rules allow the join in
+    /// the room's current state; the server need not be in the room. Source: the Matrix specification, Server-Server API,
+    /// "Retrieving events", "Backfilling and retrieving missing events", "Joining Rooms", and "Server Access Control
+    /// Lists".
     pub fn ask(
         &self,
         alloc: Global,

@@ -1,10 +1,10 @@
 use crate::{
     Denied, EventIdList, EventList, HostError, JoinReply, Moment, Outcome, Query, QueryReply,
-    Refusal, Room, hosting_fault,
+    Refusal, Room, VersionList, hosting_fault,
 };
 use mx_auth::Rule;
 use mx_graph::EventNo;
-use mx_ident::{EventId, RoomId, ServerName};
+use mx_ident::{EventId, RoomId, ServerName, UserId};
 use mx_pdu::{Offered, Pdu};
 use mx_receipt::{OfferError, Timeline, Verdict};
 use serde_json::Value;
@@ -362,7 +362,22 @@ fn missing_query(
     })
 }
 
-// A reply as a text: the times of its events, or the ids.
+fn join_query(alloc: Global, user: &str, versions: &[&str]) -> Result<Query, AllocError> {
+    let room = room_id(alloc)?;
+    let user = UserId::parse(alloc, user).map_err(refused)?;
+    let mut known = Vec::new(alloc);
+    for version in versions {
+        known.push(String::from_str(alloc, version)?)?;
+    }
+    let versions = VersionList::new(known);
+    Ok(Query::MakeJoin {
+        room,
+        user,
+        versions,
+    })
+}
+
+// A reply as a text: the times of its events, or the ids, or what a join is to be made of.
 fn text_of_reply(alloc: Global, reply: &Result<QueryReply, Denied>) -> Result<String, AllocError> {
     match reply {
         Ok(QueryReply::Event(event)) => format!(in alloc; "event {}", event.origin_server_ts()),
@@ -378,9 +393,15 @@ fn text_of_reply(alloc: Global, reply: &Result<QueryReply, Denied>) -> Result<St
         }
         Ok(QueryReply::EventAuth(chain)) => times_of(alloc, chain),
         Ok(QueryReply::Events(events)) => times_of(alloc, events),
+        Ok(QueryReply::Template(template)) => {
+            Value::Object(template.as_map().clone()?).to_string(alloc)
+        }
         Err(Denied::AccessList) => String::from_str(alloc, "access list"),
         Err(Denied::NotInRoom) => String::from_str(alloc, "not in room"),
         Err(Denied::NotFound) => String::from_str(alloc, "not found"),
+        Err(Denied::OtherServer) => String::from_str(alloc, "other server"),
+        Err(Denied::WrongVersion) => String::from_str(alloc, "wrong version"),
+        Err(Denied::Rule(rule)) => format!(in alloc; "rule {rule}"),
     }
 }
 
@@ -554,6 +575,68 @@ fn queries_denied(rt: HostRuntime) -> Result<(), Fail> {
     );
     assert_eq!(rt; room.len(), 4);
     Ok(())
+}
+
+#[test]
+fn joins_asked_for(rt: HostRuntime) -> Result<(), Fail> {
+    let alloc = rt.alloc();
+    for (ids, expected) in [
+        (
+            ["$2", "$3", "$4"].as_slice(),
+            r#"{"auth_events":["$1","$4","$2"],"content":{"membership":"join"},"depth":4,"origin_server_ts":0,"prev_events":["$3","$4"],"room_id":"!r:a.example","sender":"@a:a.example","state_key":"@a:a.example","type":"m.room.member"}"#,
+        ),
+        (
+            [].as_slice(),
+            r#"{"auth_events":["$1"],"content":{"membership":"join"},"depth":2,"origin_server_ts":0,"prev_events":["$1"],"room_id":"!r:a.example","sender":"@a:a.example","state_key":"@a:a.example","type":"m.room.member"}"#,
+        ),
+    ] {
+        let room = room_with(alloc, ids)?;
+        let query = join_query(alloc, "@a:a.example", &["1", "6"])?;
+        let reply = ask(alloc, &room, SERVER_OF_A, &query)?;
+        assert_eq!(rt; text_of_reply(alloc, &reply)?.as_str(), expected);
+    }
+    Ok(())
+}
+
+// The room has no join rules, so that its users are invited.
+#[test]
+fn joins_denied(rt: HostRuntime) -> Result<(), Fail> {
+    let alloc = rt.alloc();
+    let room = room_with(alloc, &["$2", "$3", "$7"])?;
+    for (name, user, versions, expected) in [
+        (DENIED_SERVER, "@a:a.example", [].as_slice(), "access list"),
+        (SERVER_OF_B, "@a:a.example", [].as_slice(), "other server"),
+        (
+            SERVER_OF_B,
+            "@b:b.example",
+            ["1", "66"].as_slice(),
+            "wrong version",
+        ),
+        (
+            SERVER_OF_B,
+            "@b:b.example",
+            ["1", "6"].as_slice(),
+            "rule A4.2.6",
+        ),
+    ] {
+        let query = join_query(alloc, user, versions)?;
+        let reply = ask(alloc, &room, name, &query)?;
+        assert_eq!(rt; text_of_reply(alloc, &reply)?.as_str(), expected);
+    }
+    Ok(())
+}
+
+#[test]
+fn join_or_no_memory(rt: HostRuntime) {
+    let alloc = rt.alloc();
+    let Ok(room) = room_with(alloc, &["$2", "$3"]) else {
+        return;
+    };
+    if let Ok(query) = join_query(alloc, "@a:a.example", &["6"])
+        && let Ok(reply) = ask(alloc, &room, SERVER_OF_A, &query)
+    {
+        assert!(rt; reply.is_ok());
+    }
 }
 
 // Whether the first of the events that a query gives has a content.

@@ -188,6 +188,7 @@ module _ (holders : BTreeMap (List ℕ) Holder) (rooms : List RoomView) (origin 
   not_held (ask.EventAuth r id) alone n d l e = absurd (cc alone)
   not_held (ask.Backfill r from limit) alone n d l e = absurd (cc alone)
   not_held (ask.Missing r earliest latest limit min_depth) alone n d l e = absurd (cc alone)
+  not_held (ask.MakeJoin r user versions) alone n d l e = absurd (cc alone)
 
   -- no room holds it
   pub shown_nowhere : (q : Query) → room_named q ≡ None → ((n : ℕ) → n < length rooms → may_hold (holder_asked holders q) n ≡ false) → IsShown (rows_in rooms) (to_ask origin now q) (ToAsked (Err NotFound))
@@ -201,6 +202,7 @@ module _ (holders : BTreeMap (List ℕ) Holder) (rooms : List RoomView) (origin 
   denied_alone (ask.EventAuth r id) kept alone e = absurd (cc alone)
   denied_alone (ask.Backfill r from limit) kept alone e = absurd (cc alone)
   denied_alone (ask.Missing r earliest latest limit min_depth) kept alone e = absurd (cc alone)
+  denied_alone (ask.MakeJoin r user versions) kept alone e = absurd (cc alone)
 
   -- only the room with this number may hold it
   pub shown_there : (q : Query) (number : ℕ) (room : RoomView) (reply : Answered) → room_named q ≡ None → IsDistinct rooms → All IsReady rooms → holder_asked holders q ≡ Some (Room number)

@@ -151,6 +151,7 @@ alone_none kept origin now (ask.StateIds r id) e none = absurd (cc e)
 alone_none kept origin now (ask.EventAuth r id) e none = absurd (cc e)
 alone_none kept origin now (ask.Backfill r from limit) e none = absurd (cc e)
 alone_none kept origin now (ask.Missing r earliest latest limit min_depth) e none = absurd (cc e)
+alone_none kept origin now (ask.MakeJoin r user versions) e none = absurd (cc e)
 
 none_at : (rooms : List RoomView) (origin : List ℕ) (now : ℕ) (q : Query) → room_named q ≡ None → ((k : ℕ) (d : RoomView) → k < length rooms → is_ok (query_answer (get_or rooms k d).kept origin now q) ≡ false) → (room : List ℕ) →
     answer (rows_in rooms room) (to_ask origin now q) ≡ ToAsked (Err NotFound)

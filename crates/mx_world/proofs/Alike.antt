@@ -159,6 +159,7 @@ ask_told rows room origin now (ask.StateIds r id) reply h apart = room_told rows
 ask_told rows room origin now (ask.EventAuth r id) reply h apart = room_told rows room r (to_ask origin now (ask.EventAuth r id)) reply refl h
 ask_told rows room origin now (ask.Backfill r from limit) reply h apart = room_told rows room r (to_ask origin now (ask.Backfill r from limit)) reply refl h
 ask_told rows room origin now (ask.Missing r earliest latest limit min_depth) reply h apart = room_told rows room r (to_ask origin now (ask.Missing r earliest latest limit min_depth)) reply refl h
+ask_told rows room origin now (ask.MakeJoin r user versions) reply h apart = room_told rows room r (to_ask origin now (ask.MakeJoin r user versions)) reply refl h
 
 step_told : (rows : List ℕ → List Kept) (st : TransactionKey → Status) (room : List ℕ) (left : TransactionKey → List Offered) (step : Step) (reply : StepReply) →
     IsReply rows st step reply → IsApartAt rows room step → ((p : TransactionKey) → rest_of (st p) ≡ left p) →

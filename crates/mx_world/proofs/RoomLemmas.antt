@@ -69,6 +69,7 @@ not_found_alone (ask.StateIds r id) origin now e = absurd (cc e)
 not_found_alone (ask.EventAuth r id) origin now e = absurd (cc e)
 not_found_alone (ask.Backfill r from limit) origin now e = absurd (cc e)
 not_found_alone (ask.Missing r earliest latest limit min_depth) origin now e = absurd (cc e)
+not_found_alone (ask.MakeJoin r user versions) origin now e = absurd (cc e)
 
 -- no room of the first shards shows what is asked for
 abbrev pub NoneShown : {K : Type 0} → List (ShardView K) → ℕ → List ℕ → ℕ → Query → Type 0

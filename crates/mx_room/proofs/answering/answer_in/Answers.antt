@@ -7,7 +7,7 @@ use Rattle.mx_room.specs.Queries.{Answered}
 use Rattle.mx_room.proofs.AnswerLemmas.{answer-allowed, answer-not_allowed, answer-not_in_room, answer-unheld}
 use Rattle.mx_room.proofs.RoomLemmas.{at-error}
 use Rattle.mx_room.proofs.answering.answer_in.Goals as goal
-use Rattle.mx_room.proofs.answering.answer_in.Goals.{else-names_room-via-then-names_room+else-not-acl_allows, else-names_room-via-else-names_room, else-names_room-2-via-then-names_room-2+else-not-is_in_room, else-names_room-2-via-else-names_room-2}
+use Rattle.mx_room.proofs.answering.answer_in.Goals.{else-names_room-via-then-names_room+else-not-acl_allows, else-names_room-via-else-names_room, else-is_for_members-via-then-is_for_members+else-not-is_in_room, else-is_for_members-via-else-is_for_members}
 
 pub returns-then-asks_unheld-clause-reply : goal.returns-then-asks_unheld-clause-reply
 returns-then-asks_unheld-clause-reply c =
@@ -20,7 +20,7 @@ returns-then-not-acl_allows-clause-reply c =
 pub returns-then-not-is_in_room-clause-reply : goal.returns-then-not-is_in_room-clause-reply
 returns-then-not-is_in_room-clause-reply c =
     let server : in_room c.of-viewer.result.kept c.of-viewer.result.server ≡ in_room c.args.timeline.now.kept c.args.origin.now = ap (λ (v : ViewerView). in_room v.kept v.server) c.of-viewer.ensures in
-    answer-not_in_room c.args.timeline.now.kept c.args.origin.now c.args.now c.args.query.now (sym c.if-names_room-2.ensures)
+    answer-not_in_room c.args.timeline.now.kept c.args.origin.now c.args.now c.args.query.now (sym c.if-is_for_members.ensures)
     (λ e. elim c.else-names_room.branch [
       | else-names_room-via-then-names_room+else-not-acl_allows w ↦ sym w.if-not-acl_allows.ensures
       | else-names_room-via-else-names_room w ↦ absurd (cc (e, w.if-names_room.ensures))
@@ -32,15 +32,15 @@ returns-in_err-answer-clause-memory c =
     let server : in_room c.of-viewer.result.kept c.of-viewer.result.server ≡ in_room c.args.timeline.now.kept c.args.origin.now = ap (λ (v : ViewerView). in_room v.kept v.server) c.of-viewer.ensures in
     at-error c.from_residual.result
     (subst (λ (a : Answered). IsTrue (is_ok a))
-    (ap (λ (v : ViewerView). allowed_answer c.args.timeline.now.kept v.server c.args.query.now) c.of-viewer.ensures
+    (ap (λ (v : ViewerView). allowed_answer c.args.timeline.now.kept v.server c.args.now c.args.query.now) c.of-viewer.ensures
     ∙ answer-allowed c.args.timeline.now.kept c.args.origin.now c.args.now c.args.query.now
     (λ e. elim c.else-names_room.branch [
       | else-names_room-via-then-names_room+else-not-acl_allows w ↦ sym w.if-not-acl_allows.ensures
       | else-names_room-via-else-names_room w ↦ absurd (cc (e, w.if-names_room.ensures))
     ])
-    (λ e. elim c.else-names_room-2.branch [
-      | else-names_room-2-via-then-names_room-2+else-not-is_in_room w ↦ sym server ∙ sym w.if-not-is_in_room.ensures
-      | else-names_room-2-via-else-names_room-2 w ↦ absurd (cc (e, w.if-names_room-2.ensures))
+    (λ e. elim c.else-is_for_members.branch [
+      | else-is_for_members-via-then-is_for_members+else-not-is_in_room w ↦ sym server ∙ sym w.if-not-is_in_room.ensures
+      | else-is_for_members-via-else-is_for_members w ↦ absurd (cc (e, w.if-is_for_members.ensures))
     ]))
     c.in_err-answer.ensures.memory)
 
@@ -48,13 +48,13 @@ pub returns-clause-reply : goal.returns-clause-reply
 returns-clause-reply c =
     let server : in_room c.of-viewer.result.kept c.of-viewer.result.server ≡ in_room c.args.timeline.now.kept c.args.origin.now = ap (λ (v : ViewerView). in_room v.kept v.server) c.of-viewer.ensures in
     c.in_ok-answer.ensures.reply
-    ∙ ap (λ (v : ViewerView). allowed_answer c.args.timeline.now.kept v.server c.args.query.now) c.of-viewer.ensures
+    ∙ ap (λ (v : ViewerView). allowed_answer c.args.timeline.now.kept v.server c.args.now c.args.query.now) c.of-viewer.ensures
     ∙ answer-allowed c.args.timeline.now.kept c.args.origin.now c.args.now c.args.query.now
     (λ e. elim c.else-names_room.branch [
       | else-names_room-via-then-names_room+else-not-acl_allows w ↦ sym w.if-not-acl_allows.ensures
       | else-names_room-via-else-names_room w ↦ absurd (cc (e, w.if-names_room.ensures))
     ])
-    (λ e. elim c.else-names_room-2.branch [
-      | else-names_room-2-via-then-names_room-2+else-not-is_in_room w ↦ sym server ∙ sym w.if-not-is_in_room.ensures
-      | else-names_room-2-via-else-names_room-2 w ↦ absurd (cc (e, w.if-names_room-2.ensures))
+    (λ e. elim c.else-is_for_members.branch [
+      | else-is_for_members-via-then-is_for_members+else-not-is_in_room w ↦ sym server ∙ sym w.if-not-is_in_room.ensures
+      | else-is_for_members-via-else-is_for_members w ↦ absurd (cc (e, w.if-is_for_members.ensures))
     ])
