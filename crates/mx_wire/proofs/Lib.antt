@@ -1,4 +1,5 @@
 pub mod BodyLemmas
+pub mod ReplyLemmas
 pub mod ReadingLemmas
 pub mod PartLemmas
 pub mod ParameterLemmas
@@ -13,3 +14,4 @@ pub mod JsonLemmas
 pub mod EntryLemmas
 pub mod RequestRows
 pub mod CallRows
+pub mod ReplyRows

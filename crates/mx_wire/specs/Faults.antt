@@ -3,6 +3,8 @@
 use Rattle.std.specs.Prelude.{ℕ, List, ◌++◌, codes}
 use Rattle.serde_json.specs.Data.{object, string, Members, no_members, member}
 use Rattle.mx_canon.specs.Canonical.{canonical_text}
+use Rattle.mx_auth.specs.Rules.{label_text}
+use Rattle.mx_room.specs.Refusals.{refusal_text}
 use Rattle.mx_wire.specs.declared.faults.MissingParameter.{MissingParameter}
 use Rattle.mx_wire.specs.declared.faults.MissingParameter.TheVariants as missing
 use Rattle.mx_wire.specs.declared.faults.InvalidPart.{InvalidPart}
@@ -29,8 +31,8 @@ abbrev pub denial_text : Denial → List ℕ
 denial_text denial.ServerAcl = codes "server acl"
 denial_text denial.NotInRoom = codes "not in room"
 denial_text denial.UserOfAnotherServer = codes "user of another server"
-denial_text (denial.Rule label) = codes "rule " ++ label.now
-denial_text (denial.Refusal text) = text.now
+denial_text (denial.Rule rule) = codes "rule " ++ label_text rule
+denial_text (denial.Refusal refusal) = refusal_text refusal
 
 abbrev pub fault_status : Fault → ℕ
 fault_status NotJson = 400

@@ -9,3 +9,5 @@ pub mod BodyIds
 pub mod Offers
 pub mod Calls
 pub mod CallsShown
+pub mod ReplyBodies
+pub mod RepliesShown

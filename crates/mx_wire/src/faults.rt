@@ -3,7 +3,9 @@ ghost use Rattle.std.specs.Prelude.{◌≡◌, ◌++◌, IfOk, List, ℕ, string
 ghost use Rattle.mx_wire.specs.Faults.{fault_body, fault_code, fault_status, fault_text, invalid_name, missing_name};
 ghost use Rattle.mx_wire.specs.Bodies.{body_end};
 
+use mx_auth::Rule;
 use mx_canon::{TextBuffer, TextSink, write_key, write_string};
+use mx_room::Refusal;
 use std::alloc::{AllocError, Global};
 
 /// A parameter of a query that a request has to have.
@@ -27,7 +29,7 @@ pub enum InvalidPart {
     Path,
 }
 
-/// Why a request that is well formed is forbidden. It takes no text that is not a constant.
+/// Why a request that is well formed is forbidden.
 #[derive(Clone, Copy, Debug, PartialEq, Eq, Drop)]
 pub enum Denial {
     // The server is denied by the room's access control list.
@@ -36,10 +38,10 @@ pub enum Denial {
     NotInRoom,
     // The user that is to join is of another server.
     UserOfAnotherServer,
-    // A line of the authorization rules rejects the event: the line's label.
-    Rule(&'static str),
-    // The event is refused before it is judged: the words for it.
-    Refusal(&'static str),
+    // A line of the authorization rules rejects the event.
+    Rule(Rule),
+    // The room refuses the event before it is judged.
+    Refusal(Refusal),
 }
 
 /// What a request is told in place of an answer: a status, a code, a text, and a body that has the last two.
@@ -214,8 +216,8 @@ impl Denial {
             Denial::ServerAcl => ("server acl", ""),
             Denial::NotInRoom => ("not in room", ""),
             Denial::UserOfAnotherServer => ("user of another server", ""),
-            Denial::Rule(label) => ("rule ", label),
-            Denial::Refusal(text) => (text, ""),
+            Denial::Rule(rule) => ("rule ", rule.label()),
+            Denial::Refusal(refusal) => (refusal.text(), ""),
         }
     }
 }

@@ -8,6 +8,8 @@ mod json_bodies;
 mod missing_bodies;
 mod parameters;
 mod query_parameters;
+mod query_replies;
+mod reply_pieces;
 mod requests;
 mod routes;
 mod targets;
@@ -22,6 +24,7 @@ pub use parameters::{Parameter, all_named, first_named, parameters_of};
 pub use query_parameters::{
     MOST_BACKFILLED, event_id_parameter, limit_parameter, v_parameters, version_parameters,
 };
+pub use query_replies::{WireReply, denied_fault, fault_reply, query_reply};
 pub use requests::{LARGEST_BODY, WireRequest, read_request};
 pub use routes::{Route, Routes};
 pub use targets::{event_at, path_of, query_of, room_at, txn_at, user_at};

@@ -1,0 +1,14 @@
+use Rattle.std.proofs.Common.{◌≡◌, ◌++◌, codes, ap, ◌∙◌, refl, subst}
+use Rattle.std.specs.Str.{chars}
+use Rattle.serde_json.specs.Data.{object, string, number, unsigned}
+use Rattle.serde_json.specs.View.{members_view}
+use Rattle.mx_canon.specs.Canonical.{canonical_text, value_text, string_text}
+use Rattle.mx_wire.specs.ReplyBodies.{event_array, id_array}
+use Rattle.mx_wire.proofs.ReplyLemmas.{with_first, with_next, one, two, three}
+use Rattle.mx_wire.proofs.query_replies.write_chain.Goals as goal
+
+pub returns : goal.returns
+unfolding canonical_text chars
+returns g c = λ taken had.
+    let all = c.put-2.ensures _ (c.write_events.ensures _ (c.write_key.ensures _ (c.put.ensures taken had))) in
+    subst (g.S.TextSink.has_taken c.put-2.new.self) (one taken (codes "auth_chain") (event_array c.args.auth_chain.now)) all
