@@ -38,3 +38,9 @@ pub three : (taken k l m : List ℕ) (d e f : Data) → Are (member k d (member 
 three taken k l m d e f are =
     let whole = flat taken (member k d (member l e (member m f no_members))) ((k, value_text d) ∷ (l, value_text e) ∷ (m, value_text f) ∷ []) are in
     rw (← whole) simp (append_assoc)
+
+pub four : (taken k l m n : List ℕ) (d e f g : Data) → Are (member k d (member l e (member m f (member n g no_members)))) ((k, value_text d) ∷ (l, value_text e) ∷ (m, value_text f) ∷ (n, value_text g) ∷ [])
+    → with_next (with_next (with_next (with_first taken k (value_text d)) l (value_text e)) m (value_text f)) n (value_text g) ++ codes "}" ≡ taken ++ canonical_text (object (member k d (member l e (member m f (member n g no_members)))))
+four taken k l m n d e f g are =
+    let whole = flat taken (member k d (member l e (member m f (member n g no_members)))) ((k, value_text d) ∷ (l, value_text e) ∷ (m, value_text f) ∷ (n, value_text g) ∷ []) are in
+    rw (← whole) simp (append_assoc)

@@ -11,3 +11,4 @@ pub mod Calls
 pub mod CallsShown
 pub mod ReplyBodies
 pub mod RepliesShown
+pub mod JoinReplies

@@ -4,6 +4,7 @@
 mod authorization;
 mod calls;
 mod faults;
+mod join_replies;
 mod json_bodies;
 mod missing_bodies;
 mod parameters;
@@ -18,6 +19,7 @@ mod transaction_bodies;
 pub use authorization::origin_of;
 pub use calls::WireCall;
 pub use faults::{Denial, Fault, InvalidPart, MissingParameter, memory_body, storage_body};
+pub use join_replies::{join_reply, outcome_fault};
 pub use json_bodies::{body_value, ids_or_none, natural_or};
 pub use missing_bodies::{USUAL_LIMIT, missing_query};
 pub use parameters::{Parameter, all_named, first_named, parameters_of};

@@ -7,8 +7,8 @@ ghost use Rattle.mx_wire.specs.ReplyBodies as definition;
 ghost use Rattle.mx_wire.specs.RepliesShown.{reply_shown};
 
 use crate::faults::{Denial, Fault};
-use crate::reply_pieces::{write_events, write_ids, write_number, write_object};
-use mx_canon::{TextBuffer, TextSink, write_key, write_string};
+use crate::reply_pieces::{write_events, write_ids, write_number};
+use mx_canon::{TextBuffer, TextSink, write_key, write_object, write_string};
 use mx_ident::{EventId, ServerName};
 use mx_pdu::Pdu;
 use mx_room::{Denied, JoinTemplate, Moment, Query, QueryReply};

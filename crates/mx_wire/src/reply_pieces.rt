@@ -1,30 +1,14 @@
 // Pieces of the bodies of replies, given to a sink in canonical JSON.
 ghost use Rattle.std.specs.Prelude.{◌≡◌, ℕ, ◌++◌, List};
-ghost use Rattle.serde_json.specs.Data.{number, object, unsigned};
-ghost use Rattle.serde_json.specs.View.{members_view};
+ghost use Rattle.serde_json.specs.Data.{number, unsigned};
 ghost use Rattle.mx_canon.specs.Canonical.{canonical_text};
 ghost use Rattle.mx_canon.specs.Pieces.{comma_if};
 ghost use Rattle.mx_wire.specs.ReplyBodies.{event_array, id_array};
 
-use mx_canon::{TextSink, write_key, write_string, write_text};
+use mx_canon::{TextSink, write_object, write_string, write_text};
 use mx_ident::EventId;
 use mx_pdu::Pdu;
-use serde_json::{Map, Number, Value};
-
-// Gives the sink an object.
-pub(crate) fn write_object<S: TextSink>(sink: &mut S, members: &Map<String, Value>)
-    ensures { (taken : List ℕ) → S.has_taken sink.old taken
-        → S.has_taken sink.new (taken ++ canonical_text (object (members_view members.now.entries))) }
-{
-    sink.put(b"{");
-    let mut later = false;
-    for (key, member) in members.iter() {
-        write_key(sink, later, key.as_bytes());
-        write_text(sink, member);
-        later = true;
-    }
-    sink.put(b"}");
-}
+use serde_json::{Number, Value};
 
 // Gives the sink an array of events.
 pub(crate) fn write_events<S: TextSink>(sink: &mut S, events: &[Pdu])

@@ -9,7 +9,7 @@ use Rattle.mx_graph.specs.Record.{place_of}
 use Rattle.mx_room.specs.Offer.{Offered}
 use Rattle.mx_access.specs.Access.{shown}
 use Rattle.mx_room.specs.Queries.{given_or, event_shown, query_answer}
-use Rattle.mx_shard.specs.LoneRoom.{Call, to_host, to_offer, to_ask, call_room, answer, added, answers_alone, record_alone}
+use Rattle.mx_shard.specs.LoneRoom.{Call, to_host, to_offer, to_join, to_ask, call_room, answer, added, answers_alone, record_alone}
 use Rattle.mx_shard.specs.Shown.{IsShown, IsAnswer}
 use Rattle.mx_world.specs.Calls.{Start, left, if_put_to, offers, call_of, calls_from, calls, record_after}
 use Rattle.mx_world.specs.Replies.{Status, unopened, waiting, ended, status_after, outcome_in, next_reply, IsAnswered, IsReply, AreReplies}
@@ -21,10 +21,10 @@ use Rattle.mx_room.specs.declared.queries.Query.TheVariants as ask
 use Rattle.mx_room.specs.declared.queries.QueryReply.TheVariants as gives
 use Rattle.mx_room.specs.declared.queries.Denied.TheVariants.{NotFound}
 use Rattle.mx_shard.specs.declared.answers.Answer.{Answer}
-use Rattle.mx_shard.specs.declared.answers.Answer.TheVariants.{NotHosted, Hosted, AlreadyHosted, NotHost, ToOffered, ToAsked}
+use Rattle.mx_shard.specs.declared.answers.Answer.TheVariants.{NotHosted, Hosted, AlreadyHosted, NotHost, ToOffered, ToJoined, ToAsked}
 use Rattle.mx_book.specs.declared.transaction_keys.TransactionKey.{TransactionKey}
 use Rattle.mx_world.specs.declared.steps.Step.{Step}
-use Rattle.mx_world.specs.declared.steps.Step.TheVariants.{Host, Open, Next, Close, Ask}
+use Rattle.mx_world.specs.declared.steps.Step.TheVariants.{Host, Open, Next, Close, Join, Ask}
 use Rattle.mx_world.specs.declared.steps.StepReply.{StepReply}
 use Rattle.mx_world.specs.declared.steps.StepReply.TheVariants.{OfRoom}
 use Rattle.mx_world.proofs.NextStep.{next_record, rest_of-status}
@@ -34,6 +34,7 @@ use Rattle.mx_world.proofs.NextStep.{next_record, rest_of-status}
 unheard_adds : (kept : List Kept) (c : Call) → hears kept c ≡ false → kept ++ added kept c ≡ kept
 unheard_adds kept (to_host o) h = absurd (false≢true (sym h))
 unheard_adds kept (to_offer origin o) h = absurd (false≢true (sym h))
+unheard_adds kept (to_join origin o) h = absurd (false≢true (sym h))
 unheard_adds [] (to_ask origin now q) h = refl
 unheard_adds (k ∷ ks) (to_ask origin now q) h = append-nil (k ∷ ks)
 
@@ -130,6 +131,7 @@ found_answer rows room origin now id (Hosted i) h apart k = absurd h
 found_answer rows room origin now id (AlreadyHosted i) h apart k = absurd h
 found_answer rows room origin now id (NotHost error) h apart k = absurd h
 found_answer rows room origin now id (ToOffered o) h apart k = absurd h
+found_answer rows room origin now id (ToJoined r) h apart k = absurd h
 
 shown_told : (rows : List ℕ → List Kept) (room origin : List ℕ) (now : ℕ) (id : List ℕ) (a : Answer) →
     IsShown rows (to_ask origin now (ask.Event id)) a → IsApart rows room id →
@@ -166,6 +168,8 @@ step_told : (rows : List ℕ → List Kept) (st : TransactionKey → Status) (ro
     heard_answer (rows room) (call_of room left step) (answers_in reply) ≡ answers_alone (rows room) (heard (rows room) (call_of room left step))
 step_told rows st room left (Host o) reply h apart same_rest =
     room_told rows room (room_of o.pdu) (to_host o) reply refl h
+step_told rows st room left (Join origin o) reply h apart same_rest =
+    room_told rows room (room_of o.pdu) (to_join origin o) reply refl h
 step_told rows st room left (Open p events) reply h apart same_rest = refl
 step_told rows st room left (Close p) reply h apart same_rest = refl
 step_told rows st room left (Next p) reply h apart same_rest =

@@ -13,7 +13,7 @@ use Rattle.mx_receipt.specs.Receipt.{Kept}
 use Rattle.mx_world.specs.declared.answers.Told.{Told}
 use Rattle.mx_book.specs.declared.transaction_keys.TransactionKey.{TransactionKey}
 use Rattle.mx_world.specs.declared.steps.Step.{Step}
-use Rattle.mx_world.specs.declared.steps.Step.TheVariants.{Host, Open, Next, Close, Ask}
+use Rattle.mx_world.specs.declared.steps.Step.TheVariants.{Host, Open, Next, Close, Join, Ask}
 
 -- ---- the calls and the record
 
@@ -51,6 +51,7 @@ told_from-push s p earlier (y ∷ later) x =
 first_open_before : (p : TransactionKey) (a b : List Step) → first_open p (a ++ b) ≡ None → first_open p a ≡ None
 first_open_before p [] b h = refl
 first_open_before p (Host o ∷ a) b h = first_open_before p a b h
+first_open_before p (Join origin o ∷ a) b h = first_open_before p a b h
 first_open_before p (Next q ∷ a) b h = first_open_before p a b h
 first_open_before p (Close q ∷ a) b h = first_open_before p a b h
 first_open_before p (Ask origin now k ∷ a) b h = first_open_before p a b h
@@ -63,6 +64,7 @@ first_open_before p (Open q events ∷ a) b h =
 
 no_told_by : (p : TransactionKey) (rows : List ℕ → List Kept) (x : Step) → told_by p rows [] x ≡ []
 no_told_by p rows (Host o) = refl
+no_told_by p rows (Join origin o) = refl
 no_told_by p rows (Open q events) = refl
 no_told_by p rows (Close q) = refl
 no_told_by p rows (Ask origin now k) = refl
@@ -88,6 +90,7 @@ grown p (Some o) x = Some (record { events = o.events; since = o.since ++ x ∷ 
 first_open-push : (p : TransactionKey) (steps : List Step) (x : Step) → first_open p (steps ++ x ∷ []) ≡ grown p (first_open p steps) x
 first_open-push p [] x = refl
 first_open-push p (Host o ∷ steps) x = first_open-push p steps x
+first_open-push p (Join origin o ∷ steps) x = first_open-push p steps x
 first_open-push p (Next q ∷ steps) x = first_open-push p steps x
 first_open-push p (Close q ∷ steps) x = first_open-push p steps x
 first_open-push p (Ask origin now k ∷ steps) x = first_open-push p steps x
@@ -100,6 +103,7 @@ first_open-push p (Open q events ∷ steps) x =
 turn-push : (p : TransactionKey) (steps : List Step) (x : Step) → turn p (steps ++ x ∷ []) ≡ turn p steps + turn p (x ∷ [])
 turn-push p [] x = omega arith
 turn-push p (Host o ∷ steps) x = turn-push p steps x
+turn-push p (Join origin o ∷ steps) x = turn-push p steps x
 turn-push p (Open q events ∷ steps) x = turn-push p steps x
 turn-push p (Ask origin now k ∷ steps) x = turn-push p steps x
 turn-push p (Close q ∷ steps) x = turn-push p steps x
@@ -116,6 +120,7 @@ or_assoc false b c = refl
 is_closed-push : (p : TransactionKey) (n : ℕ) (steps : List Step) (x : Step) → is_closed p n (steps ++ x ∷ []) ≡ (is_closed p n steps || is_closed p (n - turn p steps) (x ∷ []))
 is_closed-push p n [] x = ap (λ m. is_closed p m (x ∷ [])) (let e : n ≡ n - 0 = omega arith in e)
 is_closed-push p n (Host o ∷ steps) x = is_closed-push p n steps x
+is_closed-push p n (Join origin o ∷ steps) x = is_closed-push p n steps x
 is_closed-push p n (Open q events ∷ steps) x = is_closed-push p n steps x
 is_closed-push p n (Ask origin now k ∷ steps) x = is_closed-push p n steps x
 is_closed-push p n (Close q ∷ steps) x =
@@ -131,6 +136,7 @@ is_closed-push p n (Next q ∷ steps) x =
 closed_turn : (p : TransactionKey) (n : ℕ) (steps : List Step) → is_closed p n steps ≡ true → n ≤ turn p steps
 closed_turn p n [] h = absurd (false≢true h)
 closed_turn p n (Host o ∷ steps) h = closed_turn p n steps h
+closed_turn p n (Join origin o ∷ steps) h = closed_turn p n steps h
 closed_turn p n (Open q events ∷ steps) h = closed_turn p n steps h
 closed_turn p n (Ask origin now k ∷ steps) h = closed_turn p n steps h
 closed_turn p n (Close q ∷ steps) h =
@@ -183,6 +189,7 @@ shape-ended false t events told =
 
 next_shape : (p : TransactionKey) (rows : List ℕ → List Kept) (x : Step) (c : Bool) (t : ℕ) (events : List Offered) (told : List Told) → (c ≡ true → length events ≤ t) → shape (c || is_closed p (length events - t) (x ∷ [])) (t + turn p (x ∷ [])) events (told ++ told_by p rows (drop t events) x) ≡ moved rows x p (shape c t events told)
 next_shape p rows (Host o) c t events told h = shape-same c t events told
+next_shape p rows (Join origin o) c t events told h = shape-same c t events told
 next_shape p rows (Ask origin now k) c t events told h = shape-same c t events told
 next_shape p rows (Open q new) c t events told h =
     elim (same p q) as (λ b. shape (c || false) (t + 0) events (told ++ []) ≡ cond b (after_open new.items (shape c t events told)) (shape c t events told)) [
@@ -203,6 +210,7 @@ next_shape p rows (Close q) c t events told h =
 -- a key that isn't opened, with one more step
 next_unopened : (p : TransactionKey) (rows : List ℕ → List Kept) (x : Step) → status_by p None (first_open p (x ∷ [])) [] ≡ moved rows x p unopened
 next_unopened p rows (Host o) = refl
+next_unopened p rows (Join origin o) = refl
 next_unopened p rows (Ask origin now k) = refl
 next_unopened p rows (Open q events) =
     elim (same p q) as (λ b. status_by p None (cond b (Some (record { events = events.items; since = [] })) None) [] ≡ cond b (waiting events.items []) unopened) [ true ↦ refl | false ↦ refl ]
@@ -211,6 +219,7 @@ next_unopened p rows (Close q) = elim (same p q) as (λ b. unopened ≡ cond b u
 
 ended_stays : (p : TransactionKey) (rows : List ℕ → List Kept) (x : Step) (body : List ℕ) → ended body ≡ moved rows x p (ended body)
 ended_stays p rows (Host o) body = refl
+ended_stays p rows (Join origin o) body = refl
 ended_stays p rows (Ask origin now k) body = refl
 ended_stays p rows (Open q events) body = elim (same p q) as (λ b. ended body ≡ cond b (ended body) (ended body)) [ true ↦ refl | false ↦ refl ]
 ended_stays p rows (Next q) body = elim (same p q) as (λ b. ended body ≡ cond b (ended body) (ended body)) [ true ↦ refl | false ↦ refl ]

@@ -40,10 +40,14 @@ placed-is_at views place n d name placed is l =
     let P : PlaceView → Type 0 = λ p. IsTrue (is_at p name) in
     subst P (sym (placed-get views place n d placed l)) (eq-eqb (place_number (length views) name) n (sym is))
 
--- a view that takes a view's place leaves the places
+-- a view that takes a view's place leaves what the two have alike
+pub parts-set : {V A : Type 0} (views : List V) (part : V → A) (n : ℕ) (d v : V) → n < length views → part v ≡ part (get_or views n d) → map part (set views n v) ≡ map part views
+parts-set views part n d v l same =
+    map-set part views n v ∙ ap (set (map part views) n) (same ∙ sym (get_or-map part views n d (part d) l)) ∙ set-get_or (map part views) n (part d)
+
+-- so with the places
 pub places-set : {V : Type 0} (views : List V) (place : V → PlaceView) (n : ℕ) (d v : V) → n < length views → place v ≡ place (get_or views n d) → map place (set views n v) ≡ map place views
-places-set views place n d v l same =
-    map-set place views n v ∙ ap (set (map place views) n) (same ∙ sym (get_or-map place views n d (place d) l)) ∙ set-get_or (map place views) n (place d)
+places-set views place n d v l same = parts-set views place n d v l same
 
 -- so with the same journal
 pub journals-set : {V A : Type 0} (views : List V) (journal : V → List A) (n : ℕ) (d v : V) → n < length views → journal v ≡ journal (get_or views n d) → map journal (set views n v) ≡ map journal views

@@ -24,7 +24,7 @@ use Rattle.mx_world.specs.Inside.{shard_places, ArePlaced}
 use Rattle.mx_world.proofs.PlaceLemmas.{placed-get, journal_at-get}
 use Rattle.mx_shard.specs.View.{ShardView}
 use Rattle.mx_shard.specs.declared.answers.Answer.{Answer}
-use Rattle.mx_shard.specs.declared.answers.Answer.TheVariants.{NotHosted, Hosted, AlreadyHosted, NotHost, ToOffered, ToAsked}
+use Rattle.mx_shard.specs.declared.answers.Answer.TheVariants.{NotHosted, Hosted, AlreadyHosted, NotHost, ToOffered, ToJoined, ToAsked}
 
 -- an offered event is answered by what becomes of it, unless the room is not hosted
 pub offered_answers : (kept : List Kept) (origin : List ℕ) (o : Offered) → (answer kept (to_offer origin o) ≡ NotHosted) ⊎ (answer kept (to_offer origin o) ≡ ToOffered (offer_outcome kept origin o))
@@ -83,6 +83,7 @@ not_shown rows c (Hosted i) h shown room = absurd shown
 not_shown rows c (AlreadyHosted i) h shown room = absurd shown
 not_shown rows c (NotHost error) h shown room = absurd shown
 not_shown rows c (ToOffered o) h shown room = absurd shown
+not_shown rows c (ToJoined r) h shown room = absurd shown
 
 -- of a query by an id alone a shard tells what some room of it shows
 pub alone_shown : (rows : List ℕ → List Kept) (origin : List ℕ) (now : ℕ) (q : Query) (a : Answer) → room_named q ≡ None → IsAnswer rows (to_ask origin now q) (room_named q) a → IsShown rows (to_ask origin now q) a
@@ -140,6 +141,7 @@ shown-in {K = K} shards n shard origin now query a alone placed l is here h told
     by_answer (AlreadyHosted i) h shown = absurd shown
     by_answer (NotHost error) h shown = absurd shown
     by_answer (ToOffered o) h shown = absurd shown
+    by_answer (ToJoined r) h shown = absurd shown
 
 -- ---- a query that names a room
 

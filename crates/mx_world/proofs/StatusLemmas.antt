@@ -17,8 +17,8 @@ use Rattle.mx_book.specs.declared.entries.BookEntry.{BookEntry}
 use Rattle.mx_book.specs.declared.entries.BookEntry.TheVariants.{Begun}
 use Rattle.mx_book.specs.declared.openings.Opening.TheVariants as opening
 use Rattle.mx_book.proofs.JournalLemmas.{same-self, same-eq, hold_of-here, hold_of-there}
-use Rattle.mx_world.specs.Replies.{Status, waiting, ended, body_of, open_reply, next_reply, close_reply}
-use Rattle.mx_world.specs.Moves.{rest_of, after_open, after_next, after_close}
+use Rattle.mx_world.specs.Replies.{Status, unopened, waiting, ended, body_of, open_reply, next_reply, close_reply}
+use Rattle.mx_world.specs.Moves.{rest_of, after_abandon, after_open, after_next, after_close}
 use Rattle.mx_world.specs.View.{Progress}
 use Rattle.mx_world.specs.Worlds.{journal_at, book_journals, holds_of, found, status_found, statuses_of, AtTransaction}
 use Rattle.mx_world.specs.Inside.{Agrees, AllAgree, opened, progress_after, advanced}
@@ -260,6 +260,33 @@ closed-all going going' journals journals' q progress n reply is count none body
   statuses-at going going' journals journals' q (λ _. None) (λ _. kept reply) after_close fs ss
       (after-close-all progress.rest progress.told n reply count none body ∙ ap (λ f. after_close (status_found f (holds_of journals q))) (sym is)),
   at_each Agrees (found going) (found going') (holds_of journals) (holds_of journals') q (λ _. None) (λ _. kept reply) fs ss agree tt,
+)
+
+-- ---- what is given up
+
+pub begun-open : (progress : Option Progress) (state : Hold) → is_some progress ≡ true → Agrees progress state → state ≡ begun 0
+begun-open None state h agree = absurd (false≢true h)
+begun-open (Some progress) free h agree = absurd agree
+begun-open (Some progress) (begun caller) h agree = ap begun agree
+begun-open (Some progress) (kept reply) h agree = absurd agree
+
+pub abandon-none : (progress : Option Progress) (state : Hold) → is_some progress ≡ false → after_abandon (status_found progress state) ≡ status_found progress state
+abandon-none (Some progress) state h = absurd (false≢true (sym h))
+abandon-none None free h = refl
+abandon-none None (begun caller) h = refl
+abandon-none None (kept reply) h = refl
+
+pub abandon-open : (progress : Option Progress) (state : Hold) → is_some progress ≡ true → status_found None free ≡ after_abandon (status_found progress state)
+abandon-open None state h = absurd (false≢true h)
+abandon-open (Some progress) state h = refl
+
+-- a transaction that was open is as one that was never opened
+pub abandoned-all : (going going' : List (TransactionKey × Progress)) (journals journals' : List (List BookEntry)) (q : TransactionKey) → is_some (found going q) ≡ true →
+    AtTransaction (found going) (found going') q (λ _. None) → AtTransaction (holds_of journals) (holds_of journals') q (λ _. free) → AllAgree going journals →
+    AtTransaction (statuses_of going journals) (statuses_of going' journals') q after_abandon × AllAgree going' journals'
+abandoned-all going going' journals journals' q is fs ss agree = (
+  statuses-at going going' journals journals' q (λ _. None) (λ _. free) after_abandon fs ss (abandon-open (found going q) (holds_of journals q) is),
+  at_each Agrees (found going) (found going') (holds_of journals) (holds_of journals') q (λ _. None) (λ _. free) fs ss agree tt,
 )
 
 -- ---- the next event

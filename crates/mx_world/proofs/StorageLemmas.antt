@@ -20,7 +20,7 @@ use Rattle.mx_world.specs.View.{WorldView}
 use Rattle.mx_world.specs.Worlds.{is_refused, status_in, start, IsAfter}
 use Rattle.mx_world.specs.Storage.{Fails, Lasts, FailsAt, SomeFails, OnlyAt, AllLast, ShardsLast, BooksLast, ShardFails, BookFails, NextFails, AskFails, IsStorageFailure, ChangesOwn}
 use Rattle.mx_world.specs.declared.steps.Step.{Step}
-use Rattle.mx_world.specs.declared.steps.Step.TheVariants.{Host, Open, Next, Close, Ask}
+use Rattle.mx_world.specs.declared.steps.Step.TheVariants.{Host, Open, Next, Close, Join, Ask}
 
 -- ---- one shard or book
 
@@ -133,6 +133,7 @@ ask-since f a b c (Some room) h k x = at-since (λ shard. shard.is_refused) (λ 
 pub failure-since : {K L : Type 0} (f : K → ℕ) (g : L → ℕ) (status : TransactionKey → Status) (a b c : WorldView K L) (step : Step) → ShardsLast f a.shards b.shards → BooksLast g a.books b.books → ShardsLast f b.shards c.shards → BooksLast g b.books c.books →
     IsStorageFailure f g status b c step → IsStorageFailure f g status a c step
 failure-since f g status a b c (Host o) s t s' t' x = at-since (λ shard. shard.is_refused) (λ shard. f shard.keeper) a.shards b.shards c.shards (room_of o.pdu) s s' x
+failure-since f g status a b c (Join origin o) s t s' t' x = at-since (λ shard. shard.is_refused) (λ shard. f shard.keeper) a.shards b.shards c.shards (room_of o.pdu) s s' x
 failure-since f g status a b c (Open p events) s t s' t' x = at-since (λ book. book.is_refused) (λ book. g book.keeper) a.books b.books c.books p.origin t t' x
 failure-since f g status a b c (Next p) s t s' t' x = next-since f a.shards b.shards c.shards (rest_of (status p)) s s' x
 failure-since f g status a b c (Close p) s t s' t' x = at-since (λ book. book.is_refused) (λ book. g book.keeper) a.books b.books c.books p.origin t t' x
@@ -196,6 +197,7 @@ ask_any f old new None some lasts (n, l, x) =
 -- a step that is refused for want of storage leaves some shard or book refused
 pub refused-any : {K L : Type 0} (f : K → ℕ) (g : L → ℕ) (status : TransactionKey → Status) (old new : WorldView K L) (step : Step) → 0 < length old.shards → 0 < length old.books → ChangesOwn f g status old new step → IsStorageFailure f g status old new step → IsTrue (is_refused new)
 refused-any f g status old new (Host o) s b own h = shard_any f old new (room_of o.pdu) s own.shards_last h
+refused-any f g status old new (Join origin o) s b own h = shard_any f old new (room_of o.pdu) s own.shards_last h
 refused-any f g status old new (Open p events) s b own h = book_any g old new p.origin b own.books_last h
 refused-any f g status old new (Next p) s b own h = next_any f old new (rest_of (status p)) s own.shards_last h
 refused-any f g status old new (Close p) s b own h = book_any g old new p.origin b own.books_last h

@@ -2,7 +2,7 @@
 use Rattle.std.specs.Prelude.{ℕ, ◌≡◌, Bool, true, if◌then◌else◌, List, [], ◌∷◌, ◌++◌, Option, Some, None, IsTrue, is_some}
 use Rattle.std.specs.List.{list_any}
 use Rattle.mx_graph.specs.Record.{place_of}
-use Rattle.mx_shard.specs.LoneRoom.{Call, to_host, to_offer, to_ask, added}
+use Rattle.mx_shard.specs.LoneRoom.{Call, to_host, to_offer, to_join, to_ask, added}
 use Rattle.mx_world.specs.Calls.{Start, left, call_of, calls, record_after}
 use Rattle.mx_world.specs.Replies.{AreReplies}
 use Rattle.mx_receipt.specs.Receipt.{Kept, rows_of}
@@ -33,6 +33,7 @@ hears_query kept _ = true
 abbrev pub hears : List Kept → Call → Bool
 hears kept (to_host o) = true
 hears kept (to_offer origin o) = true
+hears kept (to_join origin o) = true
 hears kept (to_ask origin now q) = hears_query kept q
 
 abbrev pub heard : List Kept → List Call → List Call

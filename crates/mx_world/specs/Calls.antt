@@ -2,12 +2,12 @@
 -- calls each room gets.
 use Rattle.std.specs.Prelude.{ℕ, ◌+◌, ◌-◌, ◌==◌, Bool, true, false, ◌&&◌, ◌||◌, if◌then◌else◌, List, [], ◌∷◌, ◌++◌, bytes_eq, drop, Option, Some, None, is_some}
 use Rattle.mx_room.specs.Offer.{Offered}
-use Rattle.mx_shard.specs.LoneRoom.{Call, to_host, to_offer, to_ask, call_room, record_alone}
+use Rattle.mx_shard.specs.LoneRoom.{Call, to_host, to_offer, to_join, to_ask, call_room, record_alone}
 use Rattle.mx_book.specs.Transactions.{same}
 use Rattle.mx_receipt.specs.Receipt.{Kept}
 use Rattle.mx_book.specs.declared.transaction_keys.TransactionKey.{TransactionKey}
 use Rattle.mx_world.specs.declared.steps.Step.{Step}
-use Rattle.mx_world.specs.declared.steps.Step.TheVariants.{Host, Open, Next, Close, Ask}
+use Rattle.mx_world.specs.declared.steps.Step.TheVariants.{Host, Open, Next, Close, Join, Ask}
 
 -- what there is before the first step: each room's record, and the replies kept for good
 pub record Start : Type 0 where
@@ -71,6 +71,7 @@ offers room origin (o ∷ rest) = if_put_to room (to_offer origin o)
 -- the call of the room that a step makes, where each key has these events left
 abbrev pub call_of : List ℕ → (TransactionKey → List Offered) → Step → List Call
 call_of room left (Host o) = if_put_to room (to_host o)
+call_of room left (Join origin o) = if_put_to room (to_join origin o)
 call_of room left (Open p events) = []
 call_of room left (Next p) = offers room p.origin (left p)
 call_of room left (Close p) = []

@@ -8,7 +8,7 @@ use Rattle.mx_world.specs.Replies.{told_of, body_of, Status, unopened, waiting, 
 use Rattle.mx_receipt.specs.Receipt.{Kept}
 use Rattle.mx_book.specs.declared.transaction_keys.TransactionKey.{TransactionKey}
 use Rattle.mx_world.specs.declared.steps.Step.{Step}
-use Rattle.mx_world.specs.declared.steps.Step.TheVariants.{Host, Open, Next, Close, Ask}
+use Rattle.mx_world.specs.declared.steps.Step.TheVariants.{Host, Open, Next, Close, Join, Ask}
 
 abbrev pub rest_of : Status → List Offered
 rest_of unopened = []
@@ -32,9 +32,16 @@ after_close (waiting [] told) = ended (body_of told)
 after_close (waiting (o ∷ rest) told) = waiting (o ∷ rest) told
 after_close (ended body) = ended body
 
+-- a transaction that is given up while it is open
+abbrev pub after_abandon : Status → Status
+after_abandon unopened = unopened
+after_abandon (waiting rest told) = unopened
+after_abandon (ended body) = ended body
+
 -- the status of p after a step, where the rooms have these records before it
 abbrev pub moved : (List ℕ → List Kept) → Step → TransactionKey → Status → Status
 moved rows (Host o) p st = st
+moved rows (Join origin o) p st = st
 moved rows (Open q events) p st = if same p q then after_open events.items st else st
 moved rows (Next q) p st = if same p q then after_next rows p.origin st else st
 moved rows (Close q) p st = if same p q then after_close st else st

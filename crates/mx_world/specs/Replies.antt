@@ -9,7 +9,7 @@ use Rattle.mx_auth.specs.Rules.{label_text}
 use Rattle.mx_receipt.specs.Receipt.{Kept}
 use Rattle.mx_receipt.specs.declared.verdicts.Verdict.{Verdict}
 use Rattle.mx_receipt.specs.declared.verdicts.Verdict.TheVariants.{Accepted, SoftFailed, Rejected}
-use Rattle.mx_shard.specs.LoneRoom.{Call, to_host, to_ask, call_room}
+use Rattle.mx_shard.specs.LoneRoom.{Call, to_host, to_join, to_ask, call_room}
 use Rattle.mx_shard.specs.Shown.{IsAnswer}
 use Rattle.mx_book.specs.Transactions.{same}
 use Rattle.mx_world.specs.Calls.{Start, Opening, opening, left, left_of, is_closed, record_after}
@@ -19,7 +19,7 @@ use Rattle.mx_room.specs.Refusals.{refusal_text}
 use Rattle.mx_world.specs.declared.answers.Told.{Told}
 use Rattle.mx_book.specs.declared.transaction_keys.TransactionKey.{TransactionKey}
 use Rattle.mx_world.specs.declared.steps.Step.{Step}
-use Rattle.mx_world.specs.declared.steps.Step.TheVariants.{Host, Open, Next, Close, Ask}
+use Rattle.mx_world.specs.declared.steps.Step.TheVariants.{Host, Open, Next, Close, Join, Ask}
 use Rattle.mx_world.specs.declared.steps.StepReply.{StepReply}
 use Rattle.mx_world.specs.declared.steps.StepReply.TheVariants.{OfRoom, Opened, Replayed, Busy, NotOpen, NoMore, OfEvent, MoreLeft, Closed}
 
@@ -128,6 +128,7 @@ IsAnswered rows call other = ⊥
 -- the reply to a step, where the rooms have these records and the transactions this status
 abbrev pub IsReply : (List ℕ → List Kept) → (TransactionKey → Status) → Step → StepReply → Type 0
 IsReply rows status (Host o) reply = IsAnswered rows (to_host o) reply
+IsReply rows status (Join origin o) reply = IsAnswered rows (to_join origin o) reply
 IsReply rows status (Open p events) reply = reply ≡ open_reply events.items (status p)
 IsReply rows status (Next p) reply = reply ≡ next_reply rows p.origin (status p)
 IsReply rows status (Close p) reply = reply ≡ close_reply (status p)

@@ -12,7 +12,7 @@ use Rattle.mx_world.specs.Replies.{Status}
 use Rattle.mx_world.specs.Moves.{rest_of}
 use Rattle.mx_world.specs.View.{WorldView}
 use Rattle.mx_world.specs.declared.steps.Step.{Step}
-use Rattle.mx_world.specs.declared.steps.Step.TheVariants.{Host, Open, Next, Close, Ask}
+use Rattle.mx_world.specs.declared.steps.Step.TheVariants.{Host, Open, Next, Close, Join, Ask}
 
 -- ---- one shard or book, by whether it is refused and how often its keeper has failed
 
@@ -84,6 +84,7 @@ AskFails failed olds news (Some room) = ShardFails failed olds news room
 -- shard. The status is that before the step.
 abbrev pub IsStorageFailure : {K L : Type 0} → (K → ℕ) → (L → ℕ) → (TransactionKey → Status) → WorldView K L → WorldView K L → Step → Type 0
 IsStorageFailure f g status old new (Host o) = ShardFails f old.shards new.shards (room_of o.pdu)
+IsStorageFailure f g status old new (Join origin o) = ShardFails f old.shards new.shards (room_of o.pdu)
 IsStorageFailure f g status old new (Open p events) = BookFails g old.books new.books p.origin
 IsStorageFailure f g status old new (Next p) = NextFails f old.shards new.shards (rest_of (status p))
 IsStorageFailure f g status old new (Close p) = BookFails g old.books new.books p.origin
@@ -92,6 +93,7 @@ IsStorageFailure f g status old new (Ask origin now q) = AskFails f old.shards n
 -- the room whose shard a step may change, and the server whose book it may
 abbrev pub own_room : (TransactionKey → Status) → Step → Option (List ℕ)
 own_room status (Host o) = Some (room_of o.pdu)
+own_room status (Join origin o) = Some (room_of o.pdu)
 own_room status (Next p) = next_room (rest_of (status p))
 own_room status step = None
 

@@ -1,6 +1,6 @@
 // Calls of books, each at the book of its transaction's server.
-ghost use Rattle.std.specs.Prelude.{◌≡◌, IfOk, OnOk, OnErr};
-ghost use Rattle.mx_book.specs.Journal.{begun, kept, opening_of};
+ghost use Rattle.std.specs.Prelude.{◌≡◌, Some, IfOk, OnOk, OnErr, map};
+ghost use Rattle.mx_book.specs.Journal.{begun, free, kept, opening_of};
 ghost use Rattle.mx_world.specs.Worlds.{book_journals, holds_of, AtTransaction};
 ghost use Rattle.mx_world.specs.Storage.{BookFails, BooksLast, OnlyAt};
 ghost use Rattle.mx_world.specs.Inside.{book_places, opened, ArePlaced};
@@ -49,4 +49,19 @@ pub(crate) fn keep_in<L: Keeper<Row = BookRow>>(
     let book = &mut books[number];
     book.keep(SOLE_CALLER, key, reply)?;
     Ok(())
+}
+
+/// Gives up a transaction that is begun: nothing is stored, and it may be begun again.
+pub(crate) fn give_up_in<L: Keeper<Row = BookRow>>(books: &mut [Book<L>], key: &TransactionKey)
+    requires placed { ArePlaced (book_places books.old) }
+    requires begun { holds_of (book_journals books.old) key.now ≡ begun SOLE_CALLER }
+    ensures states { AtTransaction (holds_of (book_journals books.old)) (holds_of (book_journals books.new)) key.now (λ _. free) }
+    ensures places { book_places books.new ≡ book_places books.old }
+    ensures keepers { map (λ book. book.keeper) books.new ≡ map (λ book. book.keeper) books.old }
+    ensures refused { map (λ book. book.is_refused) books.new ≡ map (λ book. book.is_refused) books.old }
+    ensures only { OnlyAt (Some key.now.origin) books.old books.new }
+{
+    let number = number_for(key.origin.as_str(), books.len());
+    let book = &mut books[number];
+    book.give_up(SOLE_CALLER, key);
 }

@@ -1,7 +1,7 @@
 // Calls of rooms, each at the shard of its room.
 ghost use Rattle.std.specs.Prelude.{◌≡◌, ℕ, List, None, Some, IfOk, OnOk, OnErr};
 ghost use Rattle.mx_pdu.specs.Event.{room_of};
-ghost use Rattle.mx_shard.specs.LoneRoom.{to_host, to_offer, to_ask, answer, record_alone};
+ghost use Rattle.mx_shard.specs.LoneRoom.{to_host, to_offer, to_join, to_ask, answer, record_alone};
 ghost use Rattle.mx_room.specs.Queries.{room_named};
 ghost use Rattle.mx_shard.specs.Shown.{IsAnswer, IsShown};
 ghost use Rattle.mx_shard.specs.Told.{tells_shown};
@@ -64,6 +64,28 @@ pub(crate) fn offer_in<K: Keeper<Row = ShardRow>>(
         Answer::NotHosted => Ok(None),
         _ => unreachable!(),
     }
+}
+
+/// The answer to the join of a user, which a server sends to its room.
+pub(crate) fn join_in<K: Keeper<Row = ShardRow>>(
+    shards: &mut [Shard<K>],
+    origin: &ServerName,
+    offered: &Offered,
+) -> Result<Answer, CallError>
+    requires { ArePlaced (shard_places shards.old) }
+    ensures reply { IfOk result (λ a. a ≡ answer (records_of (shard_journals shards.old) (room_of offered.now.pdu)) (to_join origin.now offered.now)) }
+    ensures records { OnOk result ((room : List ℕ) → records_of (shard_journals shards.new) room
+        ≡ record_alone (records_of (shard_journals shards.old) room) (if_put_to room (to_join origin.now offered.now))) }
+    ensures err { OnErr result (shard_journals shards.new ≡ shard_journals shards.old) }
+    ensures places { shard_places shards.new ≡ shard_places shards.old }
+    ensures storage { result ≡ Err CallError.Storage → ShardFails K.failed shards.old shards.new (room_of offered.now.pdu) }
+    ensures only { OnlyAt (Some (room_of offered.now.pdu)) shards.old shards.new }
+    ensures last { ShardsLast K.failed shards.old shards.new }
+{
+    let number = number_for(offered.pdu.room_id().as_str(), shards.len());
+    let shard = &mut shards[number];
+    let answer = shard.join(SOLE_CALLER, origin, offered)?;
+    Ok(answer)
 }
 
 /// The answer to a server's query, at a moment: that of the room which it names, or what some room shows.

@@ -11,16 +11,21 @@ use mx_shard::Answer;
 ///
 /// `Host`: host the room that this create event makes. `Open`: a server begins a transaction with these events. `Next`:
 /// the next event of a transaction that is open goes to its room. `Close`: a transaction whose events all went to their
-/// rooms gets its reply, which is kept for good. `Ask`: a server's query, at a moment.
+/// rooms gets its reply, which is kept for good. `Join`: a server sends the join of a user of its own. `Ask`: a server's
+/// query, at a moment.
 ///
-/// Source: the Matrix specification, Server-Server API, "Transactions", "Retrieving events" and "Backfilling and
-/// retrieving missing events".
+/// Source: the Matrix specification, Server-Server API, "Transactions", "Joining Rooms", "Retrieving events" and
+/// "Backfilling and retrieving missing events".
 #[derive(Debug, Drop)]
 pub enum Step {
     Host(Offered),
     Open(TransactionKey, Vec<Offered>),
     Next(TransactionKey),
     Close(TransactionKey),
+    Join {
+        origin: ServerName,
+        event: Offered,
+    },
     Ask {
         origin: ServerName,
         now: Moment,

@@ -1,17 +1,17 @@
 // Transactions: their openings, their events in turn, and their ends.
-ghost use Rattle.std.specs.Prelude.{◌≡◌, ℕ, List, [], Some, IfOk, OnOk, OnErr};
+ghost use Rattle.std.specs.Prelude.{◌≡◌, ℕ, List, [], Some, IfOk, OnOk, OnErr, map};
 ghost use Rattle.mx_shard.specs.LoneRoom.{record_alone};
 ghost use Rattle.mx_book.specs.Journal.{free};
 ghost use Rattle.mx_book.specs.declared.transaction_keys.TransactionKey.{TransactionKey};
 ghost use Rattle.mx_world.specs.Calls.{offers};
 ghost use Rattle.mx_world.specs.Replies.{open_reply, next_reply, close_reply};
-ghost use Rattle.mx_world.specs.Moves.{rest_of, after_open, after_close};
+ghost use Rattle.mx_world.specs.Moves.{rest_of, after_abandon, after_open, after_close};
 ghost use Rattle.mx_world.specs.Worlds.{shard_journals, records_of, book_journals, found, status_found, statuses_of, AtTransaction};
 ghost use Rattle.mx_world.specs.Storage.{BookFails, BooksLast, NextFails, ShardsLast, OnlyAt, next_room};
 ghost use Rattle.mx_world.specs.Inside.{shard_places, book_places, advanced, ArePlaced, AllAgree};
 
 use crate::bodies::reply_body;
-use crate::books::{begin_in, keep_in};
+use crate::books::{begin_in, give_up_in, keep_in};
 use crate::steps::StepReply;
 use crate::transactions::Transaction;
 use mx_book::{Book, Opening, TransactionKey};
@@ -134,4 +134,25 @@ pub(crate) fn close_in<L: Keeper<Row = BookRow>>(
     keep_in(books, key, kept)?;
     going.remove(key);
     Ok(StepReply::Closed(reply))
+}
+
+/// Gives up the transaction, if it is open.
+pub(crate) fn abandon_in<L: Keeper<Row = BookRow>>(
+    books: &mut [Book<L>],
+    going: &mut BTreeMap<TransactionKey, Transaction>,
+    key: &TransactionKey,
+)
+    requires placed { ArePlaced (book_places books.old) }
+    requires agree { AllAgree going.old.entries (book_journals books.old) }
+    ensures statuses { AtTransaction (statuses_of going.old.entries (book_journals books.old)) (statuses_of going.new.entries (book_journals books.new)) key.now after_abandon }
+    ensures agree { AllAgree going.new.entries (book_journals books.new) }
+    ensures places { book_places books.new ≡ book_places books.old }
+    ensures keepers { map (λ book. book.keeper) books.new ≡ map (λ book. book.keeper) books.old }
+    ensures refused { map (λ book. book.is_refused) books.new ≡ map (λ book. book.is_refused) books.old }
+    ensures only { OnlyAt (Some key.now.origin) books.old books.new }
+{
+    if going.contains_key(key) {
+        give_up_in(books, key);
+        going.remove(key);
+    }
 }

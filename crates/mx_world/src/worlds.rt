@@ -1,19 +1,19 @@
 // The server.
-ghost use Rattle.std.specs.Prelude.{◌≡◌, ◌++◌, ◌∷◌, ◌≤◌, ◌⊎◌, ℕ, List, [], length, IfOk, OnOk, OnErr, IsTrue};
+ghost use Rattle.std.specs.Prelude.{◌≡◌, ◌++◌, ◌∷◌, ◌≤◌, ◌⊎◌, ℕ, List, [], Some, length, map, IfOk, OnOk, OnErr, IsTrue};
 ghost use Rattle.mx_shard.specs.LoneRoom.{to_ask, call_room};
 ghost use Rattle.mx_shard.specs.Shown.{IsAnswer};
 ghost use Rattle.mx_book.specs.declared.transaction_keys.TransactionKey.{TransactionKey};
 ghost use Rattle.mx_world.specs.Calls.{Start, record_after};
 ghost use Rattle.mx_world.specs.Replies.{unopened, status_after, IsReply};
-ghost use Rattle.mx_world.specs.Moves.{RecordsMove, StatusesMove};
-ghost use Rattle.mx_world.specs.Worlds.{shard_journals, book_journals, records_of, statuses_of, records_in, status_in, none_open, is_refused, Stays, Moves, IsAfter};
-ghost use Rattle.mx_world.specs.Storage.{IsStorageFailure, ChangesOwn, SomeUnfit};
+ghost use Rattle.mx_world.specs.Moves.{RecordsMove, StatusesMove, after_abandon};
+ghost use Rattle.mx_world.specs.Worlds.{shard_journals, book_journals, records_of, statuses_of, records_in, status_in, none_open, is_refused, AtTransaction, Stays, Moves, IsAfter};
+ghost use Rattle.mx_world.specs.Storage.{IsStorageFailure, ChangesOwn, OnlyAt, SomeUnfit};
 ghost use Rattle.mx_world.specs.Inside.{IsSound};
 
 use crate::making::{books_over, shards_over};
-use crate::rooms::{ask_in, host_in};
+use crate::rooms::{ask_in, host_in, join_in};
 use crate::steps::{Step, StepReply};
-use crate::transacting::{close_in, next_in, open_in};
+use crate::transacting::{abandon_in, close_in, next_in, open_in};
 use crate::transactions::Transaction;
 use mx_book::{Book, TransactionKey};
 use mx_keeper::{BookRow, CallError, Keeper, MOST_PLACES, ShardRow};
@@ -105,6 +105,21 @@ impl<K: Keeper<Row = ShardRow>, L: Keeper<Row = BookRow>> World<K, L> {
         self.advance(alloc, step)
     }
 
+    /// Gives up a transaction that is open, as where a step of it was refused, and changes nothing where it is not open.
+    ///
+    /// What its events made of their rooms stays. No reply of it is kept, so that it may be opened again. It is no step,
+    /// takes no memory, and is never refused.
+    pub fn abandon(&mut self, key: &TransactionKey)
+        ensures statuses { AtTransaction (status_in self.old) (status_in self.new) key.now after_abandon }
+        ensures shards { self.new.shards ≡ self.old.shards }
+        // Nothing is stored, and no other book changes.
+        ensures keepers { map (λ book. book.keeper) self.new.books ≡ map (λ book. book.keeper) self.old.books }
+        ensures refused { map (λ book. book.is_refused) self.new.books ≡ map (λ book. book.is_refused) self.old.books }
+        ensures only { OnlyAt (Some key.now.origin) self.old.books self.new.books }
+    {
+        abandon_in(&mut self.books, &mut self.going, key);
+    }
+
     // One step, told by what is kept.
     fn advance(&mut self, alloc: Global, step: &Step) -> Result<StepReply, CallError>
         ensures reply { IfOk result (IsReply (records_in self.old) (status_in self.old) step.now) }
@@ -152,6 +167,10 @@ fn step_in<K: Keeper<Row = ShardRow>, L: Keeper<Row = BookRow>>(
         Step::Open(key, events) => open_in(alloc, books, going, key, events),
         Step::Next(key) => next_in(shards, going, key),
         Step::Close(key) => close_in(alloc, books, going, key),
+        Step::Join { origin, event } => {
+            let answer = join_in(shards, origin, event)?;
+            Ok(StepReply::OfRoom(answer))
+        }
         Step::Ask { origin, now, query } => {
             let answer = ask_in(shards, origin, *now, query)?;
             Ok(StepReply::OfRoom(answer))
