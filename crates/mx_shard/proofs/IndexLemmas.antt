@@ -14,26 +14,27 @@ use Rattle.mx_keeper.specs.declared.rows.ShardRow.{ShardRow}
 use Rattle.mx_pdu.specs.Event.{room_of}
 use Rattle.mx_receipt.specs.Receipt.{Kept, begun, kept_at}
 use Rattle.mx_receipt.specs.declared.verdicts.Verdict.TheVariants.{Accepted}
-use Rattle.mx_room.specs.Offer.{Offered, offer_outcome, row_by}
+use Rattle.mx_room.specs.Offer.{Offered}
 use Rattle.mx_room.specs.RoomView.{RoomView}
-use Rattle.mx_shard.specs.LoneRoom.{Call, call_room, to_host, to_offer, answer, added, hosting, first_rows}
+use Rattle.mx_shard.specs.LoneRoom.{Call, call_room, to_host, answer, added, hosting, first_rows}
 use Rattle.mx_shard.specs.Told.{tells_kept}
 use Rattle.mx_shard.specs.Journal.{Entry, entry_of, record_of, journal_after, stored, IsLegal}
 use Rattle.mx_shard.specs.Holders.{IsHolderKept, IsHolding, holder_of, may_hold}
 use Rattle.mx_shard.specs.Inside.{no_room, room_at, rows_at, rows_in, with_prepared, with_kept, IsReady, IsNumbered, IsMoved, IsSameMap, IsSound, entry_in, journal_of, IsWithin, IsIndexed}
-use Rattle.mx_shard.specs.Changes.{IsAnswered, IsNewRoom, IsNewRow, row_for}
+use Rattle.mx_shard.specs.Changes.{IsAnswered, IsNewRoom, IsNewRow, row_for, sent_call}
 use Rattle.mx_shard.specs.declared.answers.Answer.{Answer}
-use Rattle.mx_shard.specs.declared.answers.Answer.TheVariants.{Hosted, ToOffered}
+use Rattle.mx_shard.specs.declared.answers.Answer.TheVariants.{Hosted}
 use Rattle.mx_shard.specs.declared.holders.Holder.{Holder}
 use Rattle.mx_shard.specs.declared.hosting.NewRoom.{NewRoom}
 use Rattle.mx_shard.specs.declared.offering.NewRow.{NewRow}
+use Rattle.mx_shard.specs.declared.offering.Sending.{Sending}
 use Rattle.mx_shard.specs.declared.journal_places.JournalPlace.{JournalPlace}
 use Rattle.mx_shard.proofs.JournalLaws.{record-after, record-after-other}
 use Rattle.mx_shard.proofs.LegalLaws.{legal-after, legal-start}
 use Rattle.mx_shard.proofs.HolderLemmas.{holding_set}
 use Rattle.mx_shard.proofs.Places.{IsFound}
 use Rattle.mx_shard.proofs.RoomLemmas.{text-eq, room_found, rows_found, id_found, rows_push, rows_set, numbers_push, numbers_set, numbers_same, no_number, moved_back}
-use Rattle.mx_shard.proofs.ChangeLemmas.{offer_answer, offer_added, row_id, row_kept}
+use Rattle.mx_shard.proofs.ChangeLemmas.{sent_answers, sent_adds, sent_id, sent_kept}
 
 -- ---- rooms that grow
 
@@ -271,8 +272,8 @@ pub place_kept : (n caller : ℕ) (rooms rooms' : List RoomView) (places places'
     after ≡ places ++ record { room = n; row = length (room_at rooms n).kept; caller = caller } ∷ [] → after ≡ places' ++ record { room = n; row = length (room_at rooms' n).kept; caller = caller } ∷ []
 place_kept n caller rooms rooms' places places' after e f is = is ∙ (λ i. f i ++ record { room = n; row = length (room_at (e i) n).kept; caller = caller } ∷ [])
 
-module _ (before mid : List RoomView) (numbers : BTreeMap (List ℕ) ℕ) (places : List JournalPlace) (caller : ℕ) (origin : List ℕ) (o : Offered) (new : NewRow)
-    (indexed : IsIndexed before numbers places) (made : IsNewRow before mid numbers caller origin o new) where
+module _ (before mid : List RoomView) (numbers : BTreeMap (List ℕ) ℕ) (places : List JournalPlace) (caller : ℕ) (s : Sending) (origin : List ℕ) (o : Offered) (new : NewRow)
+    (indexed : IsIndexed before numbers places) (made : IsNewRow before mid numbers caller s origin o new) where
   abbrev old : RoomView
   old = room_at before new.number
 
@@ -285,24 +286,24 @@ module _ (before mid : List RoomView) (numbers : BTreeMap (List ℕ) ℕ) (place
   is_ready : IsReady old
   is_ready = indexed.ready new.number no_room found.within
 
-  offer_adds : added (rows_in before (room_of o.pdu)) (to_offer origin o) ≡ made.kept ∷ []
+  offer_adds : added (rows_in before (room_of o.pdu)) (sent_call s origin o) ≡ made.kept ∷ []
   offer_adds =
-      ap (λ rows. added rows (to_offer origin o)) own_rows ∙ sym (offer_added old.kept origin o is_ready.hosted)
+      ap (λ rows. added rows (sent_call s origin o)) own_rows ∙ sym (sent_adds s old.kept origin o is_ready.hosted)
       ∙ ap option_to_list made.adds
 
-  pub offer_reply : ToOffered new.outcome ≡ answer (record_of (journal_of before places) (room_of o.pdu)) (to_offer origin o)
+  pub offer_reply : new.answer ≡ answer (record_of (journal_of before places) (room_of o.pdu)) (sent_call s origin o)
   offer_reply =
-      ap ToOffered made.outcome ∙ offer_answer old.kept origin o is_ready.hosted
-      ∙ ap (λ rows. answer rows (to_offer origin o)) (sym (indexed.records (room_of o.pdu) ∙ own_rows))
+      made.answer ∙ sent_answers s old.kept origin o is_ready.hosted
+      ∙ ap (λ rows. answer rows (sent_call s origin o)) (sym (indexed.records (room_of o.pdu) ∙ own_rows))
 
-  pub offer_kept : IsTrue (tells_kept (answer (record_of (journal_of before places) (room_of o.pdu)) (to_offer origin o)))
-  offer_kept = ap tells_kept (sym offer_reply) ∙ row_kept o new.outcome made.kept (ap (row_by o) made.outcome ∙ made.adds)
+  pub offer_kept : IsTrue (tells_kept (answer (record_of (journal_of before places) (room_of o.pdu)) (sent_call s origin o)))
+  offer_kept = ap tells_kept (sym offer_reply ∙ made.answer) ∙ sent_kept s old.kept origin o made.kept made.adds
 
   pub offer_stored : (rows : Option (List ShardRow)) → rows ≡ Some (stored (journal_of before places)) →
-      with_row rows new.row ≡ Some (stored (journal_after (journal_of before places) caller (room_of o.pdu) (to_offer origin o)))
+      with_row rows new.row ≡ Some (stored (journal_after (journal_of before places) caller (room_of o.pdu) (sent_call s origin o)))
   offer_stored rows is =
-      stored_after rows (journal_of before places) caller (room_of o.pdu) (to_offer origin o) made.kept new.row is
-      (ap (λ rows. added rows (to_offer origin o)) (indexed.records (room_of o.pdu)) ∙ offer_adds) made.row
+      stored_after rows (journal_of before places) caller (room_of o.pdu) (sent_call s origin o) made.kept new.row is
+      (ap (λ rows. added rows (sent_call s origin o)) (indexed.records (room_of o.pdu)) ∙ offer_adds) made.row
 
   pub number_below : new.number < length mid
   number_below = let l : new.number < length before = found.within in subst (λ (rs : List RoomView). new.number < length rs) (sym made.rooms) (omega (arith, length-set before new.number (with_prepared old (Some made.kept))))
@@ -328,9 +329,9 @@ module _ (before mid : List RoomView) (numbers : BTreeMap (List ℕ) ℕ) (place
   at-number : room_at (set before new.number grown) new.number ≡ grown
   at-number = get_or-set_same before new.number grown no_room found.within
 
-  offer_one : IsAfter before (set before new.number grown) numbers places (places ++ last_place ∷ []) caller (room_of o.pdu) (to_offer origin o)
+  offer_one : IsAfter before (set before new.number grown) numbers places (places ++ last_place ∷ []) caller (room_of o.pdu) (sent_call s origin o)
   offer_one =
-      index-more before (set before new.number grown) numbers numbers places last_place caller (room_of o.pdu) (to_offer origin o) made.kept indexed
+      index-more before (set before new.number grown) numbers numbers places last_place caller (room_of o.pdu) (sent_call s origin o) made.kept indexed
       (grows-set before new.number grown (made.kept ∷ []) found.within refl refl)
       (numbers_set numbers before new.number grown (room_of o.pdu) indexed.numbered found (id_found before (room_of o.pdu) new.number found))
       (All-set IsReady before new.number grown (record { hosted = omega (arith, length-append old.kept (made.kept ∷ [])); free = refl }) indexed.ready)
@@ -355,12 +356,12 @@ module _ (before mid : List RoomView) (numbers : BTreeMap (List ℕ) ℕ) (place
       IsHolding holders before → IsHolderKept holders holders' → IsTrue (may_hold (holder_of holders' o.id) new.number) → IsHolding holders' after
   offer_holding after holders holders' is holding kept held =
       holding_set holders holders' before after new.number grown made.kept holding kept found.within (grown_rooms after is) refl
-      (subst (λ i. IsTrue (may_hold (holder_of holders' i) new.number)) (sym (row_id o (offer_outcome old.kept origin o) made.kept made.adds)) held)
+      (subst (λ i. IsTrue (may_hold (holder_of holders' i) new.number)) (sym (sent_id s old.kept origin o made.kept made.adds)) held)
 
   pub offer_after : (after : List RoomView) (places' : List JournalPlace) → after ≡ set mid new.number (with_kept (room_at mid new.number) (room_at mid new.number).prepared) →
-      places' ≡ places ++ record { room = new.number; row = length (room_at mid new.number).kept; caller = caller } ∷ [] → IsAfter before after numbers places places' caller (room_of o.pdu) (to_offer origin o)
+      places' ≡ places ++ record { room = new.number; row = length (room_at mid new.number).kept; caller = caller } ∷ [] → IsAfter before after numbers places places' caller (room_of o.pdu) (sent_call s origin o)
   offer_after after places' is more =
       let rooms : after ≡ set before new.number grown = grown_rooms after is in
       let ps : places' ≡ places ++ last_place ∷ [] = more ∙ ap (λ (r : RoomView). places ++ (let p : JournalPlace = record { room = new.number; row = length r.kept; caller = caller } in p) ∷ []) prepared_at in
-      subst (λ rs. IsAfter before rs numbers places places' caller (room_of o.pdu) (to_offer origin o)) (sym rooms)
-      (subst (λ qs. IsAfter before (set before new.number grown) numbers places qs caller (room_of o.pdu) (to_offer origin o)) (sym ps) offer_one)
+      subst (λ rs. IsAfter before rs numbers places places' caller (room_of o.pdu) (sent_call s origin o)) (sym rooms)
+      (subst (λ qs. IsAfter before (set before new.number grown) numbers places qs caller (room_of o.pdu) (sent_call s origin o)) (sym ps) offer_one)

@@ -6,21 +6,25 @@ use Rattle.std.proofs.lemmas.List.{map-append}
 use Rattle.std.proofs.lemmas.List.Elements.{All-head, All-tail, filter-append}
 use Rattle.std.proofs.lemmas.List.Sums.{fold-append}
 use Rattle.std.proofs.lemmas.Slice.Eq.{bytes_eq-Decides}
+use Rattle.mx_ident.specs.Identifier.{server_of}
 use Rattle.mx_redact.specs.Fields.{Event}
-use Rattle.mx_pdu.specs.Event.{has_kind}
+use Rattle.mx_pdu.specs.Event.{has_kind, sender_of}
 use Rattle.mx_graph.specs.Adding.{most_rows}
 use Rattle.mx_graph.specs.Record.{place_of}
 use Rattle.mx_keeper.specs.Places.{PlaceView, is_at}
 use Rattle.mx_receipt.specs.Receipt.{Kept, begun, received, rows_of, kept_at, lacks_cited, verdict}
 use Rattle.mx_access.specs.Acl.{acl_allows}
 use Rattle.mx_room.specs.Hosting.{host_error}
+use Rattle.mx_room.specs.Joins.{join_reply, join_reply_by, row_by_join, with_offer}
 use Rattle.mx_room.specs.Offer.{Offered, as_kept, new_outcome, allowed_outcome, offer_outcome, row_by}
 use Rattle.mx_room.specs.declared.hosting.NotARoom.{NotARoom}
+use Rattle.mx_room.specs.declared.joining.JoinReply.{JoinReply}
+use Rattle.mx_room.specs.declared.joining.JoinReply.TheVariants as join
 use Rattle.mx_room.specs.declared.outcomes.Outcome.{Outcome}
 use Rattle.mx_room.specs.declared.outcomes.Outcome.TheVariants as outcome
 use Rattle.mx_room.specs.declared.outcomes.Refusal.{Refusal}
 use Rattle.mx_room.specs.declared.outcomes.Refusal.TheVariants.{AccessList, SecondCreate, Signature, MissingEvents, RoomFull}
-use Rattle.mx_shard.specs.LoneRoom.{Call, to_host, to_offer, to_ask, added, first_rows}
+use Rattle.mx_shard.specs.LoneRoom.{Call, to_host, to_offer, to_join, to_ask, added, first_rows}
 use Rattle.mx_shard.specs.Journal.{Entry, entries_of, record_by, record_of, entry_of, journal_after}
 
 -- ---- the rows that a call adds are what receiving them makes
@@ -59,9 +63,25 @@ unfolding offer_outcome allowed_outcome
 received-offer kept origin o =
     received-if kept o (acl_allows kept origin) _ _ (received-by kept o (place_of (rows_of kept) o.id)) (received-refused kept o AccessList)
 
+-- the reply to a join, by whether its sender is of the server that sends it
+abbrev pub joining : Bool → List Kept → List ℕ → Offered → JoinReply
+joining own kept origin o = if own then join_reply_by (with_offer kept origin o) o.id (offer_outcome kept origin o) else join.NotOffered
+
+-- a join adds what an offer of the event does, or nothing
+received-sent : (kept : List Kept) (origin : List ℕ) (o : Offered) (own : Bool) →
+    fold received kept (map arrival (option_to_list (row_by_join o (joining own kept origin o)))) ≡ kept ++ option_to_list (row_by_join o (joining own kept origin o))
+received-sent kept origin o true = (received-offer kept origin o).is
+received-sent kept origin o false = sym (append-nil kept)
+
+received-join : (kept : List Kept) (origin : List ℕ) (o : Offered) →
+    fold received kept (map arrival (option_to_list (row_by_join o (join_reply kept origin o)))) ≡ kept ++ option_to_list (row_by_join o (join_reply kept origin o))
+unfolding join_reply
+received-join kept origin o = received-sent kept origin o (bytes_eq (server_of (sender_of o.pdu)) origin)
+
 received-call : (k : Kept) (ks : List Kept) (call : Call) → fold received (k ∷ ks) (map arrival (added (k ∷ ks) call)) ≡ (k ∷ ks) ++ added (k ∷ ks) call
 received-call k ks (to_host o) = sym (append-nil (k ∷ ks))
 received-call k ks (to_offer origin o) = (received-offer (k ∷ ks) origin o).is
+received-call k ks (to_join origin o) = received-join (k ∷ ks) origin o
 received-call k ks (to_ask origin now q) = sym (append-nil (k ∷ ks))
 
 -- ---- the record of entries, and then others
@@ -97,6 +117,7 @@ record-push : (room : List ℕ) (caller : ℕ) (es : List Entry) (call : Call) �
     record_by (es ++ map (entry_of room caller) (added (record_by es) call)) ≡ record_by es ++ added (record_by es) call
 record-push room caller [] (to_host o) = record-first room caller o (host_error o)
 record-push room caller [] (to_offer origin o) = refl
+record-push room caller [] (to_join origin o) = refl
 record-push room caller [] (to_ask origin now q) = refl
 record-push room caller (e ∷ es) call =
     let start : List Kept = begun e.id e.event in

@@ -6,11 +6,11 @@ use Rattle.std.proofs.lemmas.Bool.{false≢true, and_parts, and_from}
 use Rattle.std.proofs.lemmas.Bool.Decides.{nat_tests}
 use Rattle.std.proofs.lemmas.List.{map_push, length-map}
 use Rattle.std.proofs.lemmas.List.Folds.{list_all-append}
-use Rattle.mx_ident.specs.Identifier.{refuse_if}
+use Rattle.mx_ident.specs.Identifier.{refuse_if, server_of}
 use Rattle.mx_redact.specs.Fields.{Event, is_text}
 use Rattle.mx_redact.specs.Hashes.{hash_holds}
 use Rattle.mx_redact.specs.Redaction.{redact}
-use Rattle.mx_pdu.specs.Event.{has_kind, state_key_of, prev_ids, auth_ids, room_of}
+use Rattle.mx_pdu.specs.Event.{has_kind, state_key_of, prev_ids, auth_ids, room_of, sender_of}
 use Rattle.mx_pdu.proofs.RedactionLemmas.{room-redact}
 use Rattle.mx_graph.specs.Adding.{most_rows}
 use Rattle.mx_graph.specs.Record.{Row, place_of}
@@ -18,15 +18,16 @@ use Rattle.mx_receipt.specs.Receipt.{Kept, begun, received, judged, rows_of, kep
 use Rattle.mx_receipt.specs.declared.verdicts.Verdict.{Verdict}
 use Rattle.mx_access.specs.Acl.{acl_allows}
 use Rattle.mx_room.specs.Hosting.{host_error}
+use Rattle.mx_room.specs.Joins.{join_reply, row_by_join}
 use Rattle.mx_room.specs.Offer.{Offered, as_kept, new_outcome, allowed_outcome, offer_outcome, row_by}
 use Rattle.mx_room.specs.declared.hosting.NotARoom.{NotARoom}
 use Rattle.mx_room.specs.declared.hosting.NotARoom.TheVariants.{NotACreateEvent, CitesAuthEvents, Unsigned}
 use Rattle.mx_room.specs.declared.outcomes.Outcome.{Outcome}
 use Rattle.mx_room.specs.declared.outcomes.Outcome.TheVariants as outcome
 use Rattle.mx_room.specs.declared.outcomes.Refusal.TheVariants.{AccessList, SecondCreate, Signature, MissingEvents, RoomFull}
-use Rattle.mx_shard.specs.LoneRoom.{Call, to_host, to_offer, to_ask, call_room, added, first_rows}
+use Rattle.mx_shard.specs.LoneRoom.{Call, to_host, to_offer, to_join, to_ask, call_room, added, first_rows}
 use Rattle.mx_shard.specs.Journal.{Entry, entries_of, record_by, record_of, entry_of, journal_after, is_first, has_id, may_follow, all_follow, are_legal, IsLegal}
-use Rattle.mx_shard.proofs.JournalLaws.{of_entry, IsFilled, record-filled, entries-append, entries-same, entries-other}
+use Rattle.mx_shard.proofs.JournalLaws.{joining, of_entry, IsFilled, record-filled, entries-append, entries-same, entries-other}
 use Rattle.mx_shard.proofs.RoomLemmas.{text-eq, text-self}
 
 -- ---- the ids of a record are those of its entries
@@ -184,11 +185,24 @@ legal-offer room caller e es origin o (outcome.Kept v) is at legal =
 legal-offer room caller e es origin o (outcome.Known v) is at legal = ap are_legal (append-nil (e ∷ es)) ∙ legal
 legal-offer room caller e es origin o (outcome.Refused r) is at legal = ap are_legal (append-nil (e ∷ es)) ∙ legal
 
+legal-sent : (room : List ℕ) (caller : ℕ) (e : Entry) (es : List Entry) (origin : List ℕ) (o : Offered) (own : Bool) → room_of o.pdu ≡ room → are_legal (e ∷ es) ≡ true →
+    are_legal ((e ∷ es) ++ map (entry_of room caller) (option_to_list (row_by_join o (joining own (record_by (e ∷ es)) origin o)))) ≡ true
+legal-sent room caller e es origin o true at legal = legal-offer room caller e es origin o (offer_outcome (record_by (e ∷ es)) origin o) refl at legal
+legal-sent room caller e es origin o false at legal = ap are_legal (append-nil (e ∷ es)) ∙ legal
+
+legal-join : (room : List ℕ) (caller : ℕ) (e : Entry) (es : List Entry) (origin : List ℕ) (o : Offered) → room_of o.pdu ≡ room → are_legal (e ∷ es) ≡ true →
+    are_legal ((e ∷ es) ++ map (entry_of room caller) (option_to_list (row_by_join o (join_reply (record_by (e ∷ es)) origin o)))) ≡ true
+unfolding join_reply
+legal-join room caller e es origin o at legal = legal-sent room caller e es origin o (bytes_eq (server_of (sender_of o.pdu)) origin) at legal
+
 legal-filled : (room : List ℕ) (caller : ℕ) (e : Entry) (es : List Entry) (kept : List Kept) (call : Call) → IsFilled kept → record_by (e ∷ es) ≡ kept → call_room call ≡ Some room → are_legal (e ∷ es) ≡ true →
     are_legal ((e ∷ es) ++ map (entry_of room caller) (added kept call)) ≡ true
 legal-filled room caller e es [] call h is at legal = elim h [ ]
 legal-filled room caller e es (k ∷ ks) (to_host o) h is at legal = ap are_legal (append-nil (e ∷ es)) ∙ legal
 legal-filled room caller e es (k ∷ ks) (to_ask origin now q) h is at legal = ap are_legal (append-nil (e ∷ es)) ∙ legal
+legal-filled room caller e es (k ∷ ks) (to_join origin o) h is at legal =
+    subst (λ kept. are_legal ((e ∷ es) ++ map (entry_of room caller) (option_to_list (row_by_join o (join_reply kept origin o)))) ≡ true) is
+    (legal-join room caller e es origin o (let own : room_of o.pdu ≡ room = cc in own) legal)
 legal-filled room caller e es (k ∷ ks) (to_offer origin o) h is at legal =
     legal-offer room caller e es origin o (offer_outcome (k ∷ ks) origin o) (ap (λ kept. offer_outcome kept origin o) is) (let own : room_of o.pdu ≡ room = cc in own) legal
 
@@ -219,6 +233,7 @@ legal-first room caller o None is at =
 legal-call : (room : List ℕ) (caller : ℕ) (es : List Entry) (call : Call) → call_room call ≡ Some room → are_legal es ≡ true → are_legal (es ++ map (entry_of room caller) (added (record_by es) call)) ≡ true
 legal-call room caller [] (to_host o) at legal = legal-first room caller o (host_error o) refl (let own : room_of o.pdu ≡ room = cc in own)
 legal-call room caller [] (to_offer origin o) at legal = refl
+legal-call room caller [] (to_join origin o) at legal = refl
 legal-call room caller [] (to_ask origin now q) at legal = refl
 legal-call room caller (e ∷ es) call at legal = legal-filled room caller e es (record_by (e ∷ es)) call (record-filled e es) refl at legal
 

@@ -1,21 +1,25 @@
 -- What a call is about to change, for private clauses (our own).
-use Rattle.std.specs.Prelude.{◌≡◌, ℕ, List, [], bytes_eq, find, slice_set, Some, None}
+use Rattle.std.specs.Prelude.{◌≡◌, ℕ, List, [], bytes_eq, find, slice_set, Option, Some, None}
 use Rattle.std.specs.BTreeMap.{BTreeMap}
 use Rattle.mx_pdu.specs.Event.{room_of}
 use Rattle.mx_receipt.specs.Receipt.{Kept, begun}
 use Rattle.mx_room.specs.Hosting.{host_error}
+use Rattle.mx_room.specs.Joins.{join_reply, row_by_join}
 use Rattle.mx_room.specs.Offer.{Offered, offer_outcome, row_by}
 use Rattle.mx_room.specs.RoomView.{RoomView}
 use Rattle.mx_keeper.specs.declared.rows.ShardRow.{ShardRow}
-use Rattle.mx_shard.specs.LoneRoom.{Call, to_host, to_offer, answer, added}
+use Rattle.mx_shard.specs.LoneRoom.{Call, to_host, to_offer, to_join, answer, added}
 use Rattle.mx_shard.specs.Inside.{room_at, rows_in, number_of, with_prepared}
 use Rattle.mx_shard.specs.declared.answers.Answer.{Answer}
+use Rattle.mx_shard.specs.declared.answers.Answer.TheVariants.{ToOffered, ToJoined}
 use Rattle.mx_shard.specs.declared.hosting.Hosting.{Hosting}
 use Rattle.mx_shard.specs.declared.hosting.Hosting.TheVariants as hosts
 use Rattle.mx_shard.specs.declared.hosting.NewRoom.{NewRoom}
 use Rattle.mx_shard.specs.declared.offering.Offering.{Offering}
 use Rattle.mx_shard.specs.declared.offering.Offering.TheVariants as offers
 use Rattle.mx_shard.specs.declared.offering.NewRow.{NewRow}
+use Rattle.mx_shard.specs.declared.offering.Sending.{Sending}
+use Rattle.mx_shard.specs.declared.offering.Sending.TheVariants as sends
 
 -- the answer to a call that adds nothing
 pub record IsAnswered (kept : List Kept) (call : Call) (a : Answer) : Type 0 where
@@ -39,16 +43,32 @@ abbrev pub IsHosting : List RoomView → ℕ → Offered → Hosting → Type 0
 IsHosting rooms caller o (hosts.Answered a) = IsAnswered (rows_in rooms (room_of o.pdu)) (to_host o) a
 IsHosting rooms caller o (hosts.Made new) = IsNewRoom rooms caller o new
 
+-- ---- an event that a server sends
+
+abbrev pub sent_call : Sending → List ℕ → Offered → Call
+sent_call sends.Offer origin o = to_offer origin o
+sent_call sends.Join origin o = to_join origin o
+
+-- the answer of a room with events
+abbrev pub sent_answer : Sending → List Kept → List ℕ → Offered → Answer
+sent_answer sends.Offer kept origin o = ToOffered (offer_outcome kept origin o)
+sent_answer sends.Join kept origin o = ToJoined (join_reply kept origin o)
+
+-- the row that it adds
+abbrev pub sent_row : Sending → List Kept → List ℕ → Offered → Option Kept
+sent_row sends.Offer kept origin o = row_by o (offer_outcome kept origin o)
+sent_row sends.Join kept origin o = row_by_join o (join_reply kept origin o)
+
 -- an event that its room is prepared to keep
-pub record IsNewRow (before after : List RoomView) (numbers : BTreeMap (List ℕ) ℕ) (caller : ℕ) (origin : List ℕ) (o : Offered) (new : NewRow) : Type 0 where
+pub record IsNewRow (before after : List RoomView) (numbers : BTreeMap (List ℕ) ℕ) (caller : ℕ) (s : Sending) (origin : List ℕ) (o : Offered) (new : NewRow) : Type 0 where
   pub kept : Kept
   pub found : number_of numbers (room_of o.pdu) ≡ Some new.number
-  pub outcome : new.outcome ≡ offer_outcome (room_at before new.number).kept origin o
-  pub adds : row_by o (offer_outcome (room_at before new.number).kept origin o) ≡ Some kept
+  pub answer : new.answer ≡ sent_answer s (room_at before new.number).kept origin o
+  pub adds : sent_row s (room_at before new.number).kept origin o ≡ Some kept
   pub rooms : after ≡ slice_set before new.number (with_prepared (room_at before new.number) (Some kept))
   pub row : new.row ≡ row_for (room_of o.pdu) caller kept
 
--- what comes of a call that offers
-abbrev pub IsOffering : List RoomView → List RoomView → BTreeMap (List ℕ) ℕ → ℕ → List ℕ → Offered → Offering → Type 0
-IsOffering before after numbers caller origin o (offers.Answered a) = (after ≡ before) × IsAnswered (rows_in before (room_of o.pdu)) (to_offer origin o) a
-IsOffering before after numbers caller origin o (offers.Prepared new) = IsNewRow before after numbers caller origin o new
+-- what comes of a call that sends an event
+abbrev pub IsOffering : List RoomView → List RoomView → BTreeMap (List ℕ) ℕ → ℕ → Sending → List ℕ → Offered → Offering → Type 0
+IsOffering before after numbers caller s origin o (offers.Answered a) = (after ≡ before) × IsAnswered (rows_in before (room_of o.pdu)) (sent_call s origin o) a
+IsOffering before after numbers caller s origin o (offers.Prepared new) = IsNewRow before after numbers caller s origin o new

@@ -4,6 +4,7 @@ use Rattle.std.specs.Prelude.{ℕ, List, [], ◌∷◌, ◌++◌, Option, None, 
 use Rattle.mx_pdu.specs.Event.{room_of}
 use Rattle.mx_receipt.specs.Receipt.{Kept, begun}
 use Rattle.mx_room.specs.Offer.{Offered, offer_outcome, row_by}
+use Rattle.mx_room.specs.Joins.{join_reply, row_by_join}
 use Rattle.mx_room.specs.Hosting.{host_error}
 use Rattle.mx_room.specs.Queries.{room_named, query_answer}
 use Rattle.mx_room.specs.declared.hosting.NotARoom.{NotARoom}
@@ -11,20 +12,21 @@ use Rattle.mx_room.specs.declared.queries.Query.{Query}
 use Rattle.mx_room.specs.declared.queries.Query.TheVariants.{Event as ask_event}
 use Rattle.mx_room.specs.declared.queries.Denied.TheVariants.{NotFound}
 use Rattle.mx_shard.specs.declared.answers.Answer.{Answer}
-use Rattle.mx_shard.specs.declared.answers.Answer.TheVariants.{NotHosted, Hosted, AlreadyHosted, NotHost, ToOffered, ToAsked}
+use Rattle.mx_shard.specs.declared.answers.Answer.TheVariants.{NotHosted, Hosted, AlreadyHosted, NotHost, ToOffered, ToJoined, ToAsked}
 
 -- ---- calls
 
--- the origin of an offer or a query is the server that it comes from
+-- the origin of an offer, a join or a query is the server that it comes from
 pub data Call : Type 0 where
   to_host : Offered → Call
-  to_offer : (origin : List ℕ) → Offered → Call
+  to_offer to_join : (origin : List ℕ) → Offered → Call
   to_ask : (origin : List ℕ) (now : ℕ) → Query → Call
 
 -- the room that a call is put to; a query by an event's id alone is put to each
 abbrev pub call_room : Call → Option (List ℕ)
 call_room (to_host o) = Some (room_of o.pdu)
 call_room (to_offer origin o) = Some (room_of o.pdu)
+call_room (to_join origin o) = Some (room_of o.pdu)
 call_room (to_ask origin now q) = room_named q
 
 abbrev pub hosting : Offered → Option NotARoom → Answer
@@ -44,18 +46,22 @@ unhosted_answer _ = NotHosted
 abbrev pub answer : List Kept → Call → Answer
 answer [] (to_host o) = hosting o (host_error o)
 answer [] (to_offer origin o) = NotHosted
+answer [] (to_join origin o) = NotHosted
 answer [] (to_ask origin now q) = unhosted_answer q
 answer (k ∷ ks) (to_host o) = AlreadyHosted k.id
 answer (k ∷ ks) (to_offer origin o) = ToOffered (offer_outcome (k ∷ ks) origin o)
+answer (k ∷ ks) (to_join origin o) = ToJoined (join_reply (k ∷ ks) origin o)
 answer (k ∷ ks) (to_ask origin now q) = ToAsked (query_answer (k ∷ ks) origin now q)
 
 -- the rows that a call adds
 abbrev pub added : List Kept → Call → List Kept
 added [] (to_host o) = first_rows o (host_error o)
 added [] (to_offer origin o) = []
+added [] (to_join origin o) = []
 added [] (to_ask origin now q) = []
 added (k ∷ ks) (to_host o) = []
 added (k ∷ ks) (to_offer origin o) = option_to_list (row_by o (offer_outcome (k ∷ ks) origin o))
+added (k ∷ ks) (to_join origin o) = option_to_list (row_by_join o (join_reply (k ∷ ks) origin o))
 added (k ∷ ks) (to_ask origin now q) = []
 
 -- ---- a list of calls, from a record

@@ -1,12 +1,12 @@
 // A room's answers.
 use mx_ident::EventId;
-use mx_room::{Denied, NotARoom, Outcome, QueryReply};
+use mx_room::{Denied, JoinReply, NotARoom, Outcome, QueryReply};
 
 /// What a room answers to a call.
 ///
 /// `NotHosted`: the room is not hosted. `Hosted`: it is hosted from now on, by the event with this id. `AlreadyHosted`:
 /// it was hosted, by the create event with this id. `NotHost`: the event makes no room. `ToOffered`: what became of an
-/// offered event. `ToAsked`: what a query gives.
+/// offered event. `ToJoined`: the reply to a join. `ToAsked`: what a query gives.
 #[derive(Debug, Drop)]
 pub enum Answer {
     NotHosted,
@@ -14,5 +14,6 @@ pub enum Answer {
     AlreadyHosted(EventId),
     NotHost(NotARoom),
     ToOffered(Outcome),
+    ToJoined(JoinReply),
     ToAsked(Result<QueryReply, Denied>),
 }

@@ -1,11 +1,10 @@
-// Events that are offered.
+// Events that servers send.
 ghost use Rattle.std.specs.Prelude.{◌≡◌, ◌<◌, ◌++◌, ◌∷◌, [], None, All, IfOk, OnOk, OnErr, IsTrue, is_some, length, option_map, slice_set, vec_len, vec_capacity};
 ghost use Rattle.mx_pdu.specs.Event.{room_of};
-ghost use Rattle.mx_room.specs.Offer.{is_kept, offer_outcome, row_by};
 ghost use Rattle.mx_shard.specs.Inside.{IsNumbered, IsReady, room_at, rows_in, with_prepared, with_kept};
-ghost use Rattle.mx_shard.specs.LoneRoom.{to_offer, answer};
+ghost use Rattle.mx_shard.specs.LoneRoom.{answer};
 ghost use Rattle.mx_shard.specs.Told.{tells_kept};
-ghost use Rattle.mx_shard.specs.Changes.{IsOffering, row_for as row_of};
+ghost use Rattle.mx_shard.specs.Changes.{IsOffering, row_for as row_of, sent_answer, sent_call, sent_row};
 
 use crate::answers::Answer;
 use crate::journal_places::JournalPlace;
@@ -13,19 +12,26 @@ use crate::storing::row_for;
 use mx_ident::{RoomId, ServerName};
 use mx_keeper::ShardRow;
 use mx_pdu::Offered;
-use mx_room::{Outcome, Room};
+use mx_room::Room;
 use std::alloc::{AllocError, Global};
 use std::collections::BTreeMap;
 
-/// An event that the room with this number is prepared to keep, with its outcome, and the row that is stored of it.
+/// How a server sends an event to its room: it offers the event, or it sends the join of a user of its own.
+#[derive(Clone, Copy)]
+pub(crate) enum Sending {
+    Offer,
+    Join,
+}
+
+/// An event that the room with this number is prepared to keep, with the answer, and the row that is stored of it.
 #[derive(Drop)]
 pub(crate) struct NewRow {
     pub number: usize,
-    pub outcome: Outcome,
+    pub answer: Answer,
     pub row: ShardRow,
 }
 
-/// What comes of a call that offers: an answer, and nothing is added; or a room that is prepared to keep the event.
+/// What comes of a call that sends an event: an answer, and nothing is added; or a room that is prepared to keep the event.
 #[derive(Drop)]
 pub(crate) enum Offering {
     Answered(Answer),
@@ -37,50 +43,77 @@ pub(crate) fn offering_in(
     rooms: &mut [Room],
     numbers: &BTreeMap<RoomId, usize>,
     caller: u64,
+    sending: Sending,
     origin: &ServerName,
     offered: &Offered,
 ) -> Result<Offering, AllocError>
     requires numbered { IsNumbered numbers.now rooms.old }
     requires ready { All IsReady rooms.old }
-    ensures offering { IfOk result (λ offering. IsOffering rooms.old rooms.new numbers.now caller origin.now offered.now offering) }
-    ensures memory { OnErr result (IsTrue (tells_kept (answer (rows_in rooms.old (room_of offered.now.pdu)) (to_offer origin.now offered.now)))) }
+    ensures offering { IfOk result (λ offering. IsOffering rooms.old rooms.new numbers.now caller sending origin.now offered.now offering) }
+    ensures memory { OnErr result (IsTrue (tells_kept (answer (rows_in rooms.old (room_of offered.now.pdu)) (sent_call sending origin.now offered.now)))) }
     ensures err { OnErr result (rooms.new ≡ rooms.old) }
 {
     let Some(number) = numbers.get(offered.pdu.room_id()) else {
         return Ok(Offering::Answered(Answer::NotHosted));
     };
     let room = &mut rooms[*number];
-    let (outcome, row) = prepare_in(alloc, room, caller, origin, offered)?;
+    let (answer, row) = prepare_in(alloc, room, caller, sending, origin, offered)?;
     match row {
         Some(row) => Ok(Offering::Prepared(NewRow {
             number: *number,
-            outcome,
+            answer,
             row,
         })),
-        None => Ok(Offering::Answered(Answer::ToOffered(outcome))),
+        None => Ok(Offering::Answered(answer)),
     }
 }
 
-// What becomes of the event, and the row that is stored of it where the room is prepared to keep it.
+// The answer, and the row that is stored of the event where the room is prepared to keep it.
 fn prepare_in(
     alloc: Global,
     room: &mut Room,
     caller: u64,
+    sending: Sending,
     origin: &ServerName,
     offered: &Offered,
-) -> Result<(Outcome, Option<ShardRow>), AllocError>
-    ensures outcome { IfOk result (λ told. told.0 ≡ offer_outcome room.old.kept origin.now offered.now) }
-    ensures row { IfOk result (λ told. told.1 ≡ option_map (row_of (room_of offered.now.pdu) caller) (row_by offered.now (offer_outcome room.old.kept origin.now offered.now))) }
-    ensures prepared { OnOk result (room.new ≡ with_prepared room.old (row_by offered.now (offer_outcome room.old.kept origin.now offered.now))) }
-    ensures memory { OnErr result (IsTrue (is_kept (offer_outcome room.old.kept origin.now offered.now))) }
+) -> Result<(Answer, Option<ShardRow>), AllocError>
+    ensures answer { IfOk result (λ told. told.0 ≡ sent_answer sending room.old.kept origin.now offered.now) }
+    ensures row { IfOk result (λ told. told.1 ≡ option_map (row_of (room_of offered.now.pdu) caller) (sent_row sending room.old.kept origin.now offered.now)) }
+    ensures prepared { OnOk result (room.new ≡ with_prepared room.old (sent_row sending room.old.kept origin.now offered.now)) }
+    ensures memory { OnErr result (IsTrue (tells_kept (sent_answer sending room.old.kept origin.now offered.now))) }
     ensures err { OnErr result (room.new ≡ with_prepared room.old None) }
 {
-    let outcome = room.prepare(alloc, origin, offered)?;
+    let answer = send_to(alloc, room, sending, origin, offered)?;
     match row_in(room, caller, offered) {
-        Ok(row) => Ok((outcome, row)),
+        Ok(row) => Ok((answer, row)),
         Err(error) => {
             room.discard();
             Err(error)
+        }
+    }
+}
+
+// The answer of the room, which is then prepared to keep the event where it keeps it.
+fn send_to(
+    alloc: Global,
+    room: &mut Room,
+    sending: Sending,
+    origin: &ServerName,
+    offered: &Offered,
+) -> Result<Answer, AllocError>
+    ensures answer { IfOk result (λ answer. answer ≡ sent_answer sending room.old.kept origin.now offered.now) }
+    ensures prepared { OnOk result (room.new ≡ with_prepared room.old (sent_row sending room.old.kept origin.now offered.now)) }
+    ensures memory { OnErr result (IsTrue (tells_kept (sent_answer sending room.old.kept origin.now offered.now))) }
+    ensures err { OnErr result (room.new ≡ with_prepared room.old None) }
+{
+    match sending {
+        Sending::Offer => {
+            let outcome = room.prepare(alloc, origin, offered)?;
+            Ok(Answer::ToOffered(outcome))
+        }
+        Sending::Join => {
+            let reply = room.prepare_join(alloc, origin, offered)?;
+            Ok(Answer::ToJoined(reply))
         }
     }
 }
@@ -108,7 +141,7 @@ pub(crate) fn install_in(
 ) -> Answer
     requires within { new.number < length rooms.old }
     requires journal { vec_len journal.old < vec_capacity journal.old }
-    ensures reply { result ≡ Answer.ToOffered new.outcome }
+    ensures reply { result ≡ new.answer }
     ensures rooms { rooms.new ≡ slice_set rooms.old new.number (with_kept (room_at rooms.old new.number) (room_at rooms.old new.number).prepared) }
     ensures journal { journal.new.items ≡ journal.old.items ++ record { room = new.number; row = length (room_at rooms.old new.number).kept; caller = caller } ∷ [] }
 {
@@ -121,7 +154,7 @@ pub(crate) fn install_in(
         row,
         caller,
     });
-    Answer::ToOffered(new.outcome)
+    new.answer
 }
 
 /// Gives up the event that its room is prepared to keep. It takes no memory.

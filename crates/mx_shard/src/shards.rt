@@ -4,7 +4,8 @@ ghost use Rattle.mx_keeper.specs.Keeping.{Rose};
 ghost use Rattle.mx_keeper.specs.Places.{is_at};
 ghost use Rattle.mx_keeper.specs.declared.rows.ShardRow.{ShardRow};
 ghost use Rattle.mx_pdu.specs.Event.{room_of};
-ghost use Rattle.mx_shard.specs.LoneRoom.{to_host, to_offer, to_ask, call_room, answer};
+ghost use Rattle.mx_shard.specs.Changes.{sent_call};
+ghost use Rattle.mx_shard.specs.LoneRoom.{to_host, to_offer, to_join, to_ask, call_room, answer};
 ghost use Rattle.mx_shard.specs.Shown.{HasShown, IsAnswer};
 ghost use Rattle.mx_shard.specs.Told.{tells_hosted, tells_kept};
 ghost use Rattle.mx_shard.specs.Journal.{record_of, journal_after, stored, IsLegal};
@@ -14,7 +15,7 @@ use crate::asking::answer_in;
 use crate::holders::Holder;
 use crate::hosting::{Hosting, add_room, hosting_in, remove_room, reserve_room};
 use crate::journal_places::JournalPlace;
-use crate::offering::{Offering, discard_in, install_in, offering_in};
+use crate::offering::{Offering, Sending, discard_in, install_in, offering_in};
 use crate::storing::{store, store_with_place};
 use mx_ident::{EventId, RoomId, ServerName};
 use mx_keeper::{CallError, Keeper, KeeperFault, Place, ShardRow};
@@ -194,6 +195,69 @@ impl<K: Keeper<Row = ShardRow>> Shard<K> {
         ensures crash { K.is_honest self.new.keeper → (left : Option (List ShardRow)) → K.may_leave self.new.keeper left
             → K.may_leave self.old.keeper left ⊎ (left ≡ Some (stored (journal_after self.old.journal caller (room_of offered.now.pdu) (to_offer origin.now offered.now)))) }
     {
+        self.send(caller, Sending::Offer, origin, offered)
+    }
+
+    /// Sends the join of a user of a server to its room, which keeps it where it can, and answers what that server is to
+    /// have of the room.
+    ///
+    /// `Memory` where the room keeps the join or answers it and no memory is left for that. `Storage` as of
+    /// [`host`](Shard::host). At an error the journal stays.
+    ///
+    /// Source: the Matrix specification, Server-Server API, "Joining Rooms".
+    pub fn join(
+        &mut self,
+        caller: u64,
+        origin: &ServerName,
+        offered: &Offered,
+    ) -> Result<Answer, CallError>
+        requires { IsTrue (is_at self.old.place (room_of offered.now.pdu)) }
+        ensures reply { IfOk result (λ reply. reply ≡ answer (record_of self.old.journal (room_of offered.now.pdu)) (to_join origin.now offered.now)) }
+        ensures journal { OnOk result (self.new.journal ≡ journal_after self.old.journal caller (room_of offered.now.pdu) (to_join origin.now offered.now)) }
+        ensures err { OnErr result (self.new.journal ≡ self.old.journal) }
+        ensures place { self.new.place ≡ self.old.place }
+
+        ensures memory { result ≡ Err CallError.Memory → IsTrue (tells_kept (answer (record_of self.old.journal (room_of offered.now.pdu)) (to_join origin.now offered.now))) }
+        ensures storage { result ≡ Err CallError.Storage → (self.old.is_refused ≡ true) ⊎ Rose (K.failed self.old.keeper) (K.failed self.new.keeper) }
+        ensures refused { IsErrOf result CallError.Storage ↔ (self.new.is_refused ≡ true) }
+        ensures stays_refused { self.old.is_refused ≡ true → result ≡ Err CallError.Storage }
+        ensures counted { K.failed self.old.keeper ≤ K.failed self.new.keeper }
+
+        // As of `host`.
+        ensures honest { K.is_honest self.new.keeper → K.is_honest self.old.keeper }
+        ensures durable { K.is_honest self.new.keeper → OnOk result ((left : Option (List ShardRow)) → K.may_leave self.new.keeper left → left ≡ Some (stored self.new.journal)) }
+        ensures crash { K.is_honest self.new.keeper → (left : Option (List ShardRow)) → K.may_leave self.new.keeper left
+            → K.may_leave self.old.keeper left ⊎ (left ≡ Some (stored (journal_after self.old.journal caller (room_of offered.now.pdu) (to_join origin.now offered.now)))) }
+    {
+        self.send(caller, Sending::Join, origin, offered)
+    }
+
+    // Sends an event of a server to its room.
+    fn send(
+        &mut self,
+        caller: u64,
+        sending: Sending,
+        origin: &ServerName,
+        offered: &Offered,
+    ) -> Result<Answer, CallError>
+        requires { IsTrue (is_at self.old.place (room_of offered.now.pdu)) }
+        ensures reply { IfOk result (λ reply. reply ≡ answer (record_of self.old.journal (room_of offered.now.pdu)) (sent_call sending origin.now offered.now)) }
+        ensures journal { OnOk result (self.new.journal ≡ journal_after self.old.journal caller (room_of offered.now.pdu) (sent_call sending origin.now offered.now)) }
+        ensures err { OnErr result (self.new.journal ≡ self.old.journal) }
+        ensures place { self.new.place ≡ self.old.place }
+
+        ensures memory { result ≡ Err CallError.Memory → IsTrue (tells_kept (answer (record_of self.old.journal (room_of offered.now.pdu)) (sent_call sending origin.now offered.now))) }
+        ensures storage { result ≡ Err CallError.Storage → (self.old.is_refused ≡ true) ⊎ Rose (K.failed self.old.keeper) (K.failed self.new.keeper) }
+        ensures refused { IsErrOf result CallError.Storage ↔ (self.new.is_refused ≡ true) }
+        ensures stays_refused { self.old.is_refused ≡ true → result ≡ Err CallError.Storage }
+        ensures counted { K.failed self.old.keeper ≤ K.failed self.new.keeper }
+
+        // As of `host`.
+        ensures honest { K.is_honest self.new.keeper → K.is_honest self.old.keeper }
+        ensures durable { K.is_honest self.new.keeper → OnOk result ((left : Option (List ShardRow)) → K.may_leave self.new.keeper left → left ≡ Some (stored self.new.journal)) }
+        ensures crash { K.is_honest self.new.keeper → (left : Option (List ShardRow)) → K.may_leave self.new.keeper left
+            → K.may_leave self.old.keeper left ⊎ (left ≡ Some (stored (journal_after self.old.journal caller (room_of offered.now.pdu) (sent_call sending origin.now offered.now)))) }
+    {
         if self.is_refused {
             return Err(CallError::Storage);
         }
@@ -202,6 +266,7 @@ impl<K: Keeper<Row = ShardRow>> Shard<K> {
             &mut self.rooms,
             &self.numbers,
             caller,
+            sending,
             origin,
             offered,
         )? {
