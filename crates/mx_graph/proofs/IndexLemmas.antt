@@ -1,5 +1,5 @@
 -- What is kept beside the rows agrees with them, with no row and with one more.
-use Rattle.std.proofs.Common.{◌≡◌, ℕ, zero, suc, ◌+◌, ◌==◌, ◌≤◌, ◌<◌, nat_le, Bool, true, false, cond, not, List, [], ◌∷◌, ◌++◌, length, slice_index_or, filter_map, bytes_eq, Option, Some, None, is_some, refl, sym, ap, subst, ◌∙◌, arith, eqb-true, length-append, Vec}
+use Rattle.std.proofs.Common.{◌≡◌, ℕ, zero, suc, ◌+◌, ◌==◌, ◌≤◌, ◌<◌, nat_le, Bool, true, false, cond, not, List, [], ◌∷◌, ◌++◌, length, slice_index_or, filter_map, bytes_eq, Option, Some, None, is_some, refl, sym, ap, subst, ◌∙◌, arith, eq-eqb, eqb-true, length-append, Vec}
 use Rattle.std.proofs.lemmas.Bool.Decides.{nat_tests}
 use Rattle.std.proofs.lemmas.Map.Text.{is_eq-slice_cmp}
 use Rattle.std.proofs.lemmas.Slice.Eq.{bytes_eq-Decides}
@@ -15,7 +15,8 @@ use Rattle.mx_pdu.specs.Event.{prev_ids, auth_ids}
 use Rattle.mx_graph.specs.Adding.{add_error, is_known, most_rows}
 use Rattle.mx_graph.specs.Edges.{cited, LeadDown}
 use Rattle.mx_graph.specs.Graph.{CitesDown, IsSound}
-use Rattle.mx_graph.specs.Inside.{IsIndexed}
+use Rattle.mx_graph.specs.Inside.{IsIndexed, AreKeptFor}
+use Rattle.mx_graph.specs.declared.auth_chains.AuthChains.{AuthChains}
 use Rattle.mx_graph.specs.Record.{Row, row, event, place_of, is_in, prev_events, auth_events}
 use Rattle.mx_graph.specs.Redactions.{with_event}
 use Rattle.mx_graph.proofs.Closure.{all-in}
@@ -24,8 +25,8 @@ use Rattle.mx_graph.proofs.RowLemmas.{place_of-push, place_of-known, row-new, ro
 
 -- ---- no rows
 
-pub indexed-empty : (naming : List ℕ → List ℕ) → ((id : List ℕ) → naming id ≡ []) → IsIndexed [] [] [] [] naming
-indexed-empty naming none =
+pub indexed-empty : (naming : List ℕ → List ℕ) (chains : AuthChains) → ((id : List ℕ) → naming id ≡ []) → AreKeptFor [] chains → IsIndexed [] [] [] [] naming chains
+indexed-empty naming chains none kept =
     record {
       few = omega arith;
       own_place = λ p h. absurd (omega arith);
@@ -39,6 +40,7 @@ indexed-empty naming none =
       auth_edges = λ p. refl;
       numbered = λ id. refl;
       redactions = none;
+      auth_chains = kept;
     }
 
 -- ---- a row that may be added
@@ -186,16 +188,25 @@ module _ (rows : List Row) (r : Row) (fresh : is_known rows r.id ≡ false) wher
           rw e (sym (ap (λ o. option_or o (Some (length rows))) none))
       by false e = rw e (agree id ∙ or_none (place_of rows id))
 
+pub some-same : (x y : ℕ) → Some x ≡ Some y → x ≡ y
+some-same x y e = cc
+
+sound-by : (rows : List Row) → ((p : ℕ) → p < length rows → place_of rows (row rows p).id ≡ Some p) → CitesDown rows (λ p. prev_events rows (event rows p)) → CitesDown rows (λ p. auth_events rows (event rows p)) → IsSound rows
+sound-by rows own prev auth = record { ids = λ x y h k e. some-same x y (sym (own x h) ∙ ap (place_of rows) e ∙ own y k); prev = prev; auth = auth }
+
 -- ---- one row more
 
-pub indexed-push : (rows : List Row) (r : Row) (prev auth : List (Vec ℕ Global)) (numbers after : List (List ℕ × ℕ)) (naming naming_after : List ℕ → List ℕ) (v w : Vec ℕ Global) → IsIndexed rows prev auth numbers naming → add_error rows r ≡ None
+pub indexed-push : (rows : List Row) (r : Row) (prev auth : List (Vec ℕ Global)) (numbers after : List (List ℕ × ℕ)) (naming naming_after : List ℕ → List ℕ) (chains chains_after : AuthChains) (v w : Vec ℕ Global) → IsIndexed rows prev auth numbers naming chains → add_error rows r ≡ None
     → v.items ≡ prev_events rows r.event → w.items ≡ auth_events rows r.event
     → ((id : List ℕ) → lookup (λ k. is_eq (slice_cmp nat_cmp id k)) after ≡ cond (is_eq (slice_cmp nat_cmp r.id id)) (Some (length rows)) (lookup (λ k. is_eq (slice_cmp nat_cmp id k)) numbers))
     → ((id : List ℕ) → naming_after id ≡ with_event r.event (length rows) id (naming id))
-    → IsIndexed (rows ++ r ∷ []) (prev ++ v ∷ []) (auth ++ w ∷ []) after naming_after
-indexed-push rows r prev auth numbers after naming naming_after v w indexed h prev_items auth_items step named =
+    → (IsSound (rows ++ r ∷ []) → auth_events (rows ++ r ∷ []) (event (rows ++ r ∷ []) (length rows)) ≡ w.items → AreKeptFor (rows ++ r ∷ []) chains_after)
+    → IsIndexed (rows ++ r ∷ []) (prev ++ v ∷ []) (auth ++ w ∷ []) after naming_after chains_after
+indexed-push rows r prev auth numbers after naming naming_after chains chains_after v w indexed h prev_items auth_items step named kept =
     let f : IsFree rows r = free rows r h in
     let more : length (rows ++ r ∷ []) ≡ length rows + 1 = length-append rows (r ∷ []) in
+    let sound : IsSound (rows ++ r ∷ []) =
+    sound-by (rows ++ r ∷ []) (own_place-push rows r f.fresh indexed.own_place) (down-push rows r prev_ids f.prev indexed.prev_known indexed.prev_down) (down-push rows r auth_ids f.auth indexed.auth_known indexed.auth_down) in
     record {
       few = let room : length rows + 1 ≤ most_rows = f.room in omega arith;
       own_place = own_place-push rows r f.fresh indexed.own_place;
@@ -209,12 +220,13 @@ indexed-push rows r prev auth numbers after naming naming_after v w indexed h pr
       auth_edges = edges-push rows r auth_ids f.auth indexed.auth_known auth w indexed.auth_len auth_items indexed.auth_edges;
       numbered = numbered-push rows r f.fresh (λ id. lookup (λ k. is_eq (slice_cmp nat_cmp id k)) numbers) (λ id. lookup (λ k. is_eq (slice_cmp nat_cmp id k)) after) indexed.numbered step;
       redactions = λ id. named id ∙ ap (with_event r.event (length rows) id) (indexed.redactions id) ∙ sym (redactions-push rows r id);
+      auth_chains = kept sound (cites-new rows r auth_ids f.auth indexed.auth_known (length rows) (eq-eqb (length rows) (length rows) refl) ∙ sym auth_items);
     }
 
--- the same rows, with other numbers and redactions that agree with them
-pub indexed-again : (rows : List Row) (prev auth : List (Vec ℕ Global)) (numbers after : List (List ℕ × ℕ)) (naming naming_after : List ℕ → List ℕ) → IsIndexed rows prev auth numbers naming
-    → ((id : List ℕ) → lookup (λ k. is_eq (slice_cmp nat_cmp id k)) after ≡ place_of rows id) → ((id : List ℕ) → naming_after id ≡ naming id) → IsIndexed rows prev auth after naming_after
-indexed-again rows prev auth numbers after naming naming_after indexed step named =
+-- the same rows, with other numbers, redactions and chains that agree with them
+pub indexed-again : (rows : List Row) (prev auth : List (Vec ℕ Global)) (numbers after : List (List ℕ × ℕ)) (naming naming_after : List ℕ → List ℕ) (chains chains_after : AuthChains) → IsIndexed rows prev auth numbers naming chains
+    → ((id : List ℕ) → lookup (λ k. is_eq (slice_cmp nat_cmp id k)) after ≡ place_of rows id) → ((id : List ℕ) → naming_after id ≡ naming id) → AreKeptFor rows chains_after → IsIndexed rows prev auth after naming_after chains_after
+indexed-again rows prev auth numbers after naming naming_after chains chains_after indexed step named kept =
     record {
       few = indexed.few;
       own_place = indexed.own_place;
@@ -228,20 +240,13 @@ indexed-again rows prev auth numbers after naming naming_after indexed step name
       auth_edges = indexed.auth_edges;
       numbered = step;
       redactions = λ id. named id ∙ indexed.redactions id;
+      auth_chains = kept;
     }
 
 -- ---- what follows for the rows
 
-pub some-same : (x y : ℕ) → Some x ≡ Some y → x ≡ y
-some-same x y e = cc
-
-pub indexed-sound : (rows : List Row) (prev auth : List (Vec ℕ Global)) (numbers : List (List ℕ × ℕ)) (naming : List ℕ → List ℕ) → IsIndexed rows prev auth numbers naming → IsSound rows
-indexed-sound rows prev auth numbers naming indexed =
-    record {
-      ids = λ x y h k e. some-same x y (sym (indexed.own_place x h) ∙ ap (place_of rows) e ∙ indexed.own_place y k);
-      prev = indexed.prev_down;
-      auth = indexed.auth_down;
-    }
+pub indexed-sound : (rows : List Row) (prev auth : List (Vec ℕ Global)) (numbers : List (List ℕ × ℕ)) (naming : List ℕ → List ℕ) (chains : AuthChains) → IsIndexed rows prev auth numbers naming chains → IsSound rows
+indexed-sound rows prev auth numbers naming chains indexed = sound-by rows indexed.own_place indexed.prev_down indexed.auth_down
 
 pub lead-down : (rows : List Row) (cites : ℕ → List ℕ) (edges : List (Vec ℕ Global)) → CitesDown rows cites → ((p : ℕ) → cited edges p ≡ cites p) → LeadDown (cited edges)
 lead-down rows cites edges down agree x y h = (down x y (subst (λ ys. is_in ys y ≡ true) (agree x) h)).1

@@ -9,3 +9,7 @@ pub mod GraphRows
 pub mod MarkLemmas
 pub mod LongerRecordLemmas
 pub mod RedactionLemmas
+pub mod ReachedRowLemmas
+pub mod ChainLemmas
+pub mod ChainDifferenceLemmas
+pub mod KeptChainLemmas

@@ -42,7 +42,7 @@ longer-push rows r sound after = record {
 -- ---- several rows more
 
 -- a record without its last row is sound
-sound-before : (rows : List Row) (r : Row) → IsSound (rows ++ r ∷ []) → IsSound rows
+pub sound-before : (rows : List Row) (r : Row) → IsSound (rows ++ r ∷ []) → IsSound rows
 sound-before rows r after = record { ids = ids; prev = down-pop rows r prev_ids refl after.prev; auth = down-pop rows r auth_ids refl after.auth }
   where
     ids : (x y : ℕ) → x < length rows → y < length rows → (row rows x).id ≡ (row rows y).id → x ≡ y

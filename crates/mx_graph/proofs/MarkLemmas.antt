@@ -1,6 +1,6 @@
 -- The walk over marks, from the last number down.
 use Rattle.std.proofs.Math.Seq.{take-append_seam}
-use Rattle.std.proofs.Common.{◌≡◌, ◌++◌, take, drop, ℕ, zero, suc, ◌==◌, ◌≤◌, ◌<◌, ◌+◌, ◌-◌, nat_le, nat_lt, Bool, true, false, cond, not, ◌||◌, ◌&&◌, ◌⊎◌, inl, inr, List, [], ◌∷◌, length, refl, sym, ap, subst, ◌∙◌, arith, eq-eqb, eqb-true}
+use Rattle.std.proofs.Common.{◌≡◌, ◌++◌, take, drop, ℕ, zero, suc, ◌==◌, ◌≤◌, ◌<◌, ◌+◌, ◌-◌, nat_le, nat_lt, Bool, true, false, cond, ◌||◌, ◌&&◌, ◌⊎◌, inl, inr, List, [], ◌∷◌, length, refl, sym, ap, ◌∙◌, arith, eq-eqb, eqb-true}
 use Rattle.std.proofs.lemmas.Bool.{cases_lt, eqb-false, le-leb, lt-ltb}
 use Rattle.std.proofs.lemmas.Bool.Decides.{nat_tests}
 use Rattle.std.specs.Prelude.{slice_index_or, Vec}
@@ -12,7 +12,7 @@ use Rattle.mx_graph.specs.Graph.{IsLeastClosed}
 use Rattle.mx_graph.specs.Record.{is_in}
 use Rattle.mx_graph.proofs.Closure.{one_answer, or_cases, or_left, or_right}
 
-any-to : (f : ℕ → Bool) (xs : List ℕ) → list_any f xs ≡ true → (x : ℕ) × (is_in xs x ≡ true) × (f x ≡ true)
+pub any-to : (f : ℕ → Bool) (xs : List ℕ) → list_any f xs ≡ true → (x : ℕ) × (is_in xs x ≡ true) × (f x ≡ true)
 any-to f [] e = absurd (cc e)
 any-to f (x ∷ xs) e = by (any-to f xs) (or_cases (f x) (list_any f xs) e)
   where

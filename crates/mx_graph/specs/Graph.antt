@@ -1,5 +1,6 @@
 -- Which events can be reached from others by prev events, and by auth events.
-use Rattle.std.specs.Prelude.{ℕ, zero, suc, Bool, ◌||◌, List, [], ◌++◌, length, flat_map, IsTrue, ◌<◌, ◌≡◌}
+use Rattle.std.specs.Prelude.{ℕ, zero, suc, Bool, not, ◌&&◌, ◌||◌, map, List, [], ◌++◌, length, flat_map, IsTrue, ◌<◌, ◌≡◌}
+use Rattle.std.specs.List.{list_any, list_all}
 use Rattle.mx_graph.specs.Record.{Row, events_where, is_in, row, event, prev_events, auth_events}
 
 module _ (rows : List Row) (cites : ℕ → List ℕ) (starts : List ℕ) where
@@ -21,6 +22,12 @@ ancestors rows starts = reached rows (λ p. prev_events rows (event rows p)) sta
 -- Matrix specification, State Resolution v2, auth chain: the auth events of these events, theirs, and so on
 unfoldable pub auth_chain : List Row → List ℕ → List ℕ
 auth_chain rows starts = reached rows (λ p. auth_events rows (event rows p)) starts
+
+-- whether an event is in the auth chains of some sets, and not of all, and not in that of what they share
+abbrev pub is_in_difference : List Row → List ℕ → List (List ℕ) → ℕ → Bool
+is_in_difference rows shared apart p =
+    let chains = map (auth_chain rows) apart in
+    (list_any (λ chain. is_in chain p) chains && not (list_all (λ chain. is_in chain p) chains)) && not (is_in (auth_chain rows shared) p)
 
 -- ---- what these sets are
 

@@ -6,3 +6,4 @@ pub mod Edges
 pub mod Inside
 pub mod Closing
 pub mod Redactions
+pub mod AuthChains

@@ -1,5 +1,5 @@
 // The graph of a room.
-ghost use Rattle.std.specs.Prelude.{◌≡◌, ◌+◌, ◌<◌, ◌≤◌, ◌↔◌, All, IfOk, IfSome, IsErrOf, IsTrue, MatchOption, None, OnErr, OnOk, Some, [], ◌∷◌, ◌++◌, ◌&&◌, ℕ, filter_map, length, nat_le};
+ghost use Rattle.std.specs.Prelude.{◌≡◌, ◌+◌, ◌<◌, ◌≤◌, ◌↔◌, All, IfOk, IfSome, IsErrOf, IsTrue, MatchOption, None, OnErr, OnOk, Some, [], ◌∷◌, ◌++◌, ◌&&◌, ℕ, filter_map, length, map, nat_le};
 ghost use Rattle.std.specs.List.{list_all};
 ghost use Rattle.std.specs.Result.{result_err};
 ghost use Rattle.mx_graph.specs.Adding.{add_error, is_known};
@@ -9,6 +9,7 @@ ghost use Rattle.mx_graph.specs.Record as definition;
 ghost use Rattle.mx_graph.specs.Record.{is_in};
 ghost use Rattle.mx_graph.specs.declared.refusals.NotAdded.{NotAdded as Cause};
 
+use crate::auth_chains::{AuthChains, place_alone};
 use crate::closing::reached;
 use crate::closing_above::reached_above;
 use crate::numbers::EventNo;
@@ -36,6 +37,7 @@ pub struct Graph {
     // What each row cites.
     prev_edges: Vec<Vec<EventNo>>,
     auth_edges: Vec<Vec<EventNo>>,
+    auth_chains: AuthChains,
     numbers: BTreeMap<EventId, EventNo>,
     redactions: RedactionIndex,
 }
@@ -55,7 +57,7 @@ impl Model for Graph {
     ghost view = { λ g. g.rows.items };
 
     ghost invariant = { λ g. IsIndexed g.rows.items g.prev_edges.items g.auth_edges.items g.numbers.entries
-        (naming g.redactions) };
+        (naming g.redactions) g.auth_chains };
 }
 
 impl Graph {
@@ -68,6 +70,7 @@ impl Graph {
             rows: Vec::new(alloc),
             prev_edges: Vec::new(alloc),
             auth_edges: Vec::new(alloc),
+            auth_chains: AuthChains::new(alloc),
             numbers: BTreeMap::new(alloc),
             redactions: RedactionIndex::new(alloc),
         }
@@ -168,6 +171,9 @@ impl Graph {
         self.rows.reserve(1)?;
         self.prev_edges.reserve(1)?;
         self.auth_edges.reserve(1)?;
+        let reached = self
+            .auth_chains
+            .prepare(self.alloc, &self.rows, &self.auth_edges, &auth_events)?;
         self.numbers.insert(id, number)?;
         if let Err(refused) = self.redactions.add(self.alloc, &row.event, number) {
             self.numbers.remove(&row.id);
@@ -176,6 +182,8 @@ impl Graph {
         self.rows.push(row).unwrap();
         self.prev_edges.push(prev_events).unwrap();
         self.auth_edges.push(auth_events).unwrap();
+        self.auth_chains.places.push(place_alone(number)).unwrap();
+        self.auth_chains.reached.push(reached).unwrap();
         Ok(number)
     }
 
@@ -187,6 +195,8 @@ impl Graph {
         let row = self.rows.pop()?;
         self.prev_edges.pop();
         self.auth_edges.pop();
+        self.auth_chains.places.pop();
+        self.auth_chains.reached.pop();
         self.numbers.remove(&row.id);
         self.redactions.remove_last(&row.event);
         Some(row)
@@ -282,6 +292,36 @@ impl Graph {
         ensures below { IfOk result (λ found. All (λ number. number < length self.now) found.items) }
     {
         let found = reached_above(alloc, &self.auth_edges, starts, least.index())?;
+        Ok(found)
+    }
+
+    /// Whether an event is in the auth chain of some others, from what is kept of auth chains: no event is visited. `None`
+    /// where that does not tell it, since an auth chain meets too many chains of rows that replace each other.
+    ///
+    /// It takes no memory, and the time is that of the given events. Source: the Matrix specification, Room Version 2,
+    /// "State resolution", auth chain.
+    pub fn is_in_auth_chain(&self, event: EventNo, starts: &[EventNo]) -> Option<bool>
+        ensures { IfSome result (λ is_there. is_there ≡ is_in (closure.auth_chain self.now starts.now) event) }
+    {
+        self.auth_chains.has_in_chain(event, starts)
+    }
+
+    /// The events in the auth chains of some of these sets, and not of all, and not in the auth chain of what all sets
+    /// share, in no order, from what is kept of auth chains: no other event is visited. `None` where that does not tell
+    /// it, since the auth chains meet too many chains of rows that replace each other.
+    ///
+    /// The time is that of all given events, for each of these chains, and of what is found. Source: the Matrix
+    /// specification, Room Version 2, "State resolution", auth difference.
+    pub fn auth_difference(
+        &self,
+        alloc: Global,
+        shared: &[EventNo],
+        apart: &[Vec<EventNo>],
+    ) -> Result<Option<Vec<EventNo>>, AllocError>
+        ensures { IfOk result (λ found. IfSome found (λ events. (p : ℕ) → is_in events.items p
+            ≡ closure.is_in_difference self.now shared.now (map (λ others. others.items) apart.now) p)) }
+    {
+        let found = self.auth_chains.difference(alloc, shared, apart)?;
         Ok(found)
     }
 }

@@ -2,10 +2,13 @@
 //! Server-Server API, "PDUs").
 #![tactic(auto)]
 
+mod auth_chains;
+mod chain_differences;
 mod closing;
 mod closing_above;
 mod graphs;
 mod numbers;
+mod reached_rows;
 mod redactions;
 mod refusals;
 mod rows;

@@ -49,6 +49,33 @@ fn base(alloc: Global) -> Option<Graph> {
     Some(graph)
 }
 
+// A state event with this id, of this type, whose state key is empty.
+fn state_row(alloc: Global, id: &str, kind: &str, auth_events: &str) -> Option<GraphRow> {
+    let json = format!(in alloc;
+        "{{\"auth_events\":{auth_events},\"content\":{{}},\"depth\":1,\"hashes\":{{}},\"origin_server_ts\":5,\"prev_events\":[],\"room_id\":\"!r:a.example\",\"sender\":\"@a:a.example\",\"signatures\":{{}},\"state_key\":\"\",\"type\":\"{kind}\"}}"
+    );
+    parsed_row(alloc, id, json.ok()?.as_str())
+}
+
+// The create event, power levels that are replaced twice in each of two branches, and a topic in each.
+fn forked(alloc: Global) -> Option<Graph> {
+    let mut graph = Graph::new(alloc);
+    for (id, kind, auth_events) in [
+        ("$1", "m.room.create", "[]"),
+        ("$2", "m.room.power_levels", "[\"$1\"]"),
+        ("$3", "m.room.power_levels", "[\"$1\",\"$2\"]"),
+        ("$4", "m.room.power_levels", "[\"$1\",\"$2\"]"),
+        ("$5", "m.room.power_levels", "[\"$1\",\"$3\"]"),
+        ("$6", "m.room.power_levels", "[\"$1\",\"$4\"]"),
+        ("$7", "m.room.topic", "[\"$1\",\"$5\"]"),
+        ("$8", "m.room.topic", "[\"$1\",\"$6\"]"),
+    ] {
+        let row = state_row(alloc, id, kind, auth_events)?;
+        graph.add(row).ok()?;
+    }
+    Some(graph)
+}
+
 fn numbers(alloc: Global, places: &[u32]) -> Result<Vec<EventNo>, Fail> {
     let mut found = Vec::new(alloc);
     for place in places {
@@ -92,6 +119,62 @@ fn closures_or_no_memory(rt: HostRuntime) {
         assert_eq!(rt; found.len(), 5);
     }
     if let Ok(found) = graph.auth_chain(alloc, &last) {
+        assert_eq!(rt; found.len(), 4);
+    }
+}
+
+// What is kept of auth chains tells the same as a walk.
+#[test]
+fn auth_chains_are_kept(rt: HostRuntime) -> Result<(), Fail> {
+    let alloc = rt.alloc();
+    let graph = forked(alloc).ok_or("no memory")?;
+    for start in 0..8 {
+        let starts = [EventNo::at(start)];
+        let chain = graph.auth_chain(alloc, &starts)?;
+        for place in 0..8 {
+            let event = EventNo::at(place);
+            assert_eq!(rt;
+                graph.is_in_auth_chain(event, &starts),
+                Some(chain.contains(&event))
+            );
+        }
+    }
+    Ok(())
+}
+
+// The auth chains of the topics are 0, 1, 2, 4 and 0, 1, 3, 5; that of event 4 is 0, 1, 2.
+#[test]
+fn auth_chains_differ(rt: HostRuntime) -> Result<(), Fail> {
+    let alloc = rt.alloc();
+    let graph = forked(alloc).ok_or("no memory")?;
+    let first = numbers(alloc, &[6])?;
+    let second = numbers(alloc, &[7])?;
+    let apart = [first, second];
+    for (shared, expected) in [(0, [2, 3, 4, 5]), (4, [3, 3, 4, 5])] {
+        let found = graph
+            .auth_difference(alloc, &[EventNo::at(shared)], &apart)?
+            .ok_or("it is not told")?;
+        for place in 0..8 {
+            assert_eq!(rt;
+                found.contains(&EventNo::at(place)),
+                expected.contains(&place)
+            );
+        }
+    }
+    Ok(())
+}
+
+#[test]
+fn auth_difference_or_no_memory(rt: HostRuntime) {
+    let alloc = rt.alloc();
+    let Some(graph) = forked(alloc) else {
+        return;
+    };
+    let Ok(starts) = vec![in alloc; EventNo::at(6); 1] else {
+        return;
+    };
+    let apart = [starts, Vec::new(alloc)];
+    if let Ok(Some(found)) = graph.auth_difference(alloc, &[], &apart) {
         assert_eq!(rt; found.len(), 4);
     }
 }

@@ -4,7 +4,7 @@ use Rattle.std.proofs.lemmas.List.Folds.{list_any-append, list_any_at, list_all_
 use Rattle.std.specs.List.{list_any, list_all, AllZip}
 use Rattle.mx_graph.specs.Record.{Row, is_in}
 use Rattle.mx_graph.specs.Edges.{Rises, IsAllFrom}
-use Rattle.mx_graph.specs.Graph.{auth_chain, IsSound}
+use Rattle.mx_graph.specs.Graph.{auth_chain, is_in_difference, IsSound}
 use Rattle.mx_graph.proofs.Closure.{or_cases}
 use Rattle.mx_state_res.proofs.SetLemmas.{is_in-append, list_any-map, list_all-map, rising-is}
 use Rattle.mx_state_res.specs.ChainDifference.{chain_difference, cites, is_cited}
@@ -89,3 +89,26 @@ module _ (rows : List Row) (sound : IsSound rows) (shared : List ℕ) (lists : L
       known p e =
           let a = (here reach all p).0 e in
           lt-from p (length rows) ((chain-least rows (shared ++ get_or lists a.in_some.0 []) sound).1 (λ z. nat_lt z (length rows)) (λ x y h c. lt-to y (length rows) (sound.auth x y c).0) p a.in_some.2)
+
+-- ---- what the graph tells
+
+module _ (rows : List Row) (sound : IsSound rows) where
+  chain-known : (starts : List ℕ) (p : ℕ) → is_in (auth_chain rows starts) p ≡ true → p < length rows
+  chain-known starts p e = lt-from p (length rows) ((chain-least rows starts sound).1 (λ z. nat_lt z (length rows)) (λ x y h c. lt-to y (length rows) (sound.auth x y c).0) p e)
+
+  some-known : (lists : List (List ℕ)) (p : ℕ) → list_any (λ chain. is_in chain p) (map (auth_chain rows) lists) ≡ true → p < length rows
+  some-known [] p e = absurd (cc e)
+  some-known (l ∷ lists) p e = by (some-known lists p) (or_cases (is_in (auth_chain rows l) p) (list_any (λ chain. is_in chain p) (map (auth_chain rows) lists)) e)
+    where
+      by : (list_any (λ chain. is_in chain p) (map (auth_chain rows) lists) ≡ true → p < length rows) → (is_in (auth_chain rows l) p ≡ true) ⊎ (list_any (λ chain. is_in chain p) (map (auth_chain rows) lists) ≡ true) → p < length rows
+      by later (inl k) = chain-known l p k
+      by later (inr k) = later k
+
+  pub told-is : (shared : List ℕ) (lists : List (List ℕ)) (found : List ℕ) → Rises found → ((p : ℕ) → is_in found p ≡ is_in_difference rows shared lists p) → found ≡ chain_difference rows shared lists
+  unfolding chain_difference
+  told-is shared lists found rises same = rising-is rows found _ rises known same
+    where
+      known : (p : ℕ) → is_in found p ≡ true → p < length rows
+      known p e =
+          some-known lists p
+          (and-first (list_any (λ chain. is_in chain p) (map (auth_chain rows) lists)) _ (and-first (list_any (λ chain. is_in chain p) (map (auth_chain rows) lists) && not (list_all (λ chain. is_in chain p) (map (auth_chain rows) lists))) _ (sym (same p) ∙ e)))

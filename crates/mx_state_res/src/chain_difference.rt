@@ -1,14 +1,14 @@
 // Where the auth chains of several states differ.
 ghost use Rattle.std.specs.Prelude.{◌≡◌, ◌<◌, ◌&&◌, ◌||◌, ◌⊎◌, ℕ, All, IfOk, IsTrue, OnOk, true, reverse, length, map, slice_index_or, []};
 ghost use Rattle.mx_graph.specs.Edges.{Rises};
-ghost use Rattle.mx_graph.specs.Graph.{IsSound};
+ghost use Rattle.mx_graph.specs.Graph.{IsSound, is_in_difference};
 ghost use Rattle.mx_graph.specs.Record.{is_in};
 ghost use Rattle.mx_state_res.specs.ChainDifference as definition;
 ghost use Rattle.mx_state_res.specs.Masks.{has, waits, is_due, is_there, AreKept, AreLow, ArePart};
 
 use crate::chain_walks::{ChainWalk, Taken};
 use crate::dense_difference::dense_chain_difference;
-use crate::event_sets::set_of;
+use crate::event_sets::{rising, set_of};
 use crate::masks::{differs, every, only};
 use crate::state_sets::MOST_STATES;
 use mx_graph::{EventNo, Graph, graph_is_sound};
@@ -17,9 +17,47 @@ use std::alloc::{AllocError, Global};
 /// The events that are in the auth chains of some of these sets, and not of all, and not in the chain of what all sets
 /// share, rising.
 ///
-/// Of at most 64 sets see [`dense_chain_difference`] for the time, of more [`sparse_chain_difference`]. Source: the
-/// Matrix specification, Room Version 2, "State resolution", auth difference.
+/// The graph mostly tells it from what it keeps of auth chains, and no event below the given ones is visited. Else see
+/// [`walked_chain_difference`] for the time. Source: the Matrix specification, Room Version 2, "State resolution", auth
+/// difference.
 pub(crate) fn chain_difference(
+    alloc: Global,
+    graph: &Graph,
+    shared: &[EventNo],
+    apart: &[Vec<EventNo>],
+) -> Result<Vec<EventNo>, AllocError>
+    requires shared { All (λ s. s < length graph.now) shared.now }
+    requires apart { All (λ others. All (λ s. s < length graph.now) others.items) apart.now }
+    ensures { IfOk result (λ found. found.items
+        ≡ definition.chain_difference graph.now shared.now (map (λ others. others.items) apart.now)) }
+{
+    if let Some(events) = graph.auth_difference(alloc, shared, apart)? {
+        return in_order(alloc, graph, shared, apart, &events);
+    }
+    walked_chain_difference(alloc, graph, shared, apart)
+}
+
+// The events of the difference, rising.
+fn in_order(
+    alloc: Global,
+    graph: &Graph,
+    shared: &[EventNo],
+    apart: &[Vec<EventNo>],
+    events: &[EventNo],
+) -> Result<Vec<EventNo>, AllocError>
+    requires { (p : ℕ) → is_in events.now p
+        ≡ is_in_difference graph.now shared.now (map (λ others. others.items) apart.now) p }
+    ensures { IfOk result (λ found. found.items
+        ≡ definition.chain_difference graph.now shared.now (map (λ others. others.items) apart.now)) }
+{
+    graph_is_sound(graph);
+    let found = rising(alloc, events)?;
+    Ok(found)
+}
+
+/// The same, by a walk down the auth chains. Of at most 64 sets see [`dense_chain_difference`] for the time, of more
+/// [`sparse_chain_difference`].
+pub(crate) fn walked_chain_difference(
     alloc: Global,
     graph: &Graph,
     shared: &[EventNo],

@@ -1,4 +1,4 @@
-use Rattle.std.proofs.Common.{true, false, ◌&&◌, ◌||◌, ◌<◌, nat_lt, ◌≡◌, ◌≤◌, ◌-◌, ◌+◌, ◌∷◌, ◌++◌, [], ℕ, suc, List, Bool, length, take, drop, reverse, sym, ap, subst, ◌∙◌, arith}
+use Rattle.std.proofs.Common.{true, false, ◌&&◌, ◌||◌, ◌<◌, nat_lt, ◌≡◌, ◌≤◌, ◌-◌, ◌+◌, ◌∷◌, ◌++◌, [], ℕ, length, take, drop, reverse, sym, ap, subst, ◌∙◌, arith}
 use Rattle.std.proofs.lemmas.List.{reverse-append}
 use Rattle.std.specs.Prelude.{slice_index_or, Vec}
 use Rattle.std.specs.declared.alloc.Global.{Global}

@@ -1,4 +1,4 @@
-use Rattle.std.proofs.Common.{◌≤◌, ap, length, take, sym, subst, ◌∙◌, arith}
+use Rattle.std.proofs.Common.{◌≤◌, subst, arith}
 use Rattle.std.proofs.lemmas.List.Elements.{All-more}
 use Rattle.std.proofs.lemmas.List.{take_all}
 use Rattle.std.specs.List.{All}

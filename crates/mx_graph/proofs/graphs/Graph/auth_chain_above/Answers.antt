@@ -1,5 +1,4 @@
-use Rattle.std.proofs.Common.{Bool, true, false, ◌≡◌, ◌<◌, ◌&&◌, ℕ, nat_le, length, ap, subst, sym, ◌∙◌, arith}
-use Rattle.std.specs.List.{All}
+use Rattle.std.proofs.Common.{Bool, true, false, ◌≡◌, ◌<◌, ◌&&◌, nat_le, length, ap, subst, sym, ◌∙◌, arith}
 use Rattle.mx_graph.specs.Record.{is_in, event, auth_events}
 use Rattle.mx_graph.specs.Edges.{cited}
 use Rattle.mx_graph.specs.Graph.{IsLeastClosed, auth_chain}
