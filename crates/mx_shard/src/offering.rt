@@ -31,7 +31,7 @@ pub(crate) struct NewRow {
     pub row: ShardRow,
 }
 
-/// What comes of a call that sends an event: an answer, and nothing is added; or a room that is prepared to keep the event.
+/// What comes of an event that is sent: an answer, and nothing is added; or a room that is prepared to keep it.
 #[derive(Drop)]
 pub(crate) enum Offering {
     Answered(Answer),
