@@ -18,7 +18,7 @@ use std::alloc::{AllocError, Global};
 ///
 /// The access control list is asked first, and then whether the server is in the room, but not for a query that names no
 /// room. Of such a query a look-up of its id comes first, and nothing more is asked where the room does not hold the event.
-/// A server that asks how one of its users can join need not be in the room.
+/// A server that asks how one of its users can join need not be in the room, and whether it is, is not looked at.
 pub(crate) fn answer_in(
     alloc: Global,
     timeline: &Timeline,
@@ -34,6 +34,15 @@ pub(crate) fn answer_in(
     }
     if names_room(query) && !acl_allows(timeline, origin) {
         return Ok(Err(Denied::AccessList));
+    }
+    if let Query::MakeJoin {
+        room,
+        user,
+        versions,
+    } = query
+    {
+        let template = join_answer(alloc, timeline, origin, now, room, user, versions)?;
+        return Ok(template);
     }
     let viewer = Viewer::of(timeline, origin);
     if is_for_members(query) && !viewer.is_in_room() {
