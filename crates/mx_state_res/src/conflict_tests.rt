@@ -1,7 +1,7 @@
 ghost use Rattle.std.specs.Prelude.{◌<◌, All, IfOk, length};
 
 use crate::StateMap;
-use crate::chain_difference::{chain_difference, sparse_chain_difference};
+use crate::chain_difference::sparse_chain_difference;
 use crate::conflicts::{events_of, full_conflicted, unconflicted};
 use crate::dense_difference::dense_chain_difference;
 use crate::plain_conflicts::plain_full_conflicted;
@@ -133,8 +133,6 @@ fn one_difference_by_both_bodies(rt: HostRuntime) -> Result<(), Fail> {
         let dense = dense_chain_difference(alloc, &graph, &shared, &apart)?;
         let sparse = sparse_chain_difference(alloc, &graph, &shared, &apart)?;
         assert_eq!(rt; dense, sparse);
-        let kept = chain_difference(alloc, &graph, &shared, &apart)?;
-        assert_eq!(rt; kept, dense);
         if dense.len() > 2 {
             some = 1;
         }

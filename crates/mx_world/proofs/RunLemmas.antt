@@ -82,6 +82,10 @@ both_stay : {K L A E : Type 0} (r : Result A E) (u u' : WorldView K L) → OnErr
 both_stay (Ok a) u u' h b k = tt
 both_stay (Err e) u u' h b k = record { shard_journals = h; book_journals = b; records = λ room. ap (λ js. records_of js room) h; statuses = k }
 
+-- a change that holds of two servers holds of those that they are
+pub changed_of : {K L : Type 0} (Change : WorldView K L → WorldView K L → Type 0) (w w' u u' : WorldView K L) → u ≡ w → u' ≡ w' → Change u u' → Change w w'
+changed_of Change w w' u u' is is' h = subst (λ v. Change v w') is (subst (λ v. Change u v) is' h)
+
 pub stays_of : {K L A E : Type 0} (r : Result A E) (w w' u u' : WorldView K L) → u ≡ w → u' ≡ w' → OnErr r (shard_journals u'.shards ≡ shard_journals u.shards) → OnErr r (book_journals u'.books ≡ book_journals u.books) → OnErr r ((p : TransactionKey) → status_in u' p ≡ status_in u p) → OnErr r (Stays w w')
 stays_of r w w' u u' is is' h b k = subst (λ v. OnErr r (Stays v w')) is (subst (λ v. OnErr r (Stays u v)) is' (both_stay r u u' h b k))
 
