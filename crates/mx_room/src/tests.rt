@@ -1,10 +1,10 @@
 use crate::{
-    Denied, EventIdList, EventList, HostError, JoinReply, Moment, Outcome, Query, QueryReply,
-    Refusal, Room, VersionList, hosting_fault,
+    Denied, EventIdList, EventList, HostError, Moment, Outcome, Query, QueryReply, Refusal, Room,
+    hosting_fault,
 };
 use mx_auth::Rule;
 use mx_graph::EventNo;
-use mx_ident::{EventId, RoomId, ServerName, UserId};
+use mx_ident::{EventId, RoomId, ServerName};
 use mx_pdu::{Offered, Pdu};
 use mx_receipt::{OfferError, Timeline, Verdict};
 use serde_json::Value;
@@ -268,19 +268,6 @@ fn prepare(alloc: Global, room: &mut Room, id: &str) -> Result<Outcome, AllocErr
     room.prepare(alloc, &origin, &offered)
 }
 
-// Sends a join, or another event, from the server with this name.
-fn join(alloc: Global, room: &mut Room, name: &str, id: &str) -> Result<JoinReply, AllocError> {
-    let offered = offered(alloc, id, true)?;
-    let origin = server(alloc, name)?;
-    room.join(alloc, &origin, &offered)
-}
-
-fn prepare_join(alloc: Global, room: &mut Room, id: &str) -> Result<JoinReply, AllocError> {
-    let offered = offered(alloc, id, true)?;
-    let origin = server(alloc, SERVER_OF_A)?;
-    room.prepare_join(alloc, &origin, &offered)
-}
-
 // The room with these events.
 fn room_with(alloc: Global, ids: &[&str]) -> Result<Room, HostError> {
     let mut room = hosted(alloc)?;
@@ -362,22 +349,7 @@ fn missing_query(
     })
 }
 
-// The server knows version 1 of rooms, and this one.
-fn join_query(alloc: Global, user: &str, version: &str) -> Result<Query, AllocError> {
-    let room = room_id(alloc)?;
-    let user = UserId::parse(alloc, user).map_err(refused)?;
-    let mut known = Vec::new(alloc);
-    known.push(String::from_str(alloc, "1")?)?;
-    known.push(String::from_str(alloc, version)?)?;
-    let versions = VersionList::new(known);
-    Ok(Query::MakeJoin {
-        room,
-        user,
-        versions,
-    })
-}
-
-// A reply as a text: the times of its events, or the ids, or what a join is to be made of.
+// A reply as a text: the times of its events, or the ids.
 fn text_of_reply(alloc: Global, reply: &Result<QueryReply, Denied>) -> Result<String, AllocError> {
     match reply {
         Ok(QueryReply::Event(event)) => format!(in alloc; "event {}", event.origin_server_ts()),
@@ -393,32 +365,11 @@ fn text_of_reply(alloc: Global, reply: &Result<QueryReply, Denied>) -> Result<St
         }
         Ok(QueryReply::EventAuth(chain)) => times_of(alloc, chain),
         Ok(QueryReply::Events(events)) => times_of(alloc, events),
-        Ok(QueryReply::Template(template)) => {
-            Value::Object(template.as_map().clone()?).to_string(alloc)
-        }
+        Ok(QueryReply::Template(_)) => String::from_str(alloc, "template"),
         Err(Denied::AccessList) => String::from_str(alloc, "access list"),
         Err(Denied::NotInRoom) => String::from_str(alloc, "not in room"),
         Err(Denied::NotFound) => String::from_str(alloc, "not found"),
-        Err(Denied::OtherServer) => String::from_str(alloc, "other server"),
-        Err(Denied::WrongVersion) => String::from_str(alloc, "wrong version"),
-        Err(Denied::Rule(rule)) => format!(in alloc; "rule {rule}"),
-    }
-}
-
-// The reply to a join as a text: the times of its events.
-fn text_of_join(alloc: Global, reply: &JoinReply) -> Result<String, AllocError> {
-    match reply {
-        JoinReply::NotOffered => String::from_str(alloc, "not offered"),
-        JoinReply::Offered { joined: None, .. } => String::from_str(alloc, "not let in"),
-        JoinReply::Offered {
-            joined: Some(joined),
-            ..
-        } => {
-            let state = times_of(alloc, &joined.state)?;
-            let chain = times_of(alloc, &joined.auth_chain)?;
-            let time = joined.event.origin_server_ts();
-            format!(in alloc; "state{state} chain{chain} join {time}")
-        }
+        Err(_) => String::from_str(alloc, "no join"),
     }
 }
 
@@ -476,39 +427,6 @@ fn events_prepared_by_a_room(rt: HostRuntime) -> Result<(), Fail> {
     assert!(rt; room.len() == 1 && !shows(alloc, &room, "$2")?);
     assert_eq!(rt; prepare(alloc, &mut room, "$6")?, Outcome::Kept(REJECTED));
     assert_eq!(rt; prepare(alloc, &mut room, "$2")?, Outcome::Kept(ACCEPTED));
-    assert!(rt; room.len() == 1 && !shows(alloc, &room, "$2")?);
-    room.install();
-    assert!(rt; room.len() == 2 && shows(alloc, &room, "$2")?);
-    Ok(())
-}
-
-#[test]
-fn joins_of_a_room(rt: HostRuntime) -> Result<(), Fail> {
-    let alloc = rt.alloc();
-    let mut room = hosted(alloc)?;
-    for (name, id, expected, count) in [
-        (SERVER_OF_B, "$2", "not offered", 1),
-        (SERVER_OF_A, "$2", "state 10 chain 10 join 20", 2),
-        (SERVER_OF_A, "$2", "state 10 chain 10 join 20", 2),
-        (SERVER_OF_B, "$6", "not let in", 3),
-        (SERVER_OF_A, "$4", "state 10 20 chain 10 20 join 40", 4),
-    ] {
-        let reply = join(alloc, &mut room, name, id)?;
-        assert_eq!(rt; text_of_join(alloc, &reply)?.as_str(), expected, "at {id}");
-        assert_eq!(rt; room.len(), count, "at {id}");
-    }
-    Ok(())
-}
-
-#[test]
-fn a_join_prepared_by_a_room(rt: HostRuntime) -> Result<(), Fail> {
-    let alloc = rt.alloc();
-    let mut room = hosted(alloc)?;
-    let reply = prepare_join(alloc, &mut room, "$2")?;
-    assert_eq!(rt;
-        text_of_join(alloc, &reply)?.as_str(),
-        "state 10 chain 10 join 20"
-    );
     assert!(rt; room.len() == 1 && !shows(alloc, &room, "$2")?);
     room.install();
     assert!(rt; room.len() == 2 && shows(alloc, &room, "$2")?);
@@ -577,40 +495,6 @@ fn queries_denied(rt: HostRuntime) -> Result<(), Fail> {
     Ok(())
 }
 
-#[test]
-fn joins_asked_for(rt: HostRuntime) -> Result<(), Fail> {
-    let alloc = rt.alloc();
-    for (ids, expected) in [
-        (
-            ["$2", "$3", "$4"].as_slice(),
-            r#"{"auth_events":["$1","$4","$2"],"content":{"membership":"join"},"depth":4,"origin_server_ts":0,"prev_events":["$3","$4"],"room_id":"!r:a.example","sender":"@a:a.example","state_key":"@a:a.example","type":"m.room.member"}"#,
-        ),
-        (
-            [].as_slice(),
-            r#"{"auth_events":["$1"],"content":{"membership":"join"},"depth":2,"origin_server_ts":0,"prev_events":["$1"],"room_id":"!r:a.example","sender":"@a:a.example","state_key":"@a:a.example","type":"m.room.member"}"#,
-        ),
-    ] {
-        let room = room_with(alloc, ids)?;
-        let query = join_query(alloc, "@a:a.example", "6")?;
-        let reply = ask(alloc, &room, SERVER_OF_A, &query)?;
-        assert_eq!(rt; text_of_reply(alloc, &reply)?.as_str(), expected);
-    }
-    Ok(())
-}
-
-#[test]
-fn join_or_no_memory(rt: HostRuntime) {
-    let alloc = rt.alloc();
-    let Ok(room) = room_with(alloc, &["$2", "$3"]) else {
-        return;
-    };
-    if let Ok(query) = join_query(alloc, "@a:a.example", "6")
-        && let Ok(reply) = ask(alloc, &room, SERVER_OF_A, &query)
-    {
-        assert!(rt; reply.is_ok());
-    }
-}
-
 // Whether the first of the events that a query gives has a content.
 fn has_content(reply: &Result<QueryReply, Denied>) -> bool {
     match reply {
@@ -653,25 +537,6 @@ fn queries_or_no_memory(rt: HostRuntime) {
         && let Ok(reply) = ask(alloc, &room, SERVER_OF_A, &query)
     {
         assert!(rt; reply.is_ok());
-    }
-}
-
-#[test]
-fn joins_or_no_memory(rt: HostRuntime) {
-    let alloc = rt.alloc();
-    let Ok(mut room) = hosted(alloc) else {
-        return;
-    };
-    if let Ok(reply) = join(alloc, &mut room, SERVER_OF_A, "$2") {
-        assert!(rt;
-            matches!(
-                &reply,
-                JoinReply::Offered {
-                    joined: Some(_),
-                    ..
-                }
-            )
-        );
     }
 }
 

@@ -2,7 +2,7 @@ use crate::{Answer, CallError, Shard};
 use mx_ident::{EventId, ServerName};
 use mx_keeper::{Keeper, KeeperFault, MemoryKeeper, Place, ShardRow};
 use mx_pdu::{Offered, Pdu};
-use mx_room::{JoinReply, Moment, Outcome, Query};
+use mx_room::{Moment, Outcome, Query};
 use serde_json::Value;
 use std::alloc::{AllocError, Global};
 use std::test::Fail;
@@ -34,8 +34,7 @@ fn offered(alloc: Global, id: &str, name: &str, signed: bool) -> Result<Offered,
     Ok(Offered { pdu, id, signed })
 }
 
-// A call of the server a.example by its words, `host ID NAME`, `offer ID NAME`, `join ID NAME` or `ask ID`. The
-// answer is told in a word.
+// A call of the server a.example by its words, `host ID NAME`, `offer ID NAME` or `ask ID`. The answer is told in a word.
 fn tell<K: Keeper<Row = ShardRow>>(
     alloc: Global,
     shard: &mut Shard<K>,
@@ -58,9 +57,6 @@ fn tell<K: Keeper<Row = ShardRow>>(
     if kind == "host" {
         return Ok(word(&shard.host(caller, &offered)?));
     }
-    if kind == "join" {
-        return Ok(word(&shard.join(caller, &origin, &offered)?));
-    }
     Ok(word(&shard.offer(caller, &origin, &offered)?))
 }
 
@@ -69,12 +65,6 @@ fn word(answer: &Answer) -> &'static str {
         Answer::Hosted(_) => "hosted",
         Answer::AlreadyHosted(_) => "already",
         Answer::ToOffered(Outcome::Kept(_)) => "kept",
-        Answer::ToJoined(
-            JoinReply::Offered {
-                joined: Some(_),
-                ..
-            },
-        ) => "joined",
         Answer::ToAsked(Ok(_)) => "event",
         _ => "another answer",
     }
@@ -92,8 +82,7 @@ fn rows_of_what_is_kept(rt: HostRuntime) -> Result<(), Fail> {
     for (caller, call, told) in [
         (3, "host $c create", "hosted"),
         (4, "host $c create", "already"),
-        (5, "join $j join", "joined"),
-        (6, "join $j join", "joined"),
+        (5, "offer $j join", "kept"),
         (6, "ask $j", "event"),
     ] {
         assert_eq!(rt; tell(alloc, &mut shard, caller, call)?, told);
