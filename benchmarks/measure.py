@@ -69,5 +69,4 @@ def main():
             print(f"| {shape} | {events:,} | {seconds:.2f} | {memory:.0f} | {each} |", flush=True)
 
 
-if __name__ == "__main__":
-    main()
+main()

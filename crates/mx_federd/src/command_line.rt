@@ -3,7 +3,7 @@ use crate::shard_counts::ShardCount;
 use clap::builder::ValueParser;
 use clap::error::ErrorKind;
 use clap::{Arg, ArgAction, ArgMatches, Error};
-use mx_ident::{IdError, ServerName};
+use mx_ident::ServerName;
 use mx_keeper::MOST_PLACES;
 use std::alloc::{AllocError, Global};
 
@@ -12,11 +12,8 @@ use std::alloc::{AllocError, Global};
 pub(crate) enum Command {
     // One event from standard input, to its id.
     Check,
-    // A log of steps from standard input, to the answers of a server of this name, over so many shards.
-    Replay {
-        name: ServerName,
-        shards: ShardCount,
-    },
+    // A log of steps from standard input, to the answers, over so many shards.
+    Replay(ShardCount),
 }
 
 /// Why the words ask for nothing.
@@ -93,13 +90,9 @@ fn replay_of(alloc: Global, given: &ArgMatches) -> Result<Command, CommandLineEr
     let Some(shards) = shards_of(given) else {
         return misused(alloc, "the number of shards is not 1 to 64\n");
     };
-    let Some(name) = given.get_str("name") else {
-        return misused(alloc, "the name is no server name\n");
-    };
-    match ServerName::parse(alloc, name) {
-        Ok(name) => Ok(Command::Replay { name, shards }),
-        Err(IdError::Memory) => Err(CommandLineError::Memory),
-        Err(IdError::NotAnId(_)) => misused(alloc, "the name is no server name\n"),
+    match given.get_str("name") {
+        Some(name) if ServerName::is(name) => Ok(Command::Replay(shards)),
+        _ => misused(alloc, "the name is no server name\n"),
     }
 }
 

@@ -1,5 +1,4 @@
 // The lines of a log.
-use crate::call_lines::{CallLine, read_call};
 use crate::line_texts::{LineTexts, texts_in};
 use json::Scratch;
 use mx_ident::{IdError, ServerName};
@@ -22,8 +21,6 @@ pub(crate) enum Line {
     Step(Step),
     // To host a room by an event that is malformed.
     HostsMalformed,
-    // A request of another server.
-    Call(CallLine),
 }
 
 /// Why a line has no reply.
@@ -34,20 +31,6 @@ pub(crate) enum LineError {
     Storage,
     // It has the form of no line.
     Bad,
-    // The two first, for a request.
-    CallMemory,
-    CallStorage,
-}
-
-impl LineError {
-    /// The same, for a request.
-    pub fn of_call(self) -> LineError {
-        match self {
-            LineError::Memory => LineError::CallMemory,
-            LineError::Storage => LineError::CallStorage,
-            other => other,
-        }
-    }
 }
 
 impl From<AllocError> for LineError {
@@ -67,7 +50,6 @@ enum LineKind {
     Open,
     Next,
     Close,
-    Call,
 }
 
 /// Why a step has no reply.
@@ -129,22 +111,17 @@ fn read_members(alloc: Global, mut members: Map<String, Value>) -> Result<Line, 
             let key = transaction_of(alloc, &members)?;
             Ok(Line::Step(Step::Close(key)))
         }
-        Some(LineKind::Call) => {
-            let call = read_call(alloc, members)?;
-            Ok(Line::Call(call))
-        }
         None => Err(LineError::Bad),
     }
 }
 
-// By its `step`, and how many keys such a line has; a call may have some or not.
+// By its `step`, and how many keys such a line has.
 fn kind_of(members: &Map<String, Value>) -> Option<LineKind> {
     match (text_field(members, "step")?, members.len()) {
         ("host", 2) => Some(LineKind::Host),
         ("open", 4) => Some(LineKind::Open),
         ("next", 3) => Some(LineKind::Next),
         ("close", 3) => Some(LineKind::Close),
-        ("call", _) => Some(LineKind::Call),
         _ => None,
     }
 }

@@ -3,8 +3,6 @@
 //! what a server answers to each.
 #![tactic(auto)]
 
-mod call_lines;
-mod calling;
 mod checking;
 mod command_line;
 mod input;
@@ -13,7 +11,6 @@ mod lines;
 mod output;
 mod replaying;
 mod reply_lines;
-mod servers;
 mod shard_counts;
 
 use checking::check_event;
@@ -21,7 +18,6 @@ use command_line::{Command, CommandLineError};
 use input::read_all;
 use output::{Failure, MISUSED, SUCCESS, lines_of, report, write_to};
 use replaying::replay;
-use servers::Server;
 use std::alloc::{AllocError, Global};
 use std::env;
 use std::io::{self, Read, Write};
@@ -63,10 +59,7 @@ fn run<R: Read, W: Write>(
     let bytes = read_all(alloc, input)?;
     match command {
         Command::Check => check(alloc, &bytes, out),
-        Command::Replay { name, shards } => {
-            let mut server = Server::new(alloc, name, shards)?;
-            replay(alloc, &mut server, &bytes, out)
-        }
+        Command::Replay(shards) => replay(alloc, shards, &bytes, out),
     }
 }
 

@@ -1,35 +1,61 @@
 // `replay`: a log of steps, one line out for each line of it.
-ghost use Rattle.std.specs.Prelude.{◌<◌, length};
+ghost use Rattle.std.specs.Prelude.{◌≡◌, ◌<◌, IfOk, length};
 
-use crate::calling::reply_to;
 use crate::lines::{Line, LineError, of_step, read_line};
 use crate::output::{Failure, flushed};
-use crate::reply_lines::{
-    BAD_LINE, CALL_NO_MEMORY, CALL_STORAGE, MALFORMED, NO_MEMORY, STORAGE, call_reply_line,
-    reply_line,
-};
-use crate::servers::Server;
+use crate::reply_lines::{BAD_LINE, MALFORMED, NO_MEMORY, STORAGE, reply_line};
+use crate::shard_counts::ShardCount;
 use json::Scratch;
-use std::alloc::Global;
+use mx_keeper::{BookRow, MemoryKeeper, ShardRow, Storable};
+use mx_world::{CallError, World};
+use std::alloc::{AllocError, Global};
 use std::io::{BufWriter, Write};
 
-/// Replays the log on a server, and writes one line for each of its lines, in their order. A line for which memory runs
-/// out is answered so, and those after it are read.
+// A server whose rows are in memory.
+type Server = World<MemoryKeeper<ShardRow>, MemoryKeeper<BookRow>>;
+
+/// Replays the log on a server that hosts no room, over so many shards, and writes one line for each of its lines, in their order. A line
+/// for which memory runs out is answered so, and those after it are read.
 pub(crate) fn replay<W: Write>(
     alloc: Global,
-    server: &mut Server,
+    shards: ShardCount,
     log: &[u8],
     out: &mut W,
 ) -> Result<(), Failure> {
+    let mut world = server(alloc, shards)?;
     let mut answers = BufWriter::new(alloc, out).map_err(Failure::of_io)?;
     let mut scratch = Scratch::new(alloc);
     let mut rest = log;
     while !rest.is_empty() {
         let (line, after) = first_line(rest);
-        write_answer(alloc, server, &mut scratch, line, &mut answers)?;
+        write_answer(alloc, &mut world, &mut scratch, line, &mut answers)?;
         rest = after;
     }
     flushed(&mut answers)
+}
+
+fn server(alloc: Global, shards: ShardCount) -> Result<Server, Failure> {
+    let shard_keepers = keepers(alloc, shards)?;
+    let book_keepers = keepers(alloc, shards)?;
+    match World::new(alloc, shard_keepers, book_keepers) {
+        Ok(world) => Ok(world),
+        Err(CallError::Memory) => Err(Failure::Memory),
+        Err(CallError::Storage) => Err(Failure::Storage),
+    }
+}
+
+// As many keepers, with no rows.
+fn keepers<R: Storable>(
+    alloc: Global,
+    shards: ShardCount,
+) -> Result<Vec<MemoryKeeper<R>>, AllocError>
+    ensures { IfOk result (λ keepers. length keepers.items ≡ shards) }
+{
+    let mut keepers = Vec::new(alloc);
+    for _keeper in 0..shards.get() {
+        keepers.push(MemoryKeeper::new(alloc))?;
+    }
+    Ok(keepers)
 }
 
 // The first line with its newline, and what comes after it.
@@ -44,36 +70,30 @@ fn first_line(bytes: &[u8]) -> (&[u8], &[u8])
 
 fn write_answer<W: Write>(
     alloc: Global,
-    server: &mut Server,
+    world: &mut Server,
     scratch: &mut Scratch,
     line: &[u8],
     out: &mut W,
 ) -> Result<(), Failure> {
-    match answer_to(alloc, server, scratch, line) {
+    match answer_to(alloc, world, scratch, line) {
         Ok(answer) => write_line(out, &answer),
         Err(LineError::Bad) => write_line(out, BAD_LINE),
         Err(LineError::Memory) => write_line(out, NO_MEMORY),
         Err(LineError::Storage) => write_line(out, STORAGE),
-        Err(LineError::CallMemory) => write_line(out, CALL_NO_MEMORY),
-        Err(LineError::CallStorage) => write_line(out, CALL_STORAGE),
     }
 }
 
 fn answer_to(
     alloc: Global,
-    server: &mut Server,
+    world: &mut Server,
     scratch: &mut Scratch,
     line: &[u8],
 ) -> Result<Vec<u8>, LineError> {
     match read_line(alloc, scratch, line)? {
         Line::Step(step) => {
-            let reply = server.rooms.step(alloc, &step).map_err(of_step)?;
+            let reply = world.step(alloc, &step).map_err(of_step)?;
             let answer = reply_line(alloc, &reply)?;
             Ok(answer)
-        }
-        Line::Call(call) => {
-            let reply = reply_to(alloc, server, &call).map_err(LineError::of_call)?;
-            call_reply_line(alloc, &reply).map_err(|_refused| LineError::CallMemory)
         }
         Line::HostsMalformed => {
             let answer = Vec::from_slice(alloc, MALFORMED)?;

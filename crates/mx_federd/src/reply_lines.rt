@@ -1,5 +1,4 @@
 // The lines that answer the lines of a log.
-use mx_wire::WireReply;
 use mx_world::{Answer, NotARoom, Reply, StepReply, Told, processing_result};
 use serde_json::json;
 use std::alloc::{AllocError, Global};
@@ -12,13 +11,6 @@ pub(crate) const NO_MEMORY: &[u8] = b"{\"error\":\"memory\"}";
 pub(crate) const STORAGE: &[u8] = b"{\"error\":\"storage\"}";
 /// Answers a line that hosts a room by a malformed event.
 pub(crate) const MALFORMED: &[u8] = b"{\"refused\":\"malformed\"}";
-
-/// Answers a request for which memory ran out.
-pub(crate) const CALL_NO_MEMORY: &[u8] =
-    b"{\"body\":{\"errcode\":\"M_UNKNOWN\",\"error\":\"memory\"},\"status\":503}";
-/// Answers a request for which what keeps the rows failed.
-pub(crate) const CALL_STORAGE: &[u8] =
-    b"{\"body\":{\"errcode\":\"M_UNKNOWN\",\"error\":\"storage\"},\"status\":503}";
 
 /// The reply to a step as canonical JSON.
 pub(crate) fn reply_line(alloc: Global, reply: &StepReply) -> Result<Vec<u8>, AllocError> {
@@ -70,18 +62,6 @@ fn body_line(alloc: Global, name: &str, body: &Reply) -> Result<Vec<u8>, AllocEr
     line.extend_from_slice(name.as_bytes())?;
     line.extend_from_slice(b"\":")?;
     line.extend_from_slice(body.as_bytes())?;
-    line.push(b'}')?;
-    Ok(line)
-}
-
-/// The reply to a request, as canonical JSON. Its body is canonical JSON already.
-pub(crate) fn call_reply_line(alloc: Global, reply: &WireReply) -> Result<Vec<u8>, AllocError> {
-    let mut digits = itoa::Buffer::new();
-    let mut line = Vec::with_capacity(alloc, reply.body.len().saturating_add(24))?;
-    line.extend_from_slice(b"{\"body\":")?;
-    line.extend_from_slice(&reply.body)?;
-    line.extend_from_slice(b",\"status\":")?;
-    line.extend_from_slice(digits.format(reply.status).as_bytes())?;
     line.push(b'}')?;
     Ok(line)
 }

@@ -1,5 +1,5 @@
 use Rattle.std.proofs.Common.{◌≡◌, ◌≤◌, length}
-use Rattle.mx_federd.proofs.servers.keepers.Given as goal
+use Rattle.mx_federd.proofs.replaying.keepers.Given as goal
 
 -- as many keepers as were counted
 abbrev pub invariant-loop-keeper : goal.invariant-loop-keeper
