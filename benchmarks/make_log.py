@@ -2,7 +2,7 @@
 """Makes logs for `mx_federd replay`, for measuring, with true ids and hashes, and signatures of the presence form.
 
     make_log.py --shape linear|fork|conflict|joins|wide|soft --events N [--members 50] [--batch 50]
-                 [--seed 1] [--body BYTES] > log
+                 [--form step|call] [--ask COUNT] [--seed 1] [--body BYTES] > log
     make_log.py --check-power BYTES > event       (one power levels event for `check`)
 
 linear    a base room, then N messages, each after the one before.
@@ -15,7 +15,8 @@ wide      N messages that all follow the same event: N forward extremities.
 soft      A moderator is demoted; N topics of hers follow one another on the other side of a fork.
 
 In `soft` the topics are soft failed; every other event is accepted. Each transaction is an open line, its next lines
-and a close line. The base room isn't counted in N.
+and a close line, or with `call` the line of a request. The base room isn't counted in N. `--ask` adds lines that ask a
+query about the last event, so many of them, of the kind that `--kind` names.
 """
 
 import argparse
@@ -24,7 +25,9 @@ import hashlib
 import json
 import random
 import sys
+import urllib.parse
 
+NAME = "hub.example"
 ROOM = "!room:s0.example"
 KEPT = {
     "event_id", "type", "room_id", "sender", "state_key", "content", "hashes", "signatures", "depth",
@@ -181,10 +184,45 @@ class Room:
             pdus = self.events[start:start + batch]
             txn = "t%d" % start
             number = {"origin": origin, "txn": txn}
+            if self.options.form == "call":
+                yield self.call("PUT", "v1/send/" + txn, origin, canonical({"pdus": pdus}).decode())
+                continue
             yield {"step": "open", **number, "pdus": pdus}
             for _ in pdus:
                 yield {"step": "next", **number}
             yield {"step": "close", **number}
+        for _ in range(self.options.ask):
+            yield self.query(self.options.kind)
+
+    def call(self, method, path, origin, body=None):
+        header = 'X-Matrix origin="%s",destination="%s",key="ed25519:auto",sig="x"' % (origin, NAME)
+        line = {
+            "step": "call", "method": method, "target": "/_matrix/federation/" + path, "authorization": header,
+            "now": self.now,
+        }
+        return line if body is None else {**line, "body": body}
+
+    def query(self, kind):
+        """A query of this kind about the last event, by a server in the room."""
+        room, origin, ids = quoted(ROOM), "s1.example", list(self.depths)[:len(self.events)]
+        last = quoted(ids[-1])
+        if kind == "get_missing_events":
+            body = {"earliest_events": [ids[-30]], "latest_events": [ids[-1]], "limit": 20}
+            return self.call("POST", "v1/get_missing_events/" + room, origin, canonical(body).decode())
+        paths = {
+            "event": "v1/event/" + last,
+            "state": "v1/state/%s?event_id=%s" % (room, last),
+            "state_ids": "v1/state_ids/%s?event_id=%s" % (room, last),
+            "event_auth": "v1/event_auth/%s/%s" % (room, last),
+            "backfill": "v1/backfill/%s?v=%s&limit=100" % (room, last),
+            "make_join": "v1/make_join/%s/%s?ver=6" % (room, quoted("@new:s1.example")),
+            "unknown_path": "v1/nothing/" + room,
+        }
+        return self.call("GET", paths[kind], origin)
+
+
+def quoted(text):
+    return urllib.parse.quote(text, safe="")
 
 
 def power_event(size):
@@ -207,6 +245,9 @@ def main():
     parser.add_argument("--events", type=int, default=1000)
     parser.add_argument("--members", type=int, default=50)
     parser.add_argument("--batch", type=int, default=50)
+    parser.add_argument("--form", choices=["step", "call"], default="step")
+    parser.add_argument("--ask", type=int, default=0)
+    parser.add_argument("--kind", default="event")
     parser.add_argument("--seed", type=int, default=1)
     parser.add_argument("--body", type=int, default=60)
     parser.add_argument("--check-power", type=int)

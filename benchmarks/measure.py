@@ -69,4 +69,5 @@ def main():
             print(f"| {shape} | {events:,} | {seconds:.2f} | {memory:.0f} | {each} |", flush=True)
 
 
-main()
+if __name__ == "__main__":
+    main()

@@ -1,10 +1,10 @@
 // The words of the command line.
-use crate::shard_counts::ShardCount;
 use clap::builder::ValueParser;
 use clap::error::ErrorKind;
 use clap::{Arg, ArgAction, ArgMatches, Error};
-use mx_ident::ServerName;
+use mx_ident::{IdError, ServerName};
 use mx_keeper::MOST_PLACES;
+use mx_wire::ShardCount;
 use std::alloc::{AllocError, Global};
 
 /// What the program is asked to do.
@@ -12,8 +12,11 @@ use std::alloc::{AllocError, Global};
 pub(crate) enum Command {
     // One event from standard input, to its id.
     Check,
-    // A log of steps from standard input, to the answers, over so many shards.
-    Replay(ShardCount),
+    // A log from standard input, to the answers of a server of this name, over so many shards.
+    Replay {
+        name: ServerName,
+        shards: ShardCount,
+    },
 }
 
 /// Why the words ask for nothing.
@@ -72,7 +75,7 @@ fn replay_words<'a>(alloc: Global) -> Result<clap::Command<'a>, AllocError> {
         .value_parser(ValueParser::unsigned(1, MOST_PLACES as u64))
         .help("How many shards hold the rooms, 1 to 64; no answer depends on it");
     clap::Command::new(alloc, "replay")
-        .about("Reads a log of steps from standard input, and prints what a server answers to each")
+        .about("Reads a log from standard input, and prints what a server answers to each line")
         .arg(name)?
         .arg(shards)
 }
@@ -90,9 +93,13 @@ fn replay_of(alloc: Global, given: &ArgMatches) -> Result<Command, CommandLineEr
     let Some(shards) = shards_of(given) else {
         return misused(alloc, "the number of shards is not 1 to 64\n");
     };
-    match given.get_str("name") {
-        Some(name) if ServerName::is(name) => Ok(Command::Replay(shards)),
-        _ => misused(alloc, "the name is no server name\n"),
+    let Some(name) = given.get_str("name") else {
+        return misused(alloc, "the name is no server name\n");
+    };
+    match ServerName::parse(alloc, name) {
+        Ok(name) => Ok(Command::Replay { name, shards }),
+        Err(IdError::Memory) => Err(CommandLineError::Memory),
+        Err(IdError::NotAnId(_)) => misused(alloc, "the name is no server name\n"),
     }
 }
 

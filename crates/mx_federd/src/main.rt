@@ -1,21 +1,16 @@
 //! `mx_federd`: a Matrix federation room server. `check` reads one event from standard input and prints its id,
-//! whether its content hash holds, and its canonical text. `replay` reads a log of steps from standard input and prints
-//! what a server answers to each.
+//! whether its content hash holds, and its canonical text. `replay` reads a log of steps and of other servers' requests
+//! from standard input and prints what a server answers to each.
 #![tactic(auto)]
 
 mod checking;
 mod command_line;
-mod input;
-mod line_texts;
-mod lines;
 mod output;
 mod replaying;
-mod reply_lines;
-mod shard_counts;
 
 use checking::check_event;
 use command_line::{Command, CommandLineError};
-use input::read_all;
+use mx_wire::read_all;
 use output::{Failure, MISUSED, SUCCESS, lines_of, report, write_to};
 use replaying::replay;
 use std::alloc::{AllocError, Global};
@@ -49,17 +44,19 @@ pub fn main_with<R: Read, W: Write, E: Write>(
     }
 }
 
-// Does what the command line asks for with the whole input.
+// Does what the command line asks for.
 fn run<R: Read, W: Write>(
     alloc: Global,
     command: Command,
     input: &mut R,
     out: &mut W,
 ) -> Result<(), Failure> {
-    let bytes = read_all(alloc, input)?;
     match command {
-        Command::Check => check(alloc, &bytes, out),
-        Command::Replay(shards) => replay(alloc, shards, &bytes, out),
+        Command::Check => {
+            let bytes = read_all(alloc, input)?;
+            check(alloc, &bytes, out)
+        }
+        Command::Replay { name, shards } => replay(alloc, &name, shards, input, out),
     }
 }
 

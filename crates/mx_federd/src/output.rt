@@ -4,7 +4,7 @@ ghost use Rattle.std.specs.IoError.{error_kind};
 ghost use Rattle.mx_federd.specs.Lines.{check_lines};
 
 use crate::checking::{CheckError, Checked};
-use crate::input::InputError;
+use mx_wire::{InputError, LinesError};
 use std::alloc::{AllocError, Global};
 use std::io::{self, ErrorKind, Write};
 use thiserror::Error;
@@ -63,6 +63,21 @@ impl From<InputError> for Failure {
         match error {
             InputError::Memory => Failure::Memory,
             InputError::Read => Failure::ReadOrWrite,
+        }
+    }
+}
+
+impl From<LinesError> for Failure {
+    ghost use Rattle.std.specs.Prelude.{◌≡◌};
+    ghost use Rattle.mx_federd.specs.Failures.{of_lines};
+
+    ghost from_gives = { λ error failure. failure ≡ of_lines error };
+
+    fn from(error: LinesError) -> Failure {
+        match error {
+            LinesError::Memory => Failure::Memory,
+            LinesError::Storage => Failure::Storage,
+            LinesError::Read | LinesError::Write => Failure::ReadOrWrite,
         }
     }
 }

@@ -148,13 +148,19 @@ impl Write for Broken {
 }
 
 #[test]
-fn failed_writes_of_answers(rt: HostRuntime) -> Result<(), Fail> {
+fn failed_reads_of_a_log_and_writes_of_answers(rt: HostRuntime) -> Result<(), Fail> {
     let alloc = rt.alloc();
     let words = vec![in alloc;
         String::from_str(alloc, "mx_federd")?,
         String::from_str(alloc, "replay")?,
         String::from_str(alloc, "--name=hub.example")?,
     ]?;
+    let mut out = Vec::new(alloc);
+    let mut err = Vec::new(alloc);
+    let status = main_with(alloc, &words, &mut Broken, &mut out, &mut err);
+    assert_eq!(rt; err.as_slice(), b"failed read or write\n".as_slice());
+    assert_eq!(rt; status, 1);
+    assert!(rt; out.is_empty());
     let mut reader = b"{}\n".as_slice();
     let mut err = Vec::new(alloc);
     let status = main_with(alloc, &words, &mut reader, &mut Broken, &mut err);

@@ -1,11 +1,10 @@
 -- Worked rows: requests read whole, each computed. An event's id is not computed here, but handed in.
-use Rattle.std.specs.Prelude.{◌≡◌, refl, ⊤, ℕ, nat_lt, length, true, false, if◌then◌else◌, bytes_eq, List, [], ◌∷◌, ◌++◌, codes, map, Option, None, Some, Ok, Err, replicate}
+use Rattle.std.specs.Prelude.{◌≡◌, refl, ⊤, ℕ, nat_lt, length, true, List, [], ◌∷◌, ◌++◌, codes, map, Option, None, Some, Ok, Err, replicate}
 use Rattle.std.specs.Fmt.{digits}
 use Prim.Native.String.{String}
 use Rattle.serde_json.specs.Data.{Data}
 use Rattle.serde_json.proofs.OnLiterals.{serde_json_on_literals}
 use Rattle.mx_redact.specs.Fields.{Event}
-use Rattle.mx_pdu.specs.Event.{sender_of}
 use Rattle.mx_pdu.specs.Format.{format_error, is_well_formed}
 use Rattle.mx_room.specs.declared.queries.Query.TheVariants as ask
 use Rattle.mx_wire.specs.declared.faults.Fault.TheVariants.{NotJson, WrongForm, Missing, Invalid, NoOrigin, UnknownPath, UnknownMethod, TooLarge}

@@ -1,5 +1,5 @@
 -- The number that decimal digits spell, as std's `parse` reads it.
-use Rattle.std.proofs.Common.{◌≡◌, ℕ, ◌<◌, ◌≤◌, ◌^◌, ◌*◌, ◌+◌, ◌-◌, List, length, true, false, Bool, nat_lt, ◌&&◌, fold, min, arith, rules, Ok, Err, Result, refl, sym}
+use Rattle.std.proofs.Common.{◌≡◌, ℕ, ◌<◌, ◌≤◌, ◌^◌, ◌*◌, ◌+◌, ◌-◌, List, length, true, fold, min, arith, rules, Ok, Err, Result, sym}
 use Rattle.std.specs.Char.{is_ascii_digit}
 use Rattle.std.specs.List.{list_all}
 use Rattle.std.specs.Result.{OkIff}

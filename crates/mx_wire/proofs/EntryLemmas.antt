@@ -1,7 +1,7 @@
 -- The entries of an array.
 use Rattle.std.proofs.Common.{◌≡◌, ◌<◌, ◌≤◌, ℕ, Bool, true, false, if◌then◌else◌, nat_le, List, length, string_bytes, String, map, codes, filter, arith, refl, sym, ap, ◌∙◌, leb-true}
 use Rattle.std.specs.Prelude.{Option, Some, None, option_map, option_and_then, is_some}
-use Rattle.serde_json.specs.Data.{Data, Items, array, object}
+use Rattle.serde_json.specs.Data.{Data, array, object}
 use Rattle.serde_json.specs.Find.{as_array}
 use Rattle.std.specs.Map.{lookup}
 use Rattle.std.specs.BTreeMap.{is_at}

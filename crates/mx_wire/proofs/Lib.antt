@@ -1,5 +1,8 @@
 pub mod BodyLemmas
 pub mod ReplyLemmas
+pub mod LineLemmas
+pub mod OutputLemmas
+pub mod RefusalLineLemmas
 pub mod ReadingLemmas
 pub mod PartLemmas
 pub mod ParameterLemmas
@@ -15,3 +18,9 @@ pub mod EntryLemmas
 pub mod RequestRows
 pub mod CallRows
 pub mod ReplyRows
+pub mod LineRunLemmas
+pub mod CallStepLemmas
+pub mod LogLemmas
+pub mod TextMemberLemmas
+pub mod LineRows
+pub mod AnswerLemmas

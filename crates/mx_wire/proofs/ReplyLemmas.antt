@@ -1,6 +1,5 @@
 -- The text of an object, member by member.
-use Rattle.std.proofs.Common.{◌≡◌, ℕ, List, [], ◌∷◌, ◌++◌, codes, map, refl, sym, ap, ◌∙◌, append_assoc, false, true}
-use Rattle.std.specs.Str.{chars}
+use Rattle.std.proofs.Common.{◌≡◌, ℕ, List, [], ◌∷◌, ◌++◌, codes, map, refl, sym, ap, append_assoc, false, true}
 use Rattle.std.specs.List.{join_with_byte}
 use Rattle.serde_json.specs.Data.{Data, object, Members, no_members, member}
 use Rattle.mx_canon.specs.Canonical.{canonical_text, value_text, string_text, member_text, sorted_members}

@@ -1,7 +1,7 @@
 -- What a request asks for, or its first fault (Matrix specification, Server-Server API: transactions, retrieving events,
 -- joining rooms). The faults come in this order: the body's length, the path, the method, the origin, the segments of the
 -- path, the parameters, the body.
-use Rattle.std.specs.Prelude.{ℕ, nat_lt, Bool, not, ◌&&◌, if◌then◌else◌, List, codes, bytes_eq, length, map, Option, None, Some, option_map, option_and_then, Ok, Err}
+use Rattle.std.specs.Prelude.{ℕ, nat_lt, Bool, not, ◌&&◌, if◌then◌else◌, List, codes, bytes_eq, length, map, Option, None, Some, option_map, option_and_then, Ok}
 use Rattle.std.specs.Str.{is_utf8}
 use Rattle.serde_json.specs.Data.{Data}
 use Rattle.mx_redact.specs.Fields.{Event, is_text}

@@ -12,3 +12,10 @@ pub mod CallsShown
 pub mod ReplyBodies
 pub mod RepliesShown
 pub mod JoinReplies
+pub mod Lines
+pub mod LineOutputs
+pub mod LineSteps
+pub mod LinesShown
+pub mod LineRuns
+pub mod TextMembers
+pub mod LineErrors

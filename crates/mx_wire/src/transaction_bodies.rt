@@ -63,7 +63,9 @@ fn is_array_up_to(value: &Value, most: usize) -> bool
     }
 }
 
-fn events_in<V: Verifier>(
+/// The well-formed events among the entries of an array, in their order, each with its id and the verifier's answer; none
+/// where the value is no array of at most [`MOST_EVENTS`].
+pub(crate) fn events_in<V: Verifier>(
     alloc: Global,
     value: Value,
     verifier: &V,
@@ -98,8 +100,8 @@ fn well_formed_among<V: Verifier>(
     Ok(events)
 }
 
-// The event that a value is, as it is offered.
-fn well_formed<V: Verifier>(
+/// The event that a value is, as it is offered; none where it is malformed.
+pub(crate) fn well_formed<V: Verifier>(
     alloc: Global,
     value: Value,
     verifier: &V,

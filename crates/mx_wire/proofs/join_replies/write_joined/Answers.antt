@@ -1,4 +1,4 @@
-use Rattle.std.proofs.Common.{◌≡◌, ◌++◌, codes, ◌∙◌, refl, subst}
+use Rattle.std.proofs.Common.{◌++◌, codes, ◌∙◌, refl, subst}
 use Rattle.std.specs.Str.{chars}
 use Rattle.serde_json.specs.Data.{string}
 use Rattle.mx_canon.specs.Canonical.{canonical_text, value_text, string_text}

@@ -1,4 +1,4 @@
-use Rattle.std.proofs.Common.{◌≡◌, inr, rules}
+use Rattle.std.proofs.Common.{inr, rules}
 use Rattle.mx_wire.proofs.JsonLemmas.{is_json, is_no_json}
 use Rattle.mx_wire.proofs.json_bodies.body_value.Goals as goal
 

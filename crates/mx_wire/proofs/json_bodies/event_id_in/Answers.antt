@@ -1,4 +1,4 @@
-use Rattle.std.proofs.Common.{◌≡◌, sym, ap, ◌∙◌, Err, is_none, false, None, rules}
+use Rattle.std.proofs.Common.{◌≡◌, sym, ap, Err, is_none, false, rules}
 use Rattle.mx_ident.specs.Identifier.{is_event_id}
 use Rattle.serde_json.specs.View.{view}
 use Rattle.mx_wire.proofs.BodyIdLemmas.{not_an_id}

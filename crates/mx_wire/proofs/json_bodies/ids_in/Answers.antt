@@ -1,7 +1,7 @@
 use Rattle.std.proofs.Common.{◌≡◌, sym, ap, ◌∙◌, subst, IfOk, List, map}
 use Rattle.serde_json.specs.View.{view}
 use Rattle.serde_json.specs.declared.value.Value.{Value}
-use Rattle.std.specs.Prelude.{option_and_then, option_map, Some}
+use Rattle.std.specs.Prelude.{option_and_then, option_map}
 use Rattle.mx_redact.specs.Fields.{item_list}
 use Rattle.mx_wire.specs.Requests.{texts_of, all_event_ids}
 use Rattle.mx_wire.proofs.BodyIdLemmas.{values}

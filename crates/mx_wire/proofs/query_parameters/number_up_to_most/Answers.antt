@@ -1,4 +1,4 @@
-use Rattle.std.proofs.Common.{◌≡◌, ap, ◌∙◌, min}
+use Rattle.std.proofs.Common.{ap, ◌∙◌, min}
 use Rattle.mx_wire.proofs.query_parameters.number_up_to_most.Goals as goal
 use Rattle.mx_wire.proofs.DigitLemmas.{read_number, over_many}
 

@@ -1,4 +1,4 @@
-use Rattle.std.proofs.Common.{◌≡◌, [], ap, ◌∙◌}
+use Rattle.std.proofs.Common.{[], ap, ◌∙◌}
 use Rattle.mx_canon.specs.Canonical.{canonical_text}
 use Rattle.mx_wire.specs.ReplyBodies.{sent_events}
 use Rattle.mx_wire.proofs.query_replies.sent_body.Goals as goal

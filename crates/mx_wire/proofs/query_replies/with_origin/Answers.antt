@@ -1,4 +1,4 @@
-use Rattle.std.proofs.Common.{◌≡◌, codes, ap, ap₂, ◌∙◌}
+use Rattle.std.proofs.Common.{codes, ap, ap₂, ◌∙◌}
 use Rattle.serde_json.specs.Data.{Data, object, string, put}
 use Rattle.serde_json.specs.View.{members_view}
 use Rattle.serde_json.proofs.Views.{members_view-insert_entry}

@@ -1,10 +1,8 @@
-use Rattle.std.proofs.Common.{◌≡◌, ◌++◌, codes, ap, ◌∙◌, refl, subst}
+use Rattle.std.proofs.Common.{codes, refl, subst}
 use Rattle.std.specs.Str.{chars}
-use Rattle.serde_json.specs.Data.{object, string, number, unsigned}
-use Rattle.serde_json.specs.View.{members_view}
-use Rattle.mx_canon.specs.Canonical.{canonical_text, value_text, string_text}
-use Rattle.mx_wire.specs.ReplyBodies.{event_array, id_array}
-use Rattle.mx_wire.proofs.ReplyLemmas.{with_first, with_next, one, two, three}
+use Rattle.mx_canon.specs.Canonical.{canonical_text}
+use Rattle.mx_wire.specs.ReplyBodies.{id_array}
+use Rattle.mx_wire.proofs.ReplyLemmas.{two}
 use Rattle.mx_wire.proofs.query_replies.write_state_ids.Goals as goal
 
 pub returns : goal.returns

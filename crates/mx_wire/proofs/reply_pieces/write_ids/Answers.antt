@@ -2,7 +2,7 @@ use Rattle.std.proofs.Common.{◌≡◌, ◌+◌, ◌++◌, ◌∷◌, [], drop,
 use Rattle.std.proofs.lemmas.List.{drop_more, drop_all}
 use Rattle.std.specs.List.{join_with_byte}
 use Rattle.mx_canon.specs.Pieces.{comma_if}
-use Rattle.mx_canon.specs.Canonical.{canonical_text, value_text, string_text, item_texts}
+use Rattle.mx_canon.specs.Canonical.{canonical_text, string_text, item_texts}
 use Rattle.mx_canon.proofs.PieceLemmas.{left, left-step, ended}
 use Rattle.mx_wire.specs.ReplyBodies.{id_items}
 use Rattle.mx_wire.proofs.reply_pieces.write_ids.Goals as goal

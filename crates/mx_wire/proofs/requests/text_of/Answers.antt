@@ -1,4 +1,4 @@
-use Rattle.std.proofs.Common.{◌≡◌, ap, sym, ◌∙◌, Some}
+use Rattle.std.proofs.Common.{ap, sym, ◌∙◌, Some}
 use Rattle.mx_wire.proofs.TextLemmas.{is_text, is_no_text}
 use Rattle.mx_wire.proofs.requests.text_of.Goals as goal
 

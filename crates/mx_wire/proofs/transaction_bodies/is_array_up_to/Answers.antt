@@ -1,4 +1,4 @@
-use Rattle.std.proofs.Common.{◌≡◌, sym, ap, ◌∙◌, nat_le}
+use Rattle.std.proofs.Common.{sym, ap, ◌∙◌, nat_le}
 use Rattle.mx_wire.proofs.EntryLemmas.{array-length}
 use Rattle.mx_wire.proofs.transaction_bodies.is_array_up_to.Goals as goal
 

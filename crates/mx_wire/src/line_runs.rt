@@ -1,0 +1,238 @@
+// Logs, answered line by line.
+ghost use Rattle.std.specs.Prelude.{◌≡◌, ◌≢◌, ◌<◌, ◌≤◌, ◌∷◌, ℕ, List, [], IfOk, IfSome, OnOk, false, length, slice_index};
+ghost use Rattle.std.specs.Io.KnownBytes.{Appends};
+ghost use Rattle.mx_world.specs.Calls.{Start};
+ghost use Rattle.mx_world.specs.Worlds.{IsAfter};
+ghost use Rattle.mx_wire.specs.LineOutputs.{has_refusal};
+ghost use Rattle.mx_wire.specs.LineRuns.{AreAnswered, IsDone, IsWritten};
+ghost use Rattle.mx_wire.specs.LineSteps.{IsAnswered, nothing_yet};
+ghost use Rattle.mx_wire.specs.Lines.{lines_of};
+ghost use Rattle.mx_wire.specs.Lines as definition;
+ghost use Rattle.mx_wire.specs.LinesShown.{answer_output};
+ghost use Rattle.mx_world.specs.declared.steps.Step.{Step as AnyStep};
+ghost use Rattle.mx_wire.specs.Offers.{offer_by};
+
+use crate::input::{InputError, read_all};
+use crate::line_answers::{LineAnswer, LineRefusal};
+use crate::line_steps::answer_line;
+use crate::line_writing::{write_answer, write_refusal};
+use crate::lines::read_line;
+use crate::routes::Routes;
+use crate::shard_counts::ShardCount;
+use json::Scratch;
+use memchr::memchr;
+use mx_ident::ServerName;
+use mx_keeper::{BookRow, CallError, Keeper, MemoryKeeper, ShardRow, Storable};
+use mx_pdu::Verifier;
+use mx_world::World;
+use std::alloc::{AllocError, Global};
+use std::io::{self, Read, Write};
+use thiserror::Error;
+
+/// Why a log was not answered to its end.
+///
+/// `Memory`: no memory was left before its first line. `Storage`: what is to keep the rows failed before it. `Read`: it
+/// could not be read. `Write`: an answer could not be written.
+#[derive(Clone, Copy, Debug, PartialEq, Eq, Drop, Error)]
+pub enum LinesError {
+    #[error("memory")]
+    Memory,
+    #[error("storage")]
+    Storage,
+    #[error("failed read")]
+    Read,
+    #[error("failed write")]
+    Write,
+}
+
+impl From<AllocError> for LinesError {
+    ghost use Rattle.std.specs.Prelude.{◌≡◌};
+    ghost use Rattle.mx_wire.specs.declared.line_runs.LinesError.TheVariants.{Memory};
+
+    ghost from_gives = { λ _ e. e ≡ Memory };
+
+    fn from(_refused: AllocError) -> LinesError {
+        LinesError::Memory
+    }
+}
+
+impl From<InputError> for LinesError {
+    ghost use Rattle.std.specs.Prelude.{◌≡◌};
+    ghost use Rattle.mx_wire.specs.LineErrors.{of_input};
+
+    ghost from_gives = { λ error e. e ≡ of_input error };
+
+    fn from(error: InputError) -> LinesError {
+        match error {
+            InputError::Memory => LinesError::Memory,
+            InputError::Read => LinesError::Read,
+        }
+    }
+}
+
+impl From<CallError> for LinesError {
+    ghost use Rattle.std.specs.Prelude.{◌≡◌};
+    ghost use Rattle.mx_wire.specs.LineErrors.{of_call};
+
+    ghost from_gives = { λ error e. e ≡ of_call error };
+
+    fn from(error: CallError) -> LinesError {
+        match error {
+            CallError::Memory => LinesError::Memory,
+            CallError::Storage => LinesError::Storage,
+        }
+    }
+}
+
+/// Answers a log as a new server of this name, over so many shards and books, with its rows in memory: one line for each
+/// line of the log, in their order.
+///
+/// Where no line is a refusal for memory or storage, what is written is what the lines' steps call for: a server that
+/// takes these steps one after another, each transaction's next only where it was opened, gives these replies. A line
+/// that is refused is answered so, and those after it are read. Nothing is promised of what was written after an error.
+///
+/// Source: the lines are our own; the requests that they hold are those of the Matrix specification, Server-Server API.
+pub fn run_lines<R: Read, W: Write, V: Verifier>(
+    alloc: Global,
+    input: &mut R,
+    out: &mut W,
+    name: &ServerName,
+    shards: ShardCount,
+    verifier: &V,
+) -> Result<(), LinesError>
+    ensures { OnOk result (IfSome (R.remaining input.old) (λ read.
+        (written : List ℕ) × Appends (W.contents out.old) (W.contents out.new) written
+        × (has_refusal written ≡ false → IsAnswered (V.judges verifier.now) name.now read written))) }
+{
+    let log = read_all(alloc, input)?;
+    let routes = Routes::new(alloc)?;
+    let mut world = new_world(alloc, shards)?;
+    match answer_log(alloc, &routes, name, verifier, &mut world, &log, out) {
+        Ok(()) => Ok(()),
+        Err(_failed) => Err(LinesError::Write),
+    }
+}
+
+// A server that hosts no room.
+fn new_world(
+    alloc: Global,
+    shards: ShardCount,
+) -> Result<World<MemoryKeeper<ShardRow>, MemoryKeeper<BookRow>>, LinesError>
+    ensures { IfOk result (λ world. IsAfter nothing_yet [] world) }
+{
+    let shard_keepers = keepers(alloc, shards)?;
+    let book_keepers = keepers(alloc, shards)?;
+    let world = World::new(alloc, shard_keepers, book_keepers)?;
+    Ok(world)
+}
+
+// As many keepers, with no rows.
+fn keepers<R: Storable>(
+    alloc: Global,
+    shards: ShardCount,
+) -> Result<Vec<MemoryKeeper<R>>, AllocError>
+    ensures { IfOk result (λ keepers. length keepers.items ≡ shards) }
+{
+    let mut keepers = Vec::new(alloc);
+    for _keeper in 0..shards.get() {
+        keepers.push(MemoryKeeper::new(alloc))?;
+    }
+    Ok(keepers)
+}
+
+// Each line of a log, answered.
+fn answer_log<K: Keeper<Row = ShardRow>, L: Keeper<Row = BookRow>, V: Verifier, W: Write>(
+    alloc: Global,
+    routes: &Routes,
+    name: &ServerName,
+    verifier: &V,
+    world: &mut World<K, L>,
+    log: &[u8],
+    out: &mut W,
+) -> io::Result<()>
+    ensures { OnOk result ((start : Start) → IsAfter start [] world.old
+        → AreAnswered (offer_by (V.judges verifier.now)) name.now start (lines_of log.now) (W.contents out.old) (W.contents out.new) world.new) }
+{
+    let mut scratch = Scratch::new(alloc);
+    let mut rest = log;
+    while !rest.is_empty() {
+        let (line, after) = first_line(rest);
+        answer_text(
+            alloc,
+            routes,
+            name,
+            verifier,
+            world,
+            &mut scratch,
+            line,
+            out,
+        )?;
+        rest = after;
+    }
+    Ok(())
+}
+
+// The line that a text is, answered.
+fn answer_text<K: Keeper<Row = ShardRow>, L: Keeper<Row = BookRow>, V: Verifier, W: Write>(
+    alloc: Global,
+    routes: &Routes,
+    name: &ServerName,
+    verifier: &V,
+    world: &mut World<K, L>,
+    scratch: &mut Scratch,
+    text: &[u8],
+    out: &mut W,
+) -> io::Result<()>
+    ensures { OnOk result (IsWritten (offer_by (V.judges verifier.now)) name.now text.now world.old world.new (W.contents out.old) (W.contents out.new)) }
+{
+    match answer_of(alloc, routes, name, verifier, world, scratch, text) {
+        Ok(answer) => {
+            let _told = write_answer(alloc, out, &answer)?;
+            Ok(())
+        }
+        Err(refusal) => {
+            write_refusal(out, refusal)?;
+            Ok(())
+        }
+    }
+}
+
+// The answer to the line that a text is.
+fn answer_of<K: Keeper<Row = ShardRow>, L: Keeper<Row = BookRow>, V: Verifier>(
+    alloc: Global,
+    routes: &Routes,
+    name: &ServerName,
+    verifier: &V,
+    world: &mut World<K, L>,
+    scratch: &mut Scratch,
+    text: &[u8],
+) -> Result<LineAnswer, LineRefusal>
+    ensures { IfOk result (λ answer. (start : Start) (earlier : List AnyStep) → IsAfter start earlier world.old
+        → IsDone (offer_by (V.judges verifier.now)) name.now (definition.read_line (offer_by (V.judges verifier.now)) text.now)
+        (answer_output answer) start earlier world.new) }
+{
+    let line = read_line(alloc, scratch, verifier, text).map_err(LineRefusal::unread)?;
+    let answer = answer_line(alloc, routes, name, verifier, world, line)?;
+    Ok(answer)
+}
+
+// The first line without its newline, and what comes after it.
+fn first_line(text: &[u8]) -> (&[u8], &[u8])
+    ensures lines { 0 < length text.now → lines_of text.now ≡ result.0.now ∷ lines_of result.1.now }
+    ensures fewer { 0 < length text.now → length result.1.now < length text.now }
+{
+    let (line, rest) = text.split_at(line_end(text));
+    match rest.split_first() {
+        Some((_newline, after)) => (line, after),
+        None => (line, rest),
+    }
+}
+
+// Where the first line ends.
+fn line_end(text: &[u8]) -> usize
+    ensures bound { result ≤ length text.now }
+    ensures clean { (place : ℕ) → place < result → slice_index text.now place ≢ 10 }
+    ensures stops { result < length text.now → slice_index text.now result ≡ 10 }
+{
+    memchr(b'\n', text).unwrap_or(text.len())
+}
