@@ -346,6 +346,40 @@ def send_join(log):
     }), "d.example")
 
 
+def state_ids(log, made, state, chain):
+    answer = {"auth_chain_ids": ids(by_id(*chain)), "pdu_ids": ids(state)}
+    get(log, state_path("state_ids", made), (200, answer), "b.example")
+
+
+def key_removed_by_a_delta(log):
+    """Where power levels that demote B meet her topic, the state after both has no topic."""
+    base = Base(log)
+    topic_b = topic(B, [base.join_c], base.of_b)
+    demotes = levels(A, [base.join_c], base.of_a, {A: 100, B: 0, C: 50})
+    after = message(A, [topic_b], base.of_a)
+    merged = message(A, [topic_b, demotes], [base.create, base.join_a, demotes])
+    sent(log, "b.example", "t1", *((made, ACCEPTED) for made in (topic_b, demotes, after, merged)))
+    members = [base.join_a, base.join_b, base.join_c]
+    chain = [base.create, base.join_a, base.levels, base.rules]
+    state_ids(log, after, [base.create, base.rules, *members, base.levels, topic_b], chain + [base.join_b])
+    state_ids(log, merged, [base.create, base.rules, *members, demotes], chain)
+
+
+def long_chain(log):
+    """200 topics in a chain: the state before each has the one before it."""
+    base = Base(log)
+    before = [base.join_c]
+    for number in range(200):
+        before.append(topic(A, before[-1:], base.of_a, "t%d" % number))
+    topics = before[1:]
+    for first in range(0, 200, 50):
+        sent(log, "a.example", "t%d" % first, *((made, ACCEPTED) for made in topics[first:first + 50]))
+    members = [base.join_a, base.join_b, base.join_c]
+    chain = [base.create, base.join_a, base.levels, base.rules]
+    for place in (1, 2, 56, 57, 58, 63, 64, 65, 121, 122, 127, 128, 129, 190, 199):
+        state_ids(log, topics[place], [base.create, base.rules, *members, base.levels, topics[place - 1]], chain)
+
+
 def life_of_a_room(log):
     """examples/requests.jsonl: a room is hosted, a server joins it, sends, forks and merges, redacts, and asks each query."""
     first = create()
@@ -395,4 +429,5 @@ REQUEST_ROWS = (
     requests_child_before_parent, requests_altered_content, requests_two_rooms, access_list_by_requests,
     state_ids_and_chains, backfill_and_missing_events, template_of_a_join, joined_history, effective_redaction,
     route_faults, authorization_spellings, transaction_limits, parameter_faults, number_held_by_a_line, send_join,
+    key_removed_by_a_delta, long_chain,
 )

@@ -1,18 +1,18 @@
 -- The steps of a request, one after another.
-use Rattle.std.proofs.Common.{◌≡◌, ℕ, zero, suc, ◌<◌, List, [], ◌∷◌, ◌++◌, Some, length, map, refl, sym, ◌∙◌, ap, arith, append-nil, append_assoc}
+use Rattle.std.proofs.Common.{◌≡◌, ◌≢◌, ℕ, zero, suc, ◌<◌, List, [], ◌∷◌, ◌++◌, Some, length, refl, sym, ◌∙◌, ap, arith, append-nil, append_assoc}
 use Rattle.std.proofs.lemmas.List.{length-append, length-map}
 use Rattle.mx_book.specs.declared.transaction_keys.TransactionKey.{TransactionKey}
 use Rattle.mx_world.specs.Calls.{Start}
 use Rattle.mx_world.specs.View.{WorldView}
 use Rattle.mx_world.specs.Worlds.{IsAfter}
 use Rattle.mx_world.specs.declared.steps.Step.{Step}
-use Rattle.mx_world.specs.declared.steps.Step.TheVariants.{Next, Close}
+use Rattle.mx_world.specs.declared.steps.Step.TheVariants.{Host, Open, Next, Close, Join, Ask}
 use Rattle.mx_world.specs.declared.steps.StepReply.{StepReply}
-use Rattle.mx_world.specs.declared.steps.StepReply.TheVariants.{Opened}
-use Rattle.mx_wire.specs.Calls.{Call, sends}
-use Rattle.mx_wire.specs.LineRuns.{AreDone, AreSent, AreTaken, AreTurned, IsCalled, IsStepTaken, IsTaken, nexts}
-use Rattle.mx_wire.specs.LineSteps.{key_of, last_of, once_open, reply_to, step_shown, steps_of, turns}
-use Rattle.mx_wire.specs.Lines.{open_step, next_step, close_step}
+use Rattle.mx_world.specs.declared.steps.StepReply.TheVariants.{OfRoom, Opened, Replayed, Busy, NotOpen, NoMore, OfEvent, MoreLeft, Closed}
+use Rattle.mx_wire.specs.Calls.{Call}
+use Rattle.mx_wire.specs.LineRuns.{AreDone, AreFollowed, AreTaken, AreTakenFrom, AreTurned, IsCalled, IsTaken, nexts}
+use Rattle.mx_wire.specs.LineSteps.{first_of, first_step, following, last_of, once_open, reply_to, step_shown, steps_from, turns}
+use Rattle.mx_wire.specs.Lines.{StepView, open_step, next_step, close_step}
 use Rattle.mx_wire.specs.Offers.{Offered}
 use Rattle.mx_wire.specs.ReplyBodies.{Response}
 use Rattle.mx_wire.proofs.LineRunLemmas.{map_one, replies_append}
@@ -80,46 +80,86 @@ all_turned key n s earlier r w w' before taken = record {
 one-close : (key : TransactionKey) (n : ℕ) → 0 < length (nexts key n ++ close_step key ∷ [])
 one-close key n = rw (length-append (nexts key n) (close_step key ∷ [])) (omega arith)
 
--- a transaction that was opened, with its turns and its close
-pub all_sent : {K L : Type 0} (key : TransactionKey) (events : List Offered) (n : ℕ) (last : StepReply) (s : Start) (earlier : List Step) (w w' : WorldView K L) (opening : IsStepTaken (open_step key events) (Opened n) s earlier w) → AreTurned key (length events) last s (earlier ++ opening.step ∷ []) w' → AreSent key events last s earlier w'
-all_sent key events n last s earlier w w' opening turned =
-    let many : length turned.replies ≡ length (nexts key (length events) ++ close_step key ∷ []) =
+-- an opening that was answered so, with its turns and its close
+pub opened_followed : {K L : Type 0} (key : TransactionKey) (n count : ℕ) (last : StepReply) (s : Start) (earlier : List Step) (w : WorldView K L) → AreTurned key count last s earlier w → AreFollowed key count (Opened n) last s earlier w
+opened_followed key n count last s earlier w turned =
+    let many : length turned.replies ≡ length (nexts key count ++ close_step key ∷ []) =
     turned.done.count ∙ sym (length-map turned.steps step_shown) ∙ ap length turned.shown in
     record {
-      steps = opening.step ∷ turned.steps;
-      replies = Opened n ∷ turned.replies;
-      shown = ap (λ x. x ∷ map step_shown turned.steps) opening.shown
-          ∙ ap (λ l. open_step key events ∷ l) (turned.shown ∙ turns_so_many key events);
-      done = then_done s earlier turned.steps turned.replies opening.step (Opened n) w w' opening.taken turned.done;
-      is_last = turned.is_last ∙ sym (last_more (Opened n) turned.replies (rw many (one-close key (length events))));
+      steps = turned.steps;
+      replies = turned.replies;
+      shown = turned.shown;
+      done = turned.done;
+      is_last = turned.is_last ∙ sym (last_more (Opened n) turned.replies (rw many (one-close key count)));
     }
 
--- a transaction that was not opened
-pub one_sent : {K L : Type 0} (key : TransactionKey) (events : List Offered) (r : StepReply) (s : Start) (earlier : List Step) (w : WorldView K L) → once_open (Some r) (turns key events) ≡ [] → IsStepTaken (open_step key events) r s earlier w → AreSent key events r s earlier w
-one_sent key events r s earlier w none opening = record {
-  steps = opening.step ∷ [];
-  replies = r ∷ [];
-  shown = ap (λ x. x ∷ []) opening.shown ∙ ap (λ l. open_step key events ∷ l) (sym none);
-  done = one_done s earlier opening.step r w opening.taken;
+nothing_once_open : (r : StepReply) (steps : List StepView) → ((n : ℕ) → r ≢ Opened n) → once_open (Some r) steps ≡ []
+nothing_once_open (OfRoom a) steps other = refl
+nothing_once_open (Opened n) steps other = absurd (other n refl)
+nothing_once_open (Replayed b) steps other = refl
+nothing_once_open Busy steps other = refl
+nothing_once_open NotOpen steps other = refl
+nothing_once_open NoMore steps other = refl
+nothing_once_open (OfEvent t) steps other = refl
+nothing_once_open (MoreLeft n) steps other = refl
+nothing_once_open (Closed b) steps other = refl
+
+-- nothing follows an opening that was answered otherwise
+pub nothing_followed : {K L : Type 0} (key : TransactionKey) (count : ℕ) (r : StepReply) (s : Start) (earlier : List Step) (w : WorldView K L) → ((n : ℕ) → r ≢ Opened n) → IsAfter s earlier w → AreFollowed key count r r s earlier w
+nothing_followed key count r s earlier w other now = record {
+  steps = [];
+  replies = [];
+  shown = sym (nothing_once_open r (nexts key count ++ close_step key ∷ []) other);
+  done = none_done s earlier w now;
   is_last = refl;
 }
 
--- a call of one step
-pub one_called : {K L : Type 0} (server : List ℕ) (now : ℕ) (call : Call) (x : Step) (r : StepReply) (response : Response) (s : Start) (earlier : List Step) (w : WorldView K L) → step_shown x ∷ [] ≡ steps_of now call (Some r) → response ≡ reply_to server now call r → IsTaken s earlier x r w → IsCalled server now call response s earlier w
-one_called server now call x r response s earlier w shown is taken = record {
-  steps = x ∷ [];
-  replies = r ∷ [];
-  shown = shown;
-  done = one_done s earlier x r w taken;
-  is_response = is;
+once_open-none : (r : StepReply) → once_open (Some r) [] ≡ []
+once_open-none (OfRoom a) = refl
+once_open-none (Opened n) = refl
+once_open-none (Replayed b) = refl
+once_open-none Busy = refl
+once_open-none NotOpen = refl
+once_open-none NoMore = refl
+once_open-none (OfEvent t) = refl
+once_open-none (MoreLeft n) = refl
+once_open-none (Closed b) = refl
+
+pub following-none : (x : Step) → ((key : TransactionKey) (events : _) → x ≢ Open key events) → following (step_shown x) ≡ []
+following-none (Host o) other = refl
+following-none (Open key events) other = absurd (other key events refl)
+following-none (Next key) other = refl
+following-none (Close key) other = refl
+following-none (Join origin o) other = refl
+following-none (Ask origin now q) other = refl
+
+-- an opening and what follows it
+pub opening_taken : {K L : Type 0} (x : Step) (r : StepReply) (key : TransactionKey) (events : List Offered) (last : StepReply) (s : Start) (earlier : List Step) (w w' : WorldView K L) → step_shown x ≡ open_step key events → IsTaken s earlier x r w → AreFollowed key (length events) r last s (earlier ++ x ∷ []) w' → AreTakenFrom (step_shown x) last s earlier w'
+opening_taken x r key events last s earlier w w' is taken followed = record {
+  steps = x ∷ followed.steps;
+  replies = r ∷ followed.replies;
+  shown = ap (λ l. step_shown x ∷ l)
+      (followed.shown ∙ ap (once_open (Some r)) (turns_so_many key events ∙ ap following (sym is)));
+  done = then_done s earlier followed.steps followed.replies x r w w' taken followed.done;
+  is_last = followed.is_last;
 }
 
--- a call that sends a transaction
-pub sends_called : {K L : Type 0} (server : List ℕ) (now : ℕ) (origin txn : List ℕ) (events : List Offered) (last : StepReply) (response : Response) (s : Start) (earlier : List Step) (w : WorldView K L) → AreSent (key_of origin txn) events last s earlier w → response ≡ reply_to server now (sends origin txn events) last → IsCalled server now (sends origin txn events) response s earlier w
-sends_called server now origin txn events last response s earlier w sent is = record {
-  steps = sent.steps;
-  replies = sent.replies;
-  shown = sent.shown;
-  done = sent.done;
-  is_response = is ∙ ap (reply_to server now (sends origin txn events)) sent.is_last;
+-- a first step that opens nothing
+pub only_taken : {K L : Type 0} (x : Step) (r : StepReply) (s : Start) (earlier : List Step) (w : WorldView K L) → following (step_shown x) ≡ [] → IsTaken s earlier x r w → AreTakenFrom (step_shown x) r s earlier w
+only_taken x r s earlier w none taken = record {
+  steps = x ∷ [];
+  replies = r ∷ [];
+  shown = ap (λ l. step_shown x ∷ l) (sym (ap (once_open (Some r)) none ∙ once_open-none r));
+  done = one_done s earlier x r w taken;
+  is_last = refl;
+}
+
+-- a call by its first step
+pub taken_called : {K L : Type 0} (server : List ℕ) (now : ℕ) (call : Call) (first : StepView) (last : StepReply) (response : Response) (s : Start) (earlier : List Step) (w : WorldView K L) → first ≡ first_step now call → AreTakenFrom first last s earlier w → response ≡ reply_to server first last → IsCalled server now call response s earlier w
+taken_called server now call first last response s earlier w is taken written = record {
+  steps = taken.steps;
+  replies = taken.replies;
+  shown = taken.shown ∙ ap (λ f. steps_from f (first_of taken.replies)) is;
+  done = taken.done;
+  is_response = written ∙ ap (reply_to server first) taken.is_last ∙ ap (λ f. reply_to server f (last_of taken.replies)) is;
 }

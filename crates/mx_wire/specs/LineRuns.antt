@@ -1,6 +1,6 @@
 -- For proofs and private clauses alone.
 -- What is done for a line, and for the lines so far.
-use Rattle.std.specs.Prelude.{ℕ, zero, suc, ◌≡◌, ◌⊎◌, false, List, [], ◌∷◌, ◌++◌, flat_map, length, map, Option}
+use Rattle.std.specs.Prelude.{ℕ, zero, suc, ◌≡◌, ◌⊎◌, false, List, [], ◌∷◌, ◌++◌, flat_map, length, map, Option, Some}
 use Rattle.std.specs.Io.KnownBytes.{Appends}
 use Rattle.mx_redact.specs.Fields.{Event}
 use Rattle.mx_book.specs.declared.transaction_keys.TransactionKey.{TransactionKey}
@@ -10,15 +10,13 @@ use Rattle.mx_world.specs.View.{WorldView}
 use Rattle.mx_world.specs.Worlds.{IsAfter}
 use Rattle.mx_world.specs.declared.steps.Step.{Step}
 use Rattle.mx_world.specs.declared.steps.StepReply.{StepReply}
-use Rattle.mx_world.specs.declared.steps.Step.TheVariants.{Ask}
-use Rattle.mx_wire.specs.Calls.{Call, asks}
+use Rattle.mx_wire.specs.Calls.{Call}
 use Rattle.mx_wire.specs.LineOutputs.{has_refusal}
 use Rattle.mx_wire.specs.Lines.{Line, StepView, next_step, close_step, read_line}
 use Rattle.mx_wire.specs.Offers.{Offered}
-use Rattle.mx_wire.specs.LineSteps.{AreRun, Exchange, first_of, last_of, line_output, line_steps, reply_to, sent_steps, step_shown, steps_of}
+use Rattle.mx_wire.specs.LineSteps.{AreRun, Exchange, first_of, first_step, last_of, line_output, line_steps, once_open, reply_to, step_shown, steps_from}
 use Rattle.mx_wire.specs.LinesShown.{refusal_output}
-use Rattle.mx_wire.specs.ReplyBodies.{Response, failure}
-use Rattle.mx_wire.specs.declared.faults.Fault.TheVariants.{NotFound}
+use Rattle.mx_wire.specs.ReplyBodies.{Response}
 use Rattle.mx_wire.specs.declared.line_answers.LineRefusal.{LineRefusal}
 
 -- a step was taken after others, with its reply, and this is what is kept
@@ -26,30 +24,11 @@ pub record IsTaken {K L : Type 0} (start : Start) (earlier : List Step) (step : 
   pub is_reply : IsReply (record_after start earlier) (status_after start earlier) step reply
   pub after : IsAfter start (earlier ++ step ∷ []) w
 
--- so for a step that is seen as this
-pub record IsStepTaken {K L : Type 0} (seen : StepView) (reply : StepReply) (start : Start) (earlier : List Step) (w : WorldView K L) : Type 0 where
-  pub step : Step
-  pub shown : step_shown step ≡ seen
-  pub taken : IsTaken start earlier step reply w
-
 -- after these steps a server has taken more, has answered each, and this is what it keeps
 pub record AreDone {K L : Type 0} (earlier steps : List Step) (replies : List StepReply) (start : Start) (w : WorldView K L) : Type 0 where
   pub count : length replies ≡ length steps
   pub replied : AreReplies start earlier steps replies
   pub after : IsAfter start (earlier ++ steps) w
-
--- so for a call at a moment, with this response
-pub record IsCalled {K L : Type 0} (server : List ℕ) (now : ℕ) (call : Call) (response : Response) (start : Start) (earlier : List Step) (w : WorldView K L) : Type 0 where
-  pub steps : List Step
-  pub replies : List StepReply
-  pub shown : map step_shown steps ≡ steps_of now call (first_of replies)
-  pub done : AreDone earlier steps replies start w
-  pub is_response : response ≡ reply_to server now call (last_of replies)
-
--- the response to a step that asks, by its reply
-abbrev pub asked_response : List ℕ → Step → StepReply → Response
-asked_response server (Ask origin now q) reply = reply_to server now (asks origin q) reply
-asked_response server step reply = failure NotFound
 
 -- so many turns of a transaction's events
 abbrev pub nexts : TransactionKey → ℕ → List StepView
@@ -71,13 +50,29 @@ pub record AreTurned {K L : Type 0} (key : TransactionKey) (count : ℕ) (last :
   pub done : AreDone earlier steps replies start w
   pub is_last : last ≡ last_of replies
 
--- so for a transaction, of whose last step this is the reply
-pub record AreSent {K L : Type 0} (key : TransactionKey) (events : List Offered) (last : StepReply) (start : Start) (earlier : List Step) (w : WorldView K L) : Type 0 where
+-- so for what follows an opening that has this reply, with the last reply of all
+pub record AreFollowed {K L : Type 0} (key : TransactionKey) (count : ℕ) (reply last : StepReply) (start : Start) (earlier : List Step) (w : WorldView K L) : Type 0 where
   pub steps : List Step
   pub replies : List StepReply
-  pub shown : map step_shown steps ≡ sent_steps key events (first_of replies)
+  pub shown : map step_shown steps ≡ once_open (Some reply) (nexts key count ++ close_step key ∷ [])
+  pub done : AreDone earlier steps replies start w
+  pub is_last : last ≡ last_of (reply ∷ replies)
+
+-- so for the steps that begin with one that is seen as this, with the last reply
+pub record AreTakenFrom {K L : Type 0} (first : StepView) (last : StepReply) (start : Start) (earlier : List Step) (w : WorldView K L) : Type 0 where
+  pub steps : List Step
+  pub replies : List StepReply
+  pub shown : map step_shown steps ≡ steps_from first (first_of replies)
   pub done : AreDone earlier steps replies start w
   pub is_last : last ≡ last_of replies
+
+-- so for a call at a moment, with this response
+pub record IsCalled {K L : Type 0} (server : List ℕ) (now : ℕ) (call : Call) (response : Response) (start : Start) (earlier : List Step) (w : WorldView K L) : Type 0 where
+  pub steps : List Step
+  pub replies : List StepReply
+  pub shown : map step_shown steps ≡ steps_from (first_step now call) (first_of replies)
+  pub done : AreDone earlier steps replies start w
+  pub is_response : response ≡ reply_to server (first_step now call) (last_of replies)
 
 -- so for a line, with this output
 pub record IsDone {K L : Type 0} (offer : Event → Offered) (server : List ℕ) (line : Line) (output : List ℕ) (start : Start) (earlier : List Step) (w : WorldView K L) : Type 0 where

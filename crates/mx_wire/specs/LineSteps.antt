@@ -28,45 +28,45 @@ step_shown (Ask origin now q) = ask_step origin now q
 
 -- ---- the steps of a request
 
-abbrev pub key_of : (origin txn : List ℕ) → TransactionKey
-key_of origin txn = record { origin = origin; txn = txn }
+-- a transaction is opened first
+abbrev pub first_step : ℕ → Call → StepView
+first_step now (sends origin txn events) = open_step (record { origin = origin; txn = txn }) events
+first_step now (asks origin q) = ask_step origin now q
+first_step now (joins origin o) = join_step origin o
 
 -- each event's turn, and the close
 abbrev pub turns : TransactionKey → List Offered → List StepView
 turns key [] = close_step key ∷ []
 turns key (o ∷ os) = next_step key ∷ turns key os
 
--- what follows an opening that has this reply
+-- the steps after the first, where it opens a transaction
+abbrev pub following : StepView → List StepView
+following (open_step key events) = turns key events
+following _ = []
+
 abbrev pub once_open : Option StepReply → List StepView → List StepView
 once_open (Some (Opened n)) steps = steps
 once_open _ steps = []
 
--- a transaction is opened first, and the others follow where it was opened
-abbrev pub sent_steps : TransactionKey → List Offered → Option StepReply → List StepView
-sent_steps key events reply = open_step key events ∷ once_open reply (turns key events)
+-- the steps that begin with this one, where it has this reply
+abbrev pub steps_from : StepView → Option StepReply → List StepView
+steps_from first reply = first ∷ once_open reply (following first)
 
--- the steps of a call at a moment, where its first one has this reply
-abbrev pub steps_of : ℕ → Call → Option StepReply → List StepView
-steps_of now (sends origin txn events) reply = sent_steps (key_of origin txn) events reply
-steps_of now (asks origin q) reply = ask_step origin now q ∷ []
-steps_of now (joins origin o) reply = join_step origin o ∷ []
-
--- the steps of a request
+-- the steps of a request at a moment, where its first one has this reply
 abbrev pub call_steps : ℕ → Read Call → Option StepReply → List StepView
 call_steps now (Err f) reply = []
-call_steps now (Ok call) reply = steps_of now call reply
+call_steps now (Ok call) reply = steps_from (first_step now call) reply
 
 -- ---- the reply to a request
 
--- by the reply to its last step; of a room that is not hosted nothing is found
-abbrev pub reply_to : List ℕ → ℕ → Call → StepReply → Response
-reply_to server now (sends origin txn events) (Closed body) = success body
-reply_to server now (sends origin txn events) (Replayed body) = success body
-reply_to server now (sends origin txn events) _ = failure TransactionBusy
-reply_to server now (asks origin q) (OfRoom (ToAsked answered)) = query_reply server now q answered
-reply_to server now (asks origin q) _ = failure NotFound
-reply_to server now (joins origin o) (OfRoom (ToJoined reply)) = join_reply server reply
-reply_to server now (joins origin o) _ = failure NotFound
+-- by its first step and the reply to its last one; of a room that is not hosted nothing is found
+abbrev pub reply_to : List ℕ → StepView → StepReply → Response
+reply_to server (open_step key events) (Closed body) = success body
+reply_to server (open_step key events) (Replayed body) = success body
+reply_to server (open_step key events) _ = failure TransactionBusy
+reply_to server (ask_step origin now q) (OfRoom (ToAsked answered)) = query_reply server now q answered
+reply_to server (join_step origin o) (OfRoom (ToJoined reply)) = join_reply server reply
+reply_to server _ _ = failure NotFound
 
 abbrev pub last_of : List StepReply → StepReply
 last_of [] = NotOpen
@@ -79,7 +79,7 @@ first_of (r ∷ rs) = Some r
 
 abbrev pub call_reply : List ℕ → ℕ → Read Call → List StepReply → Response
 call_reply server now (Err f) replies = failure f
-call_reply server now (Ok call) replies = reply_to server now call (last_of replies)
+call_reply server now (Ok call) replies = reply_to server (first_step now call) (last_of replies)
 
 -- ---- lines
 

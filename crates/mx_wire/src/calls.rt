@@ -5,6 +5,7 @@ ghost use Rattle.mx_redact.specs.Fields.{is_text as is_that_text};
 ghost use Rattle.mx_pdu.specs.Format.{is_well_formed};
 ghost use Rattle.mx_wire.specs.Calls as definition;
 ghost use Rattle.mx_wire.specs.CallsShown.{call_shown};
+ghost use Rattle.mx_wire.specs.LineSteps.{first_step, step_shown};
 ghost use Rattle.mx_wire.specs.Offers.{offer_by};
 ghost use Rattle.mx_wire.specs.Requests.{missing_query as missing_query_of};
 ghost use Rattle.mx_wire.specs.Targets.{parameters};
@@ -20,9 +21,11 @@ use crate::routes::Route;
 use crate::targets::{event_at, path_of, query_of, room_at, txn_at, user_at};
 use crate::transaction_bodies::transaction_events;
 use mx_ident::{EventId, RoomId, ServerName};
+use mx_keeper::TransactionId;
 use mx_pdu::{Offered, Pdu, PduError, Verifier};
 use mx_redact::text_field;
-use mx_room::{EventIdList, Query};
+use mx_room::{EventIdList, Moment, Query};
+use mx_world::{Step, TransactionKey};
 use serde_json::Value;
 use std::alloc::Global;
 
@@ -48,6 +51,26 @@ pub enum WireCall {
         origin: ServerName,
         event: Offered,
     },
+}
+
+impl WireCall {
+    /// The first step that the call makes, at this moment. It takes no memory.
+    pub fn into_first_step(self, now: Moment) -> Step
+        ensures { step_shown result ≡ first_step now (call_shown self) }
+    {
+        match self {
+            WireCall::Sends {
+                origin,
+                transaction,
+                events,
+            } => {
+                let txn = TransactionId::new(transaction);
+                Step::Open(TransactionKey { origin, txn }, events)
+            }
+            WireCall::Asks { origin, query } => Step::Ask { origin, now, query },
+            WireCall::Joins { origin, event } => Step::Join { origin, event },
+        }
+    }
 }
 
 /// What a request of this origin asks for on a route.

@@ -27,6 +27,7 @@ mod requests;
 mod routes;
 mod shard_counts;
 mod step_lines;
+mod step_replies;
 mod targets;
 mod text_members;
 mod transaction_bodies;
@@ -47,8 +48,6 @@ pub use query_replies::{WireReply, denied_fault, fault_reply, query_reply};
 pub use requests::{LARGEST_BODY, WireRequest, read_request};
 pub use routes::{Route, Routes};
 pub use shard_counts::ShardCount;
+pub use step_replies::write_reply;
 pub use targets::{event_at, path_of, query_of, room_at, txn_at, user_at};
 pub use transaction_bodies::{MOST_EPHEMERAL_EVENTS, MOST_EVENTS, transaction_events};
-
-#[cfg(test)]
-mod tests;

@@ -13,7 +13,7 @@ ghost use Rattle.mx_wire.specs.RepliesShown.{reply_shown};
 ghost use Rattle.mx_wire.specs.ReplyBodies.{failure};
 
 use crate::call_lines::CallLine;
-use crate::call_steps::{asked, joined, sent};
+use crate::call_steps::last_reply;
 use crate::calls::WireCall;
 use crate::faults::Fault;
 use crate::line_answers::{LineAnswer, LineRefusal};
@@ -21,6 +21,7 @@ use crate::lines::Line;
 use crate::query_replies::{WireReply, fault_reply};
 use crate::requests::read_request;
 use crate::routes::Routes;
+use crate::step_replies::write_reply;
 use mx_ident::ServerName;
 use mx_keeper::{BookRow, Keeper, ShardRow};
 use mx_pdu::Verifier;
@@ -119,22 +120,8 @@ fn answer_call<K: Keeper<Row = ShardRow>, L: Keeper<Row = BookRow>>(
     ensures { IfOk result (λ reply. (start : Start) (earlier : List AnyStep) → IsAfter start earlier world.old
         → IsCalled name.now now (call_shown call) (reply_shown reply) start earlier world.new) }
 {
-    match call {
-        WireCall::Sends {
-            origin,
-            transaction,
-            events,
-        } => {
-            let reply = sent(alloc, world, origin, transaction, events)?;
-            Ok(reply)
-        }
-        WireCall::Asks { origin, query } => {
-            let reply = asked(alloc, name, world, now, origin, query)?;
-            Ok(reply)
-        }
-        WireCall::Joins { origin, event } => {
-            let reply = joined(alloc, name, world, origin, event)?;
-            Ok(reply)
-        }
-    }
+    let first = call.into_first_step(now);
+    let last = last_reply(alloc, world, &first)?;
+    let reply = write_reply(alloc, name, &first, last)?;
+    Ok(reply)
 }
