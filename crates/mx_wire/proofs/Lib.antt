@@ -2,6 +2,7 @@ pub mod BodyLemmas
 pub mod ReplyLemmas
 pub mod LineLemmas
 pub mod OutputLemmas
+pub mod OutputRows
 pub mod RefusalLineLemmas
 pub mod ReadingLemmas
 pub mod PartLemmas
