@@ -1,0 +1,3 @@
+pub mod BerthLemmas
+pub mod MoveLemmas
+pub mod ViewLemmas
