@@ -1,10 +1,7 @@
-use crate::{
-    Denied, EventIdList, EventList, HostError, Moment, Outcome, Query, QueryReply, Refusal, Room,
-    hosting_fault,
-};
+use crate::{Denied, HostError, Moment, Outcome, Query, QueryReply, Refusal, Room, hosting_fault};
 use mx_auth::Rule;
 use mx_graph::EventNo;
-use mx_ident::{EventId, RoomId, ServerName};
+use mx_ident::{EventId, ServerName};
 use mx_pdu::{Offered, Pdu};
 use mx_receipt::{OfferError, Timeline, Verdict};
 use serde_json::Value;
@@ -16,10 +13,9 @@ use std::test::Fail;
 // crate with tests is proved twice, and this one is soon proved.
 
 // Events by their ids. A creates the room and joins it, and then sets a topic, `$3`, and beside it takes her own level,
-// `$4`; `$5` follows both. `$6` is a topic by B, who is no member. After the topic comes an access control list, `$7`, and
-// then a redaction of the topic, `$8`. `$10` is a message that follows the topic. Content hashes are by Python's json,
-// hashlib and base64.
-const EVENTS: [(&str, &str); 9] = [
+// `$4`; `$5` follows both. `$6` is a topic by B, who is no member. `$10` is a message that follows the topic.
+// Content hashes are by Python's json, hashlib and base64.
+const EVENTS: [(&str, &str); 7] = [
     (
         "$1",
         r#"{"auth_events":[],"content":{"creator":"@a:a.example","room_version":"6"},"depth":1,"hashes":{"sha256":"zibTlrvpTSp/W5vkL4NdWNTuf4IhaqcyDIAshZlSXI4"},"origin_server_ts":10,"prev_events":[],"room_id":"!r:a.example","sender":"@a:a.example","signatures":{"a.example":{"ed25519:1":"s"}},"state_key":"","type":"m.room.create"}"#,
@@ -43,14 +39,6 @@ const EVENTS: [(&str, &str); 9] = [
     (
         "$6",
         r#"{"auth_events":["$1"],"content":{"topic":"u"},"depth":2,"hashes":{"sha256":"VL2o7RnukfNuzvhLsiOrjUcxlAEW90oNV/dwcWjt9eU"},"origin_server_ts":60,"prev_events":["$1"],"room_id":"!r:a.example","sender":"@b:b.example","signatures":{"b.example":{"ed25519:1":"s"}},"state_key":"","type":"m.room.topic"}"#,
-    ),
-    (
-        "$7",
-        r#"{"auth_events":["$1","$2"],"content":{"allow":["*"],"deny":["evil.example"]},"depth":4,"hashes":{"sha256":"xMQAhZWKtU60SGFHTDmCwu39LKYBed4PaU+gkvHL41E"},"origin_server_ts":70,"prev_events":["$3"],"room_id":"!r:a.example","sender":"@a:a.example","signatures":{"a.example":{"ed25519:1":"s"}},"state_key":"","type":"m.room.server_acl"}"#,
-    ),
-    (
-        "$8",
-        r#"{"auth_events":["$1","$2"],"content":{},"depth":5,"hashes":{"sha256":"Ny6iHEqS+PM+b4PfS8DWtxWTa+VUeFlLq+3HRDMkoUk"},"origin_server_ts":80,"prev_events":["$7"],"redacts":"$3","room_id":"!r:a.example","sender":"@a:a.example","signatures":{"a.example":{"ed25519:1":"s"}},"type":"m.room.redaction"}"#,
     ),
     (
         "$10",
@@ -245,12 +233,8 @@ fn hosted(alloc: Global) -> Result<Room, HostError> {
     Room::host(alloc, &create)
 }
 
-// The server of A, the one of B, and one that the access control list denies.
+// The server of A.
 const SERVER_OF_A: &str = "a.example";
-
-const SERVER_OF_B: &str = "b.example";
-
-const DENIED_SERVER: &str = "evil.example";
 
 fn server(alloc: Global, name: &str) -> Result<ServerName, AllocError> {
     ServerName::parse(alloc, name).map_err(refused)
@@ -268,15 +252,6 @@ fn prepare(alloc: Global, room: &mut Room, id: &str) -> Result<Outcome, AllocErr
     room.prepare(alloc, &origin, &offered)
 }
 
-// The room with these events.
-fn room_with(alloc: Global, ids: &[&str]) -> Result<Room, HostError> {
-    let mut room = hosted(alloc)?;
-    for id in ids {
-        receive(alloc, &mut room, id, true)?;
-    }
-    Ok(room)
-}
-
 // What the room answers to the server with this name.
 fn ask(
     alloc: Global,
@@ -291,104 +266,6 @@ fn ask(
 
 fn event_id(alloc: Global, id: &str) -> Result<EventId, AllocError> {
     EventId::parse(alloc, id).map_err(refused)
-}
-
-fn id_list(alloc: Global, ids: &[&str]) -> Result<EventIdList, AllocError> {
-    let mut list = Vec::new(alloc);
-    for id in ids {
-        list.push(event_id(alloc, id)?)?;
-    }
-    Ok(EventIdList::new(list))
-}
-
-fn room_id(alloc: Global) -> Result<RoomId, AllocError> {
-    RoomId::parse(alloc, "!r:a.example").map_err(refused)
-}
-
-// The queries that name a room, with an event in each.
-fn state_query(alloc: Global, id: &str) -> Result<Query, AllocError> {
-    let room = room_id(alloc)?;
-    let event = event_id(alloc, id)?;
-    Ok(Query::State { room, event })
-}
-
-fn state_ids_query(alloc: Global, id: &str) -> Result<Query, AllocError> {
-    let room = room_id(alloc)?;
-    let event = event_id(alloc, id)?;
-    Ok(Query::StateIds { room, event })
-}
-
-fn event_auth_query(alloc: Global, id: &str) -> Result<Query, AllocError> {
-    let room = room_id(alloc)?;
-    let event = event_id(alloc, id)?;
-    Ok(Query::EventAuth { room, event })
-}
-
-fn backfill_query(alloc: Global, id: &str, limit: u64) -> Result<Query, AllocError> {
-    let room = room_id(alloc)?;
-    let from = id_list(alloc, &[id])?;
-    Ok(Query::Backfill { room, from, limit })
-}
-
-fn missing_query(
-    alloc: Global,
-    earliest: &str,
-    latest: &str,
-    limit: u64,
-    min_depth: u64,
-) -> Result<Query, AllocError> {
-    let room = room_id(alloc)?;
-    let earliest = id_list(alloc, &[earliest])?;
-    let latest = id_list(alloc, &[latest])?;
-    Ok(Query::Missing {
-        room,
-        earliest,
-        latest,
-        limit,
-        min_depth,
-    })
-}
-
-// A reply as a text: the times of its events, or the ids.
-fn text_of_reply(alloc: Global, reply: &Result<QueryReply, Denied>) -> Result<String, AllocError> {
-    match reply {
-        Ok(QueryReply::Event(event)) => format!(in alloc; "event {}", event.origin_server_ts()),
-        Ok(QueryReply::State { state, auth_chain }) => {
-            let state = times_of(alloc, state)?;
-            let chain = times_of(alloc, auth_chain)?;
-            format!(in alloc; "state{state} chain{chain}")
-        }
-        Ok(QueryReply::StateIds { state, auth_chain }) => {
-            let state = ids_text(alloc, state)?;
-            let chain = ids_text(alloc, auth_chain)?;
-            format!(in alloc; "ids{state} chain{chain}")
-        }
-        Ok(QueryReply::EventAuth(chain)) => times_of(alloc, chain),
-        Ok(QueryReply::Events(events)) => times_of(alloc, events),
-        Ok(QueryReply::Template(_)) => String::from_str(alloc, "template"),
-        Err(Denied::AccessList) => String::from_str(alloc, "access list"),
-        Err(Denied::NotInRoom) => String::from_str(alloc, "not in room"),
-        Err(Denied::NotFound) => String::from_str(alloc, "not found"),
-        Err(_) => String::from_str(alloc, "no join"),
-    }
-}
-
-fn times_of(alloc: Global, events: &EventList) -> Result<String, AllocError> {
-    let mut text = String::new(alloc);
-    for event in events.as_slice() {
-        let time = format!(in alloc; " {}", event.origin_server_ts())?;
-        text.push_str(&time)?;
-    }
-    Ok(text)
-}
-
-fn ids_text(alloc: Global, ids: &EventIdList) -> Result<String, AllocError> {
-    let mut text = String::new(alloc);
-    for id in ids.as_slice() {
-        text.push_str(" ")?;
-        text.push_str(id.as_str())?;
-    }
-    Ok(text)
 }
 
 // Whether a query for the event with this id gives one.
@@ -431,113 +308,6 @@ fn events_prepared_by_a_room(rt: HostRuntime) -> Result<(), Fail> {
     room.install();
     assert!(rt; room.len() == 2 && shows(alloc, &room, "$2")?);
     Ok(())
-}
-
-#[test]
-fn queries_about_a_room(rt: HostRuntime) -> Result<(), Fail> {
-    let alloc = rt.alloc();
-    let room = room_with(alloc, &["$2", "$3", "$4", "$5", "$6"])?;
-    for (query, expected) in [
-        (Query::Event(event_id(alloc, "$3")?), "event 30"),
-        (Query::Event(event_id(alloc, "$6")?), "not found"),
-        // The topic and the power levels both come before `$5`, and the resolution takes the topic away.
-        (state_query(alloc, "$5")?, "state 10 20 40 chain 10 20"),
-        (state_ids_query(alloc, "$5")?, "ids $1 $2 $4 chain $1 $2"),
-        (state_ids_query(alloc, "$6")?, "not found"),
-        (event_auth_query(alloc, "$5")?, " 10 20 40"),
-        (backfill_query(alloc, "$5", 3)?, " 50 30 40"),
-        (backfill_query(alloc, "$6", 3)?, " 10"),
-        (backfill_query(alloc, "$9", 3)?, "not found"),
-        (missing_query(alloc, "$2", "$5", 10, 0)?, " 30 40"),
-        (missing_query(alloc, "$2", "$5", 1, 0)?, " 30"),
-        (missing_query(alloc, "$9", "$5", 10, 2)?, " 20 30 40"),
-    ] {
-        let reply = ask(alloc, &room, SERVER_OF_A, &query)?;
-        assert_eq!(rt; text_of_reply(alloc, &reply)?.as_str(), expected);
-    }
-    Ok(())
-}
-
-#[test]
-fn queries_denied(rt: HostRuntime) -> Result<(), Fail> {
-    let alloc = rt.alloc();
-    let mut room = room_with(alloc, &["$2", "$3", "$7"])?;
-    for (name, query, expected) in [
-        (DENIED_SERVER, state_query(alloc, "$9")?, "access list"),
-        (
-            DENIED_SERVER,
-            backfill_query(alloc, "$9", 3)?,
-            "access list",
-        ),
-        (
-            DENIED_SERVER,
-            Query::Event(event_id(alloc, "$3")?),
-            "not found",
-        ),
-        (SERVER_OF_B, event_auth_query(alloc, "$9")?, "not in room"),
-        (
-            SERVER_OF_B,
-            missing_query(alloc, "$1", "$9", 3, 0)?,
-            "not in room",
-        ),
-        (SERVER_OF_A, event_auth_query(alloc, "$9")?, "not found"),
-    ] {
-        let reply = ask(alloc, &room, name, &query)?;
-        assert_eq!(rt; text_of_reply(alloc, &reply)?.as_str(), expected);
-    }
-    let offered = offered(alloc, "$8", true)?;
-    let origin = server(alloc, DENIED_SERVER)?;
-    assert_eq!(rt;
-        room.receive(alloc, &origin, &offered)?,
-        Outcome::Refused(Refusal::AccessList)
-    );
-    assert_eq!(rt; room.len(), 4);
-    Ok(())
-}
-
-// Whether the first of the events that a query gives has a content.
-fn has_content(reply: &Result<QueryReply, Denied>) -> bool {
-    match reply {
-        Ok(QueryReply::Event(event)) => !event.content().is_empty(),
-        Ok(QueryReply::Events(events)) => match events.as_slice().first() {
-            Some(event) => !event.content().is_empty(),
-            None => false,
-        },
-        _ => false,
-    }
-}
-
-#[test]
-fn a_redacted_event_is_given_without_its_content(rt: HostRuntime) -> Result<(), Fail> {
-    let alloc = rt.alloc();
-    for (ids, expected) in [
-        (["$2", "$3", "$7"].as_slice(), true),
-        (["$2", "$3", "$7", "$8"].as_slice(), false),
-    ] {
-        let room = room_with(alloc, ids)?;
-        for query in [
-            Query::Event(event_id(alloc, "$3")?),
-            backfill_query(alloc, "$3", 1)?,
-        ] {
-            let reply = ask(alloc, &room, SERVER_OF_A, &query)?;
-            assert!(rt; reply.is_ok());
-            assert_eq!(rt; has_content(&reply), expected);
-        }
-    }
-    Ok(())
-}
-
-#[test]
-fn queries_or_no_memory(rt: HostRuntime) {
-    let alloc = rt.alloc();
-    let Ok(room) = room_with(alloc, &["$2", "$3"]) else {
-        return;
-    };
-    if let Ok(query) = state_ids_query(alloc, "$3")
-        && let Ok(reply) = ask(alloc, &room, SERVER_OF_A, &query)
-    {
-        assert!(rt; reply.is_ok());
-    }
 }
 
 // Whether the first member event is kept, accepted and shown.
