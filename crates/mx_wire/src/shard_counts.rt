@@ -1,5 +1,5 @@
 // How many shards a server has.
-ghost use Rattle.std.specs.Prelude.{◌≡◌, ◌≤◌, IfSome};
+ghost use Rattle.std.specs.Prelude.{◌≡◌, ◌≤◌, ◌<◌, ◌⊎◌, IfNone, IfSome};
 
 use mx_keeper::MOST_PLACES;
 use std::marker::Model;
@@ -23,9 +23,10 @@ impl Model for ShardCount {
 }
 
 impl ShardCount {
-    /// So many shards, if a server can have so many.
+    /// So many shards; none where that is 0 or more than [`MOST_PLACES`].
     pub fn of(count: usize) -> Option<ShardCount>
-        ensures { IfSome result (λ shards. shards ≡ count) }
+        ensures shards { IfSome result (λ shards. shards ≡ count) }
+        ensures none { IfNone result ((count < 1) ⊎ (MOST_PLACES < count)) }
     {
         if 1 <= count && count <= MOST_PLACES {
             Some(ShardCount { count })
@@ -34,6 +35,7 @@ impl ShardCount {
         }
     }
 
+    /// How many they are.
     pub fn get(self) -> usize
         ensures count { result ≡ self }
         ensures some { 1 ≤ result }
