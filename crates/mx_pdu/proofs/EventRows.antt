@@ -1,12 +1,12 @@
 -- Worked examples of the fields of an event and of its limits. Each computes.
-use Rattle.std.specs.Prelude.{◌≡◌, refl, ℕ, List, [], ◌∷◌, ◌++◌, codes, pos, negsuc, replicate, true, false, Some, None}
+use Rattle.std.specs.Prelude.{◌≡◌, refl, ℕ, zero, suc, List, [], ◌∷◌, ◌++◌, codes, pos, negsuc, replicate, true, false, Some, None}
 use Rattle.std.specs.Fmt.{digits}
 use Rattle.std.specs.Str.{chars}
 use Rattle.serde_json.specs.Data.{Data, null, string, number, unsigned, negative, array, object, Items, no_items, item, Members, no_members, member}
 use Rattle.mx_canon.specs.Canonical.{canonical_text}
 use Rattle.mx_ident.specs.Identifier.{user_id_error}
 use Rattle.mx_pdu.specs.Event.{prev_ids, auth_ids, depth_of, timestamp_of, redacts_of, state_key_of, is_state}
-use Rattle.mx_pdu.specs.Format.{is_short, is_short_list, is_depth, is_string, is_event_id_list, is_id, has_fields, format_error}
+use Rattle.mx_pdu.specs.Format.{is_short, is_short_list, is_depth, has_readable_nesting, is_string, is_event_id_list, is_id, has_fields, format_error}
 use Rattle.mx_pdu.specs.declared.refusals.NotAnEvent.TheVariants.{NotAnObject, NotCanonical, TextTooLong, WrongField, OverLimit}
 
 -- an object with one field
@@ -74,6 +74,17 @@ auth-10 = refl
 
 auth-11 : is_short_list 10 (ids 11) ≡ false
 auth-11 = refl
+
+-- so many arrays, one in another
+abbrev nested : ℕ → Data
+nested zero = null
+nested (suc n) = array (item (nested n) no_items)
+
+nested-127 : has_readable_nesting (nested 127) ≡ true
+nested-127 = refl
+
+nested-128 : has_readable_nesting (nested 128) ≡ false
+nested-128 = refl
 
 depth-0 : is_depth (number (unsigned 0)) ≡ true
 depth-0 = refl

@@ -13,7 +13,7 @@ use Rattle.serde_json.specs.Find.{get, get_member, as_object, as_number, as_i64,
 use Rattle.mx_canon.specs.Canonical.{is_canonical, is_exact, numbers, member_numbers, canonical_text, largest}
 use Rattle.mx_ident.specs.Identifier.{refuse_if}
 use Rattle.mx_redact.specs.Fields.{field, is_object, is_some_and, is_none_or}
-use Rattle.mx_pdu.specs.Format.{is_well_formed, format_error, has_fields, is_within_limits, longest_text, Field, required_fields, limits, is_string}
+use Rattle.mx_pdu.specs.Format.{is_well_formed, format_error, has_fields, is_within_limits, longest_text, Field, required_fields, limits, is_string, has_readable_nesting}
 use Rattle.mx_pdu.specs.Event.{timestamp_of}
 
 -- ---- the five parts of the format
@@ -81,7 +81,10 @@ pub required-at : (d : Data) (i : ℕ) → IsTrue (is_well_formed d) → i < 10 
 required-at d i h low = nth-all (HasField d) required_fields i ([], is_string) low (and-left _ _ (formed d h).fields)
 
 pub limit-at : (d : Data) (i : ℕ) → IsTrue (is_well_formed d) → i < 7 → is_none_or (nth limits i).1 (field (nth limits i).0 d) ≡ true
-limit-at d i h low = nth-all (KeepsLimit d) limits i ([], is_string) low (formed d h).limits
+limit-at d i h low = nth-all (KeepsLimit d) limits i ([], is_string) low (and-left _ _ (formed d h).limits)
+
+pub nesting-fits : (d : Data) → IsTrue (is_well_formed d) → has_readable_nesting d ≡ true
+nesting-fits d h = and-right _ _ (formed d h).limits
 
 -- ---- the numbers of a canonical object
 

@@ -8,6 +8,7 @@ pub mod IdLemmas
 pub mod LengthLemmas
 pub mod LimitLemmas
 pub mod LookupLemmas
+pub mod NestingLemmas
 pub mod RedactionLemmas
 pub mod RefusalLemmas
 pub mod RiseLemmas

@@ -1,6 +1,7 @@
 -- The redacted form of a well-formed event is well formed, and names the same ids.
 use Rattle.std.proofs.Common.{◌≡◌, ℕ, ◌≤◌, List, length, Bool, true, false, not, ◌&&◌, refl, sym, ap, ◌∙◌, arith, true≢false, Option, Some, None, option_map, IsTrue, is_none, option_and_then, []}
 use Rattle.std.specs.Prelude.{codes, bytes_eq, nat_lt, unwrap_or, filter_map}
+use Rattle.std.specs.List.{list_all}
 use Rattle.std.proofs.lemmas.Bool.Decides.{nat_tests}
 use Rattle.serde_json.specs.Data.{Data, null, boolean, number, string, array, object, Members, no_items}
 use Rattle.serde_json.specs.Find.{get_member, as_str, as_array}
@@ -9,9 +10,10 @@ use Rattle.mx_canon.specs.KeyOrder.{KeysRise}
 use Rattle.mx_ident.specs.Identifier.{refuse_if, user_id_error, room_id_error}
 use Rattle.mx_redact.specs.Fields.{Event, field, kind, is_object, item_list, is_some_and, is_none_or}
 use Rattle.mx_redact.specs.Redaction.{is_among, kept_keys, members_where, redacted_content, with_redacted_content, redact}
-use Rattle.mx_pdu.specs.Format.{is_well_formed, format_error, has_fields, is_within_limits, longest_text, is_string, is_integer, is_id, is_event_id_list, is_short, is_short_list, is_depth}
+use Rattle.mx_pdu.specs.Format.{is_well_formed, format_error, has_fields, is_within_limits, longest_text, is_string, is_integer, is_id, is_event_id_list, is_short, is_short_list, is_depth, limits, has_readable_nesting}
 use Rattle.mx_pdu.specs.Event.{room_of, sender_of, prev_ids, auth_ids}
-use Rattle.mx_pdu.proofs.FormatLemmas.{IsFormed, formed}
+use Rattle.mx_pdu.proofs.FormatLemmas.{IsFormed, formed, and-left, and-right, and-both}
+use Rattle.mx_pdu.proofs.NestingLemmas.{redact-nests}
 use Rattle.mx_pdu.proofs.LookupLemmas.{get-where, get-with, get-content}
 use Rattle.mx_pdu.proofs.RiseLemmas.{exact-where, exact-with, object-where, object-with}
 use Rattle.mx_pdu.proofs.LengthLemmas.{where-shorter, with-shorter}
@@ -71,8 +73,8 @@ fields-same e =
     && (is_some_and is_string (kept-field (codes "type") e refl refl i) && true))))))))))
     && is_none_or is_string (kept-field (codes "state_key") e refl refl i)
 
-limits-same : (e : Event) → is_within_limits (redact e) ≡ is_within_limits e
-limits-same e =
+field-limits-same : (e : Event) → list_all (λ f. is_none_or f.1 (field f.0 (redact e))) limits ≡ list_all (λ f. is_none_or f.1 (field f.0 e)) limits
+field-limits-same e =
     λ i.
     is_none_or (is_short_list 10) (kept-field (codes "auth_events") e refl refl i)
     && (is_none_or is_depth (kept-field (codes "depth") e refl refl i)
@@ -81,6 +83,17 @@ limits-same e =
     && (is_none_or is_short (kept-field (codes "sender") e refl refl i)
     && (is_none_or is_short (kept-field (codes "state_key") e refl refl i)
     && (is_none_or is_short (kept-field (codes "type") e refl refl i) && true))))))
+
+nesting-kept : (e : Event) → is_object e ≡ true → has_readable_nesting e ≡ true → has_readable_nesting (redact e) ≡ true
+nesting-kept null h k = absurd (true≢false (sym h))
+nesting-kept (boolean b) h k = absurd (true≢false (sym h))
+nesting-kept (number n) h k = absurd (true≢false (sym h))
+nesting-kept (string s) h k = absurd (true≢false (sym h))
+nesting-kept (array ds) h k = absurd (true≢false (sym h))
+nesting-kept (object ms) h k = redact-nests ms k
+
+limits-kept : (e : Event) → is_object e ≡ true → is_within_limits e ≡ true → is_within_limits (redact e) ≡ true
+limits-kept e h k = and-both _ _ (field-limits-same e ∙ and-left _ _ k) (nesting-kept e h (and-right _ _ k))
 
 -- ---- numbers, keys and text
 
@@ -150,7 +163,7 @@ redact-well_formed e h rise =
       canonical = canonical-redact e f.canonical;
       short = within longest_text _ _ (text-redact e f.has_object rise) f.short;
       fields = fields-same e ∙ f.fields;
-      limits = limits-same e ∙ f.limits;
+      limits = limits-kept e f.has_object f.limits;
     }
 
 -- ---- the ids

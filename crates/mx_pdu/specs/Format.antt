@@ -1,8 +1,9 @@
 -- The format of an event (Matrix specification, Room Version 6, event format; Client-Server API, size limits).
 use Rattle.std.specs.Prelude.{ℕ, nat_lt, nat_le, pos, int_le, Bool, true, false, not, ◌&&◌, List, [], ◌∷◌, length, codes, Option, Some, None, option_and_then, is_some, is_none}
 use Rattle.std.specs.List.{list_all}
-use Rattle.serde_json.specs.Data.{Data}
+use Rattle.serde_json.specs.Data.{Data, depth as nesting}
 use Rattle.serde_json.specs.Find.{as_str, as_array, as_number, as_integer}
+use Rattle.serde_json.specs.Read.{max_depth}
 use Rattle.mx_canon.specs.Canonical.{is_canonical, canonical_text, largest}
 use Rattle.mx_ident.specs.Identifier.{refuse_if, user_id_error, room_id_error, event_id_error}
 use Rattle.mx_ident.specs.declared.refusals.NotAnId.{NotAnId}
@@ -83,8 +84,12 @@ limits =
     ∷ (codes "type", is_short)
     ∷ []
 
+-- arrays and objects nest at most as deep as text is read, 127 levels, so that an event's text reads back (our own)
+abbrev pub has_readable_nesting : Data → Bool
+has_readable_nesting d = nat_le (nesting d) max_depth
+
 abbrev pub is_within_limits : Event → Bool
-is_within_limits e = list_all (λ f. is_none_or f.1 (field f.0 e)) limits
+is_within_limits e = list_all (λ f. is_none_or f.1 (field f.0 e)) limits && has_readable_nesting e
 
 -- ---- the first refusal
 

@@ -8,6 +8,7 @@ mod ids;
 mod laws;
 mod limits;
 mod lookups;
+mod nesting;
 mod offering;
 mod pdus;
 mod refusals;

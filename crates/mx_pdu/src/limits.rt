@@ -4,9 +4,10 @@ ghost use Rattle.std.specs.List.{list_all};
 ghost use Rattle.serde_json.specs.Data.{object};
 ghost use Rattle.serde_json.specs.View.{view, members_view};
 ghost use Rattle.mx_redact.specs.Fields.{field, is_none_or};
-ghost use Rattle.mx_pdu.specs.Format.{is_within_limits, is_short, is_short_list, is_depth};
+ghost use Rattle.mx_pdu.specs.Format.{limits, is_within_limits, is_short, is_short_list, is_depth};
 
 use crate::lookups::array_at;
+use crate::nesting::members_nest_within;
 use mx_canon::LARGEST;
 use mx_redact::field;
 use serde_json::{Map, Value};
@@ -20,8 +21,17 @@ const MOST_PREV_EVENTS: usize = 20;
 // The most events that an event rests on.
 const MOST_AUTH_EVENTS: usize = 10;
 
+// The most levels of arrays and objects in an event, itself included: as many as are read from text.
+const DEEPEST_NESTING: u8 = 127;
+
 pub fn keeps_limits(event: &Map<String, Value>) -> bool
     ensures { result ≡ is_within_limits (object (members_view event.now.entries)) }
+{
+    keeps_field_limits(event) && members_nest_within(event, DEEPEST_NESTING - 1)
+}
+
+fn keeps_field_limits(event: &Map<String, Value>) -> bool
+    ensures { result ≡ list_all (λ f. is_none_or f.1 (field f.0 (object (members_view event.now.entries)))) limits }
 {
     keeps_list_limit(event, "auth_events", MOST_AUTH_EVENTS)
         && keeps_depth_limit(event, "depth")

@@ -9,7 +9,7 @@ ghost use Rattle.mx_redact.specs.Fields.{kind};
 ghost use Rattle.mx_redact.specs.Hashes.{event_id, hash_holds, reference_hash, signing_text};
 ghost use Rattle.mx_redact.specs.Redaction.{redact as redacted_form};
 ghost use Rattle.mx_pdu.specs.Event.{room_of, sender_of, state_key_of, content_of, prev_ids, auth_ids, depth_of, timestamp_of, redacts_of};
-ghost use Rattle.mx_pdu.specs.Format.{format_error, is_well_formed};
+ghost use Rattle.mx_pdu.specs.Format.{format_error, has_readable_nesting, is_well_formed};
 ghost use Rattle.mx_pdu.specs.declared.refusals.NotAnEvent.{NotAnEvent as Cause};
 
 use crate::checking::{check_canonical_format, check_format};
@@ -332,6 +332,8 @@ impl Pdu {
     pub fn as_map(&self) -> &Map<String, Value>
         ensures event { object (members_view result.now.entries) ≡ self.now }
         ensures well_formed { IsTrue (is_well_formed self.now) }
+        // So its text reads back.
+        ensures nesting { IsTrue (has_readable_nesting self.now) }
     {
         &self.parts.event
     }

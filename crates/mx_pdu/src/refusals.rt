@@ -19,7 +19,8 @@ pub enum NotAnEvent {
     TextTooLong,
     #[error("field missing or of a wrong kind")]
     WrongField,
-    // A text is longer than 255 bytes, a list of events too long, or the depth out of range.
+    // A text is longer than 255 bytes, a list of events too long, the depth out of range, or arrays and objects nest
+    // deeper than text is read, 127 levels.
     #[error("limit")]
     OverLimit,
 }
