@@ -1,2 +1,15 @@
 pub mod PlaceLemmas
 pub mod PlaceRows
+pub mod StayLemmas
+pub mod SortedLemmas
+pub mod ReadLemmas
+pub mod CellLemmas
+pub mod CloneLemmas
+pub mod AnswerLemmas
+pub mod RefusalLemmas
+pub mod ShardTableLemmas
+pub mod ShardRowLemmas
+pub mod ShardQueryLemmas
+pub mod BookTableLemmas
+pub mod BookRowLemmas
+pub mod BookQueryLemmas

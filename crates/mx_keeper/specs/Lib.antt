@@ -1,2 +1,10 @@
 pub mod Keeping
 pub mod Places
+pub mod Schemas
+pub mod TableRows
+pub mod Cells
+pub mod ShardTable
+pub mod BookTable
+pub mod Placed
+pub mod Connections
+pub mod SqliteKeepers

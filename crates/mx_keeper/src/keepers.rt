@@ -33,7 +33,8 @@ pub trait Keeper: Drop {
     /// Adds a row at the end.
     ///
     /// `Memory` where no memory is left: it stays open. `Store` where what holds the rows failed: then it may be shut,
-    /// and a crash may leave the rows with the new one or without it. It never answers `Table`.
+    /// and a crash may leave the rows with the new one or without it. It never answers `Table`. The count of failures
+    /// rises where the answer is `Store`, and stays at any other answer.
     fn append(&mut self, row: &Self::Row) -> Result<(), KeeperFault>
         ensures honest { is_honest self.new → is_honest self.old }
         ensures ok { is_honest self.new → OnOk result (rows self.new ≡ with_row (rows self.old) row.now) }
@@ -46,13 +47,15 @@ pub trait Keeper: Drop {
             → may_leave self.old left ⊎ (left ≡ with_row (rows self.old) row.now) }
 
         ensures told { result ≡ Err KeeperFault.Store → Rose (failed self.old) (failed self.new) }
+        ensures calm { ¬ (result ≡ Err KeeperFault.Store) → failed self.new ≡ failed self.old }
         ensures counted { failed self.old ≤ failed self.new }
         ensures no_table { ¬ (result ≡ Err KeeperFault.Table) };
 
     /// All rows in the order in which they were added. It changes nothing that is kept.
     ///
     /// `Memory` where no memory is left: it stays open. `Store` where what holds the rows failed: then it may be shut.
-    /// `Table` where what is held does not read as rows. The time is linear in the rows.
+    /// `Table` where what is held does not read as rows. The count of failures rises where the answer is `Store`, and
+    /// stays at any other answer. The time is linear in the rows.
     fn rows(&mut self) -> Result<Vec<Self::Row>, KeeperFault>
         ensures honest { is_honest self.new → is_honest self.old }
         ensures ok { is_honest self.new → IfOk result (λ all. rows self.old ≡ Some all.items) }
@@ -62,6 +65,7 @@ pub trait Keeper: Drop {
         ensures stay { is_honest self.new → is_open self.new → rows self.new ≡ rows self.old }
         ensures crash { is_honest self.new → (left : Option (List Self.Row)) → may_leave self.new left → may_leave self.old left }
         ensures told { result ≡ Err KeeperFault.Store → Rose (failed self.old) (failed self.new) }
+        ensures calm { ¬ (result ≡ Err KeeperFault.Store) → failed self.new ≡ failed self.old }
         ensures counted { failed self.old ≤ failed self.new };
 
     /// How often what holds the rows has failed, but for memory. A count at 2^64-1 stays there, and counts as risen.

@@ -1,6 +1,10 @@
 //! What keeps rows, so that rooms and transactions can be made of them again.
 #![tactic(auto)]
 
+mod book_tables;
+mod caller;
+mod cells;
+mod event_texts;
 mod faults;
 mod keepers;
 mod memory;
@@ -8,9 +12,15 @@ mod places;
 mod refusals;
 mod replies;
 mod rows;
+mod schemas;
+mod shard_tables;
+mod sqlite_keepers;
+mod statements;
 mod storing;
+mod table_rows;
 mod transaction_ids;
 
+pub use caller::Caller;
 pub use faults::KeeperFault;
 pub use keepers::Keeper;
 pub use memory::MemoryKeeper;
@@ -18,5 +28,10 @@ pub use places::{MOST_PLACES, Place};
 pub use refusals::CallError;
 pub use replies::Reply;
 pub use rows::{BookRow, ShardRow};
+pub use sqlite_keepers::{NotAdopted, SqliteKeeper};
 pub use storing::Storable;
+pub use table_rows::TableRow;
 pub use transaction_ids::TransactionId;
+
+#[cfg(test)]
+mod tests;

@@ -1,4 +1,5 @@
 // Rows of rooms and of transactions.
+use crate::caller::Caller;
 use crate::replies::Reply;
 use crate::storing::Storable;
 use crate::transaction_ids::TransactionId;
@@ -11,7 +12,7 @@ use std::alloc::AllocError;
 pub struct ShardRow {
     pub room: RoomId,
     pub event: Pdu,
-    pub caller: u64,
+    pub caller: Caller,
 }
 
 impl Storable for ShardRow {

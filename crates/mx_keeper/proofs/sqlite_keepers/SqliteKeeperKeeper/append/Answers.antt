@@ -1,0 +1,37 @@
+use Rattle.std.proofs.Common.{arith, inl, inr}
+use Rattle.sqlite.specs.Held.{state}
+use Rattle.sqlite.specs.State.{HasCleanDisk}
+use Rattle.mx_keeper.proofs.StayLemmas.{clean_if_open, kept_stays, idle_after}
+use Rattle.mx_keeper.proofs.sqlite_keepers.SqliteKeeperKeeper.append.Goals as goal
+
+pub insert-requires : goal.insert-requires
+insert-requires g c = c.self.invariant.kept
+
+pub invariant_of-self : goal.invariant_of-self
+invariant_of-self g c = record {
+  kept = λ live. c.in-Ok.ensures.kept (clean_if_open _ _ (g.met.S.Store.shut_if_dirty c.insert.new.connection.store) live);
+  found = tt;
+  left = λ clean db may. let before : HasCleanDisk (state g.S.Store c.self.inside.connection) = omega (arith, c.insert.ensures.survives.clean) in
+      elim (c.insert.ensures.survives.crash clean db may) [ inl was ↦ c.self.invariant.left before db was | inr put ↦ put.0 ];
+}
+
+pub told-fault-requires : goal.told-fault-requires
+told-fault-requires g c = record { idle = λ live. idle_after _ _ (c.in-Err.ensures.err (clean_if_open _ _ (g.met.S.Store.shut_if_dirty c.insert.new.connection.store) live) live) }
+
+pub invariant_of-self-in-Err : goal.invariant_of-self-in-Err
+invariant_of-self-in-Err g c = record {
+  kept = λ live.
+      let clean = clean_if_open _ _ (g.met.S.Store.shut_if_dirty c.told-fault.new.connection.store) live in
+      let before : HasCleanDisk (state g.S.Store c.insert.new.connection) = omega (arith, c.told-fault.ensures.survives.clean) in
+      let later = c.told-fault.ensures.stays clean live in
+      let first = c.in-Err.ensures.err before later.was_open in
+      kept_stays _ _ _ _ _ (kept_stays _ _ _ _ _ (c.self.invariant.kept first.was_open) first) later;
+  found = tt;
+  left = λ clean db may.
+      let middle : HasCleanDisk (state g.S.Store c.insert.new.connection) = omega (arith, c.told-fault.ensures.survives.clean) in
+      let before : HasCleanDisk (state g.S.Store c.self.inside.connection) = omega (arith, c.insert.ensures.survives.clean) in
+      elim (c.told-fault.ensures.survives.crash clean db may) [
+        | inl later ↦ elim (c.insert.ensures.survives.crash middle db later) [ inl was ↦ c.self.invariant.left before db was | inr put ↦ put.0 ]
+        | inr none ↦ absurd none
+      ];
+}

@@ -1,0 +1,41 @@
+-- The table of a book's replies, and what its rows read as (our own).
+use Rattle.std.specs.Prelude.{ℕ, ℤ, true, false, [], ◌∷◌, ◌==◌, if◌then◌else◌, codes, List, Option, None, option_and_then, option_map}
+use Rattle.sqlite.specs.declared.types.Value.TheVariants.{Null, Int, Text as Words}
+use Rattle.sqlite.specs.Kind.TheVariants.{Integer, Text}
+use Rattle.sqlite.specs.Order.{Row, column}
+use Rattle.sqlite.specs.Schema.{Schema}
+use Rattle.sqlite.specs.Table.{Table}
+use Rattle.sqlite_schema.specs.declared.schema.Index.{Index}
+use Rattle.sqlite_value.specs.Keys.{plain}
+use Rattle.mx_keeper.specs.Cells.{number_in, text_in, server_of_text}
+use Rattle.mx_keeper.specs.Schemas.{plain_column, plain_table}
+use Rattle.mx_keeper.specs.TableRows.{read_rows}
+use Rattle.mx_keeper.specs.declared.rows.BookRow.{BookRow}
+
+abbrev pub replies : Table
+replies =
+    plain_table (codes "replies") (plain_column (codes "place") Integer false ∷ plain_column (codes "origin") Text true ∷ plain_column (codes "txn") Text true ∷ plain_column (codes "reply") Text true ∷ [])
+    ((2 ∷ 3 ∷ []) ∷ []) (plain ∷ [])
+
+-- the index of the pairs, which SQLite makes for UNIQUE
+abbrev pub pairs : Index
+pairs = record { name = codes "sqlite_autoindex_replies_1"; tree = 1; table = 0; columns = 2 ∷ 3 ∷ []; order = plain; is_unique = true }
+
+abbrev pub replies_schema : Schema
+replies_schema = record { tables = replies ∷ []; indexes = pairs ∷ []; views = [] }
+
+-- the row as it is stored
+abbrev pub stored_reply : ℤ → List ℕ → List ℕ → List ℕ → Row
+stored_reply place origin txn reply = Int place ∷ Null ∷ Words origin ∷ Words txn ∷ Words reply ∷ []
+
+abbrev pub book_row : Option (List ℕ) → Option (List ℕ) → Option (List ℕ) → Option BookRow
+book_row origin txn reply = option_and_then (λ o. option_and_then (λ t. option_map (λ r. record { origin = o; txn = t; reply = r }) reply) txn) origin
+
+-- a row as it is shown, at this place
+abbrev pub reply_shown : ℕ → Row → Option BookRow
+reply_shown place v =
+    option_and_then (λ n. if n == place then book_row (option_and_then server_of_text (text_in (column v 1))) (text_in (column v 2)) (text_in (column v 3)) else None) (number_in (column v 0))
+
+-- all rows of the table
+abbrev pub read_replies : List Row → Option (List BookRow)
+read_replies = read_rows reply_shown

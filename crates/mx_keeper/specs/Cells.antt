@@ -1,0 +1,43 @@
+-- What the cells of a table read as (our own).
+use Rattle.std.specs.Prelude.{ℕ, pos, negsuc, ◌^◌, ◌&&◌, if◌then◌else◌, nat_lt, List, Option, Some, None, option_and_then, is_none, bytes_eq}
+use Rattle.std.specs.Str.{is_utf8}
+use Rattle.serde_json.specs.Data.{Data}
+use Rattle.serde_json.specs.Read.{read}
+use Rattle.mx_canon.specs.Canonical.{canonical_error, canonical_text}
+use Rattle.mx_ident.specs.Identifier.{is_room_id, is_server_name}
+use Rattle.mx_pdu.specs.Format.{is_well_formed}
+use Rattle.sqlite.specs.declared.types.Value.{Value}
+use Rattle.sqlite.specs.declared.types.Value.TheVariants.{Null, Int, Real, Text, Blob}
+
+-- a number from 0 on
+abbrev pub number_in : Value → Option ℕ
+number_in Null = None
+number_in (Int (pos n)) = Some n
+number_in (Int (negsuc n)) = None
+number_in (Real x) = None
+number_in (Text t) = None
+number_in (Blob b) = None
+
+-- a number of 32 bits
+abbrev pub caller_in : Value → Option ℕ
+caller_in v = option_and_then (λ n. if nat_lt n (2 ^ 32) then Some n else None) (number_in v)
+
+abbrev pub text_in : Value → Option (List ℕ)
+text_in Null = None
+text_in (Int n) = None
+text_in (Real x) = None
+text_in (Text t) = if is_utf8 t then Some t else None
+text_in (Blob b) = None
+
+abbrev pub room_of_text : List ℕ → Option (List ℕ)
+room_of_text t = if is_room_id t then Some t else None
+
+abbrev pub server_of_text : List ℕ → Option (List ℕ)
+server_of_text t = if is_server_name t then Some t else None
+
+-- the event that has this canonical text
+abbrev pub event_if : List ℕ → Data → Option Data
+event_if t d = if is_none (canonical_error d) && (is_well_formed d && bytes_eq (canonical_text d) t) then Some d else None
+
+unfoldable pub event_of_text : List ℕ → Option Data
+event_of_text t = if is_utf8 t then option_and_then (event_if t) (read t) else None

@@ -1,0 +1,226 @@
+// Rows in a table of SQLite.
+ghost use Rattle.std.specs.Prelude.{◌≡◌, ◌⊎◌, [], Err, IfErr, IfOk, IsErrAnd, List, OnOk, IsTrue, Some, length};
+ghost use Rattle.sqlite.specs.Held.{state};
+ghost use Rattle.sqlite.specs.State.{HasCleanDisk, Survives};
+ghost use Rattle.sqlite.specs.Tree.{Trees};
+ghost use Rattle.mx_keeper.specs.Connections.{Finds, HasRows, HasSchema, HasTable, IsIdle, MayRefuse};
+ghost use Rattle.mx_keeper.specs.Schemas.{no_schema};
+ghost use Rattle.mx_keeper.specs.TableRows.{read_rows};
+
+use crate::faults::KeeperFault;
+use crate::keepers::Keeper;
+use crate::schemas::has_nothing;
+use crate::statements::{counted, told};
+use crate::table_rows::{TableRow, all_rows};
+use sqlite::{Alter, Connection};
+use std::alloc::Global;
+use std::marker::Model;
+
+/// Rows in a table of SQLite, which a crash does not take away.
+///
+/// It is honest while the disk gives back what was written. Each row is added by one statement, which is a transaction
+/// of its own.
+#[derive(Drop)]
+pub struct SqliteKeeper<S: Alter + Drop, R: TableRow> {
+    alloc: Global,
+    connection: Connection<S>,
+    // How many rows the table has.
+    count: u64,
+    failures: u64,
+    // The rows that were read when the connection was adopted, until they are asked for, or one is added.
+    found: Option<Vec<R>>,
+}
+
+impl<S: Alter + Drop, R: TableRow> Model for SqliteKeeper<S, R> {
+    ghost use Rattle.std.specs.Prelude.{◌≡◌, IfSome, IsTrue, Some};
+    ghost use Rattle.sqlite.specs.Held.{state};
+    ghost use Rattle.sqlite.specs.State.{HasCleanDisk};
+    ghost use Rattle.sqlite.specs.Tree.{Trees};
+    ghost use Rattle.mx_keeper.specs.Connections.{HasRows, HasSchema};
+    ghost use Rattle.mx_keeper.specs.SqliteKeepers.{KeeperView, keeper_code};
+    ghost use Rattle.mx_keeper.specs.TableRows.{read_rows};
+
+    ghost Value = { KeeperView S };
+
+    ghost coded = { keeper_code S.code };
+
+    ghost view = { λ keeper. record { connection = keeper.connection; failures = keeper.failures } };
+
+    ghost invariant = { λ keeper. record {
+      kept : IsTrue (state S.Store keeper.connection).is_open → HasRows R.schema (read_rows R.shown) keeper.count (state S.Store keeper.connection);
+      found : IfSome keeper.found (λ rows. HasCleanDisk (state S.Store keeper.connection)
+          → IsTrue (state S.Store keeper.connection).is_open × (read_rows R.shown ((state S.Store keeper.connection).committed.trees 0) ≡ Some rows.items));
+      left : HasCleanDisk (state S.Store keeper.connection) → (db : Trees) → (state S.Store keeper.connection).may_leave db → HasSchema R.schema db;
+    } };
+}
+
+/// A connection that was not adopted, and why not.
+#[derive(Drop)]
+pub struct NotAdopted<S: Alter + Drop> {
+    pub fault: KeeperFault,
+    pub connection: Connection<S>,
+}
+
+impl<S: Alter + Drop, R: TableRow> SqliteKeeper<S, R> {
+    /// Takes a connection whose file has the table of these rows alone, or nothing: then the table is made. All rows are
+    /// read, once: the first call of `rows` gives these out.
+    ///
+    /// `Table` where the file has something else, or the table has rows that do not read. `Store` where a transaction is
+    /// begun, or SQLite refused a statement for another cause than memory. `Memory` where no memory is left. The
+    /// connection is given back with each. The time is linear in the rows.
+    pub fn adopt(
+        alloc: Global,
+        connection: Connection<S>,
+    ) -> Result<SqliteKeeper<S, R>, NotAdopted<S>>
+        ensures honest { IfOk result (λ keeper. HasCleanDisk (state S.Store keeper.connection) → HasCleanDisk (state S.Store connection)) }
+        ensures open { IfOk result (λ keeper. HasCleanDisk (state S.Store keeper.connection) → IsTrue (state S.Store keeper.connection).is_open) }
+        ensures rows { IfOk result (λ keeper. HasCleanDisk (state S.Store keeper.connection) → (rows : List R)
+            × (read_rows R.shown ((state S.Store keeper.connection).committed.trees 0) ≡ Some rows) × Finds R.schema (read_rows R.shown) (state S.Store connection) rows) }
+        ensures none_failed { IfOk result (λ keeper. keeper.failures ≡ 0) }
+
+        // A crash leaves what it might have left before, or the empty table.
+        ensures crash { IfOk result (λ keeper. HasCleanDisk (state S.Store keeper.connection) → (db : Trees)
+            → (state S.Store keeper.connection).may_leave db → (state S.Store connection).may_leave db ⊎ (HasSchema R.schema db × (db 0 ≡ []))) }
+        ensures refused_honest { IfErr result (λ refused. HasCleanDisk (state S.Store refused.connection) → HasCleanDisk (state S.Store connection)) }
+        ensures refused_crash { IfErr result (λ refused. HasCleanDisk (state S.Store refused.connection) → (db : Trees)
+            → (state S.Store refused.connection).may_leave db → (state S.Store connection).may_leave db ⊎ (HasSchema R.schema db × (db 0 ≡ []))) }
+
+        // The table is refused only where it is not to be found.
+        ensures table { IfErr result (λ refused. HasCleanDisk (state S.Store refused.connection) → refused.fault ≡ KeeperFault.Table
+            → (rows : List R) → ¬ Finds R.schema (read_rows R.shown) (state S.Store connection) rows) }
+        // Only a transaction, the making of the table, or what SQLite refuses of a query is told as `Store`.
+        ensures store { IfErr result (λ refused. HasCleanDisk (state S.Store refused.connection) → refused.fault ≡ KeeperFault.Store → IsTrue (state S.Store connection).in_transaction
+            ⊎ (((state S.Store connection).now.schema ≡ no_schema) ⊎ MayRefuse (state S.Store connection) (state S.Store refused.connection))) }
+        ensures begun { IsTrue (state S.Store connection).in_transaction → IsErrAnd result (λ refused. refused.fault ≡ KeeperFault.Store) }
+    {
+        let mut connection = connection;
+        match found_rows::<S, R>(alloc, &mut connection) {
+            Ok(rows) => Ok(SqliteKeeper {
+                alloc,
+                connection,
+                count: rows.len() as u64,
+                failures: 0,
+                found: Some(rows),
+            }),
+            Err(fault) => Err(NotAdopted { fault, connection }),
+        }
+    }
+
+    /// A law: what a crash may leave now is the file of this table, also where a failure has shut the connection.
+    pub fn leaves_its_table(&self)
+        ensures { HasCleanDisk (state S.Store self.now.connection) → (db : Trees) → (state S.Store self.now.connection).may_leave db → HasSchema R.schema db }
+    {
+        let _ = &self.connection;
+    }
+
+    /// The connection as it is.
+    pub fn into_connection(self) -> Connection<S>
+        ensures { result ≡ self.connection }
+    {
+        let SqliteKeeper {
+            alloc: _,
+            connection,
+            count: _,
+            failures: _,
+            found: _,
+        } = self;
+        connection
+    }
+}
+
+// The rows of the table, which is made where the file has nothing.
+fn found_rows<S: Alter, R: TableRow>(
+    alloc: Global,
+    connection: &mut Connection<S>,
+) -> Result<Vec<R>, KeeperFault>
+    ensures open { HasCleanDisk (state S.Store connection.new) → OnOk result (IsTrue (state S.Store connection.new).is_open) }
+    ensures kept { HasCleanDisk (state S.Store connection.new) → IfOk result (λ rows. HasRows R.schema (read_rows R.shown) (length rows.items) (state S.Store connection.new)) }
+    ensures reads { HasCleanDisk (state S.Store connection.new) → IfOk result (λ rows. read_rows R.shown ((state S.Store connection.new).committed.trees 0) ≡ Some rows.items) }
+    ensures found { HasCleanDisk (state S.Store connection.new) → IfOk result (λ rows. Finds R.schema (read_rows R.shown) (state S.Store connection.old) rows.items) }
+    ensures table { HasCleanDisk (state S.Store connection.new) → result ≡ Err KeeperFault.Table → (rows : List R) → ¬ Finds R.schema (read_rows R.shown) (state S.Store connection.old) rows }
+    ensures left { HasCleanDisk (state S.Store connection.new) → OnOk result ((db : Trees) → (state S.Store connection.new).may_leave db → HasSchema R.schema db) }
+    ensures store { HasCleanDisk (state S.Store connection.new) → result ≡ Err KeeperFault.Store → IsTrue (state S.Store connection.old).in_transaction
+        ⊎ (((state S.Store connection.old).now.schema ≡ no_schema) ⊎ MayRefuse (state S.Store connection.old) (state S.Store connection.new)) }
+    ensures begun { IsTrue (state S.Store connection.old).in_transaction → result ≡ Err KeeperFault.Store }
+    ensures survives { Survives (state S.Store connection.old) (state S.Store connection.new) (λ db. HasSchema R.schema db × (db 0 ≡ [])) }
+{
+    if !connection.is_autocommit() {
+        return Err(KeeperFault::Store);
+    }
+    ensure_table::<S, R>(connection)?;
+    all_rows(alloc, connection)
+}
+
+// Makes the table where the file has nothing. `Table` where it has something else.
+fn ensure_table<S: Alter, R: TableRow>(connection: &mut Connection<S>) -> Result<(), KeeperFault>
+    requires { IsTrue (state S.Store connection.old).is_open → IsIdle (state S.Store connection.old) }
+    ensures ok { HasCleanDisk (state S.Store connection.new) → OnOk result (IsTrue (state S.Store connection.new).is_open → HasTable R.schema (state S.Store connection.old) (state S.Store connection.new)) }
+    ensures table { result ≡ Err KeeperFault.Table → (¬ ((state S.Store connection.old).now.schema ≡ R.schema)) × (¬ ((state S.Store connection.old).now.schema ≡ no_schema)) }
+    ensures store { result ≡ Err KeeperFault.Store → (state S.Store connection.old).now.schema ≡ no_schema }
+    ensures same { OnOk result (((state S.Store connection.old).now.schema ≡ no_schema) ⊎ (connection.new ≡ connection.old)) }
+    ensures survives { Survives (state S.Store connection.old) (state S.Store connection.new) (λ db. HasSchema R.schema db × (db 0 ≡ [])) }
+{
+    if R::is_known(connection.schema()) {
+        return Ok(());
+    }
+    if !has_nothing(connection.schema()) {
+        return Err(KeeperFault::Table);
+    }
+    R::create(connection)
+}
+
+impl<S: Alter + Drop, R: TableRow> Keeper for SqliteKeeper<S, R> {
+    ghost use Rattle.std.specs.Prelude.{◌≡◌, IsTrue};
+    ghost use mathlib.Core.Path.{ap, ◌∙◌};
+    ghost use Rattle.sqlite.specs.Held.{state};
+    ghost use Rattle.sqlite.specs.State.{HasCleanDisk};
+    ghost use Rattle.sqlite.specs.Tree.{Trees};
+    ghost use Rattle.mx_keeper.specs.TableRows.{read_rows};
+
+    type Row = R;
+
+    ghost rows = { λ keeper. read_rows R.shown ((state S.Store keeper.connection).committed.trees 0) };
+
+    ghost is_open = { λ keeper. IsTrue (state S.Store keeper.connection).is_open };
+
+    ghost is_honest = { λ keeper. HasCleanDisk (state S.Store keeper.connection) };
+
+    ghost may_leave = { λ keeper left. (db : Trees) × (state S.Store keeper.connection).may_leave db × (left ≡ read_rows R.shown (db 0)) };
+
+    ghost failed = { λ keeper. keeper.failures };
+
+    fn append(&mut self, row: &R) -> Result<(), KeeperFault> {
+        self.found = None;
+        match row.insert(self.alloc, &mut self.connection, self.count) {
+            Ok(()) => {
+                self.count += 1;
+                Ok(())
+            }
+            Err(fault) => {
+                let fault = told(&mut self.connection, fault);
+                self.failures = counted(self.failures, fault);
+                Err(fault)
+            }
+        }
+    }
+
+    fn rows(&mut self) -> Result<Vec<R>, KeeperFault> {
+        if let Some(rows) = self.found.take() {
+            return Ok(rows);
+        }
+        match all_rows(self.alloc, &mut self.connection) {
+            Ok(all) => Ok(all),
+            Err(fault) => {
+                let fault = told(&mut self.connection, fault);
+                self.failures = counted(self.failures, fault);
+                Err(fault)
+            }
+        }
+    }
+
+    fn failures(&self) -> u64 {
+        self.failures
+    }
+
+    ghost settled = { λ keeper left _ live it. it.2 ∙ ap (λ (t : Trees). read_rows R.shown (t 0)) (S.Store.settled keeper.connection.store it.0 live it.1) };
+}
