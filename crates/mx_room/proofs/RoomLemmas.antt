@@ -21,7 +21,7 @@ use Rattle.mx_receipt.specs.declared.refusals.NotReceived.{NotReceived}
 use Rattle.mx_receipt.specs.declared.refusals.NotReceived.TheVariants as received
 use Rattle.mx_receipt.specs.declared.verdicts.Verdict.{Verdict}
 use Rattle.mx_receipt.proofs.BeginLemmas.{no_ids}
-use Rattle.mx_room.specs.Hosting.{host_error}
+use Rattle.mx_room.specs.Hosting.{host_error, reopen_error}
 use Rattle.mx_room.specs.Offer.{Offered, as_kept, is_kept, new_outcome, allowed_outcome, refusal_by, refusal_error}
 use Rattle.mx_room.specs.declared.hosting.NotARoom.TheVariants.{BreaksRule}
 use Rattle.mx_room.specs.declared.outcomes.Outcome.{Outcome}
@@ -52,6 +52,15 @@ sound-of o h =
     let fourth = not_refused (not (hash_holds o.pdu)) _ _ third.1 in
     let parts = and_parts (has_kind (codes "m.room.create") o.pdu) (is_text [] (state_key_of o.pdu)) first.0 in
     record { kind = parts.0; state_key = parts.1; allowed = no_rule (rules o.pdu (view [] [])) fourth.1; auth_events = no_ids (auth_ids o.pdu) second.0 }
+
+-- and so is one that was kept
+pub sound-kept : (e : Event) → reopen_error e ≡ None → IsSoundCreate e
+unfolding reopen_error
+sound-kept e h =
+    let first = not_refused (not (has_kind (codes "m.room.create") e && is_text [] (state_key_of e))) _ _ h in
+    let second = not_refused (nat_lt 0 (length (auth_ids e))) _ _ first.1 in
+    let parts = and_parts (has_kind (codes "m.room.create") e) (is_text [] (state_key_of e)) first.0 in
+    record { kind = parts.0; state_key = parts.1; allowed = no_rule (rules e (view [] [])) second.1; auth_events = no_ids (auth_ids e) second.0 }
 
 -- ---- the form in which an event is kept
 

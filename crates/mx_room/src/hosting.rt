@@ -4,7 +4,7 @@ ghost use Rattle.mx_redact.specs.Fields.{is_text};
 ghost use Rattle.mx_pdu.specs.Event.{has_kind, state_key_of, auth_ids};
 ghost use Rattle.mx_auth.specs.Rules.{rules};
 ghost use Rattle.mx_orders.specs.StateMap.{view};
-ghost use Rattle.mx_room.specs.Hosting.{host_error};
+ghost use Rattle.mx_room.specs.Hosting.{host_error, reopen_error};
 
 use mx_auth::{RoomState, Rule, judge};
 use mx_ident::EventId;
@@ -89,6 +89,21 @@ pub fn hosting_fault(offered: &Offered) -> Option<NotARoom>
     } else {
         broken_rule(event).map(NotARoom::BreaksRule)
     }
+}
+
+/// Why a create event that a room kept makes it no more. Its signature and its content hash are not asked again. It takes
+/// no memory.
+#[tactic(auto, unfolding(crate::specs::Hosting::reopen_error))]
+pub(crate) fn reopening_fault(event: &Pdu) -> Option<NotARoom>
+    ensures { result ≡ reopen_error event.now }
+{
+    if !is_create(event) {
+        return Some(NotARoom::NotACreateEvent);
+    }
+    if cites_auth_events(event) {
+        return Some(NotARoom::CitesAuthEvents);
+    }
+    broken_rule(event).map(NotARoom::BreaksRule)
 }
 
 // A create event, with the empty state key.

@@ -4,17 +4,18 @@ ghost use Rattle.mx_pdu.specs.Event.{has_kind, room_of};
 ghost use Rattle.mx_graph.specs.Record.{place_of};
 ghost use Rattle.mx_receipt.specs.Receipt as receipt;
 ghost use Rattle.mx_receipt.specs.Receipt.{Kept, rows_of};
-ghost use Rattle.mx_room.specs.Hosting.{host_error};
+ghost use Rattle.mx_room.specs.Hosting.{host_error, reopen_error};
 ghost use Rattle.mx_access.specs.Acl as access;
 ghost use Rattle.mx_room.specs.Joins.{join_reply, row_by_join, takes_memory};
 ghost use Rattle.mx_room.specs.Offer.{allowed_outcome, is_kept, offer_outcome, refusal_by, refusal_error, row_by};
 ghost use Rattle.mx_room.specs.Queries.{query_answer};
 ghost use Rattle.mx_room.specs.RoomView.{IsHosted, create_id};
 ghost use Rattle.mx_room.specs.declared.hosting.NotARoom.{NotARoom as Cause};
+ghost use Rattle.mx_receipt.specs.declared.refusals.NotReceived.{NotReceived as WhyNot};
 
 use crate::answering::answer_in;
 use crate::forms::kept_form;
-use crate::hosting::{HostError, hosting_fault};
+use crate::hosting::{HostError, hosting_fault, reopening_fault};
 use crate::joining::{JoinReply, prepare_join_in};
 use crate::moments::Moment;
 use crate::outcomes::{Outcome, Refusal};
@@ -23,7 +24,7 @@ use mx_access::acl_allows;
 use mx_graph::EventNo;
 use mx_ident::{EventId, RoomId, ServerName};
 use mx_pdu::{Offered, Pdu};
-use mx_receipt::{NotReceived, Timeline};
+use mx_receipt::{NotReceived, OfferError, Timeline, Verdict};
 use std::alloc::{AllocError, Global};
 use std::marker::Model;
 
@@ -67,6 +68,45 @@ impl Room {
         }
         let room = begun(alloc, offered)?;
         Ok(room)
+    }
+
+    /// The room whose create event was kept. Neither its signature nor its content hash is asked again.
+    ///
+    /// The errors are those of [`host`](Room::host).
+    pub fn reopen(alloc: Global, event: Pdu, id: EventId) -> Result<Room, HostError>
+        ensures reopened { IfOk result (λ room. room ≡ record {
+          id = room_of event;
+          kept = receipt.begun id event;
+          prepared = None;
+        }) }
+        ensures free { OnOk result (reopen_error event ≡ None) }
+        ensures refused { (cause : Cause) → (IsErrOf result (HostError.NotARoom cause) ↔ (reopen_error event ≡ Some cause)) }
+    {
+        if let Some(error) = reopening_fault(&event) {
+            return Err(HostError::NotARoom(error));
+        }
+        let room = reopened(alloc, event, id)?;
+        Ok(room)
+    }
+
+    /// Adds an event that the room kept, behind those that it has, and gives the verdict on it by them. Neither its
+    /// signature, its content hash nor the access control list is asked again.
+    ///
+    /// `NotReceived` with the first cause that holds, and `Memory`; at an error the room stays. Source: the Matrix
+    /// specification, Server-Server API, "Checks performed on receipt of a PDU".
+    pub fn reopen_event(&mut self, event: Pdu, id: EventId) -> Result<Verdict, OfferError>
+        ensures verdict { IfOk result (λ verdict. verdict ≡ receipt.verdict self.old.kept event) }
+        ensures added { OnOk result (self.new ≡ record {
+          id = self.old.id;
+          kept = receipt.received self.old.kept (id, event);
+          prepared = None;
+        }) }
+        ensures free { OnOk result (receipt.offer_error (rows_of self.old.kept) id event ≡ None) }
+        ensures refused { (cause : WhyNot) → (IsErrOf result (OfferError.NotReceived cause)
+            ↔ (receipt.offer_error (rows_of self.old.kept) id event ≡ Some cause)) }
+        ensures err { OnErr result (self.new ≡ record { id = self.old.id; kept = self.old.kept; prepared = None }) }
+    {
+        self.timeline.offer(event, id)
     }
 
     /// What becomes of an event that a server offers, which is kept where it can be.
@@ -247,6 +287,23 @@ fn begun(alloc: Global, offered: &Offered) -> Result<Room, AllocError>
     let event_id = offered.id.clone()?;
     let timeline = Timeline::begin(alloc, event, event_id)?;
     Ok(Room { id, timeline })
+}
+
+// The room of a create event that was kept.
+fn reopened(alloc: Global, event: Pdu, id: EventId) -> Result<Room, AllocError>
+    requires { reopen_error event ≡ None }
+    ensures { IfOk result (λ room. room ≡ record {
+      id = room_of event;
+      kept = receipt.begun id event;
+      prepared = None;
+    }) }
+{
+    let room_id = event.room_id().clone()?;
+    let timeline = Timeline::begin(alloc, event, id)?;
+    Ok(Room {
+        id: room_id,
+        timeline,
+    })
 }
 
 /// [`Room::prepare`] of a room's timeline.
