@@ -234,7 +234,7 @@ pub is_some_of : (o : Option ℕ) (n : ℕ) → o ≡ Some n → IsSome o
 is_some_of o n h = subst IsSome (sym h) refl
 
 -- a map with nothing in it
-none_in : (entries : List (TransactionKey × ℕ)) (test : TransactionKey → Bool) → length entries ≡ 0 → lookup test entries ≡ None
+pub none_in : (entries : List (TransactionKey × ℕ)) (test : TransactionKey → Bool) → length entries ≡ 0 → lookup test entries ≡ None
 none_in [] test h = refl
 none_in (e ∷ es) test h = absurd (omega arith)
 

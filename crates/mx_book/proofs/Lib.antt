@@ -2,3 +2,4 @@ pub mod JournalLemmas
 pub mod JournalRows
 pub mod IndexLemmas
 pub mod StoredLemmas
+pub mod ReopenLemmas

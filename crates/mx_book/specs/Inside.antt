@@ -1,7 +1,7 @@
 -- For proofs and private clauses alone.
 -- How a book finds what its journal says of a transaction.
 use Rattle.std.specs.Prelude.{◌≡◌, ℕ, ◌+◌, ◌<◌, ◌≤◌, Bool, IsTrue, true, false, List, length, All, slice_get, Option, Some, None}
-use Rattle.std.specs.BTreeMap.{BTreeMap, get}
+use Rattle.std.specs.BTreeMap.{BTreeMap, get, btree_map_len}
 use Rattle.mx_keeper.specs.Places.{PlaceView, is_at}
 use Rattle.mx_book.specs.Transactions.{same, transaction_cmp}
 use Rattle.mx_book.specs.Journal.{transaction_of, Hold, free, begun, kept, hold_after, hold_of, is_legal}
@@ -49,3 +49,10 @@ pub record IsSound (journal : List BookEntry) (place : PlaceView) (begun capacit
   pub here : All (λ entry. IsTrue (is_at place (transaction_of entry).origin)) journal
   pub legal : IsTrue (is_legal journal)
   pub spare : length journal + begun ≤ capacity
+
+-- the journal of rows that were found, and the places of its replies; no transaction is begun
+pub record IsReopened (place : PlaceView) (journal : List BookEntry) (callers replies : BTreeMap TransactionKey ℕ) : Type 0 where
+  pub indexed : IsIndexed journal callers replies
+  pub none : btree_map_len callers ≡ 0
+  pub here : All (λ entry. IsTrue (is_at place (transaction_of entry).origin)) journal
+  pub legal : IsTrue (is_legal journal)

@@ -1,6 +1,7 @@
 -- The journal of a book, and what it says of each transaction (our own).
-use Rattle.std.specs.Prelude.{ℕ, ◌==◌, Bool, true, false, ◌&&◌, List, [], ◌∷◌, ◌++◌, reverse, find, Option, Some, None}
-use Rattle.std.specs.List.{filter_map}
+use Rattle.std.specs.Prelude.{ℕ, ◌==◌, ◌≢◌, Bool, true, false, ◌&&◌, List, [], ◌∷◌, ◌++◌, reverse, find, map, Option, Some, None}
+use Rattle.std.specs.List.{filter_map, list_all}
+use Rattle.mx_keeper.specs.Places.{PlaceView, is_at}
 use Rattle.mx_keeper.specs.declared.rows.BookRow.{BookRow}
 use Rattle.mx_book.specs.Transactions.{same}
 use Rattle.mx_book.specs.declared.transaction_keys.TransactionKey.{TransactionKey}
@@ -33,6 +34,10 @@ hold_after (Some (GivenUp key caller)) = free
 abbrev pub hold_of : List BookEntry → TransactionKey → Hold
 hold_of journal key = hold_after (last_of key journal)
 
+-- no transaction is begun and not ended
+abbrev pub IsEnded : List BookEntry → Type 0
+IsEnded journal = (key : TransactionKey) (caller : ℕ) → hold_of journal key ≢ begun caller
+
 -- what opening a transaction answers (Matrix specification, Server-Server API, transactions: a number sent again gets the first reply)
 abbrev pub opening_of : Hold → Opening
 opening_of free = opening.Fresh
@@ -45,9 +50,15 @@ begins key caller free = Begun key caller ∷ []
 begins key caller (begun other) = []
 begins key caller (kept reply) = []
 
--- an entry may follow: only what is free is begun, and only who began a transaction ends it
+-- the number of no caller: of a reply that was kept when the book was opened it is not known who began it
+abbrev pub no_caller : ℕ
+no_caller = 0
+
+-- an entry may follow: only what is free is begun, and only who began a transaction ends it; a reply that was kept when
+-- the book was opened is the first entry of its transaction
 abbrev pub follows : Hold → BookEntry → Bool
 follows free (Begun key caller) = true
+follows free (Kept key caller reply) = caller == no_caller
 follows (begun other) (Kept key caller reply) = other == caller
 follows (begun other) (GivenUp key caller) = other == caller
 follows state entry = false
@@ -69,3 +80,17 @@ row_of (GivenUp key caller) = None
 -- the rows that are stored of a journal
 abbrev pub stored : List BookEntry → List BookRow
 stored journal = filter_map row_of journal
+
+-- ---- opening a book again
+
+-- the entry of a row that was found
+abbrev pub entry_of : BookRow → BookEntry
+entry_of row = Kept (record { origin = row.origin; txn = row.txn }) no_caller row.reply
+
+-- the journal of the rows that were found
+abbrev pub reopened : List BookRow → List BookEntry
+reopened rows = map entry_of rows
+
+-- a book at this place can have these rows: each is of a server of the place, and no transaction has two
+abbrev pub can_reopen : PlaceView → List BookRow → Bool
+can_reopen place rows = list_all (λ row. is_at place row.origin) rows && is_legal (reopened rows)

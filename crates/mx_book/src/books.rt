@@ -2,8 +2,7 @@
 ghost use Rattle.std.specs.Prelude.{◌≡◌, ◌≢◌, ◌≤◌, ◌↔◌, ◌++◌, ◌∷◌, [], ◌⊎◌, Option, Some, None, List, ℕ, true, false, IfOk, OnOk, OnErr, IsErrOf, IsTrue, All};
 ghost use Rattle.mx_keeper.specs.Keeping.{Rose};
 ghost use Rattle.mx_keeper.specs.Places.{is_at};
-ghost use Rattle.mx_book.specs.Journal.{transaction_of, hold_of, begun, opening_of, begins, is_legal, stored};
-ghost use Rattle.mx_book.specs.declared.transaction_keys.TransactionKey.{TransactionKey};
+ghost use Rattle.mx_book.specs.Journal.{transaction_of, hold_of, begun, opening_of, begins, is_legal, stored, reopened, can_reopen, IsEnded};
 ghost use Rattle.mx_keeper.specs.declared.rows.BookRow.{BookRow};
 
 use crate::entries::BookEntry;
@@ -11,8 +10,9 @@ use crate::openings::Opening;
 use crate::recording::{
     add_reply, begin_in, give_up_in, is_begun_in, keep_in, opening_in, remove_reply, row_for,
 };
+use crate::reopening::reopened_in;
 use crate::transaction_keys::TransactionKey;
-use mx_keeper::{BookRow, CallError, Keeper, KeeperFault, Place, Reply};
+use mx_keeper::{BookRow, CallError, Caller, Keeper, KeeperFault, Place, Reply};
 use std::alloc::Global;
 use std::collections::BTreeMap;
 use std::marker::Model;
@@ -31,7 +31,7 @@ pub struct Book<K: Keeper<Row = BookRow>> {
     is_refused: bool,
     journal: Vec<BookEntry>,
     // Who began what is not ended.
-    callers: BTreeMap<TransactionKey, u64>,
+    callers: BTreeMap<TransactionKey, Caller>,
     // Where in the journal the replies stand.
     replies: BTreeMap<TransactionKey, usize>,
 }
@@ -54,34 +54,35 @@ impl<K: Keeper<Row = BookRow>> Model for Book<K> {
 }
 
 impl<K: Keeper<Row = BookRow>> Book<K> {
-    /// A book over a keeper that has no rows, at this place.
+    /// A book over a keeper, at this place, with the replies that it has rows of.
     ///
-    /// `Memory` where no memory is left. `Storage` where the keeper failed, or has rows or what does not read as rows.
-    /// A refused call drops the keeper.
+    /// `Memory` where no memory is left. `Storage` where the keeper failed, where what it has does not read as rows, or
+    /// where a row is of another place or a transaction has two rows. A refused call drops the keeper. The time is that
+    /// of a look-up for each row.
     pub fn reopen(alloc: Global, keeper: K, place: Place) -> Result<Book<K>, CallError>
-        ensures journal { IfOk result (λ book. book.journal ≡ []) }
+        // Its entries are those of its rows: who began their transactions is not known.
+        ensures journal { IfOk result (λ book. book.journal ≡ reopened (stored book.journal)) }
         ensures place { IfOk result (λ book. book.place ≡ place) }
         ensures taken { IfOk result (λ book. book.is_refused ≡ false) }
-        ensures honest { IfOk result (λ book. K.is_honest book.keeper → K.is_honest keeper × (K.rows keeper ≡ Some [])) }
+        ensures honest { IfOk result (λ book. K.is_honest book.keeper → K.is_honest keeper × (K.rows keeper ≡ Some (stored book.journal))) }
         ensures crash { IfOk result (λ book. K.is_honest book.keeper → (left : Option (List BookRow)) → K.may_leave book.keeper left → K.may_leave keeper left) }
 
         // What became of the keeper tells why.
         ensures storage { result ≡ Err CallError.Storage → (after : K) × (K.is_honest after → K.is_honest keeper)
-            × (Rose (K.failed keeper) (K.failed after) ⊎ (K.is_honest after → K.is_open keeper → K.rows keeper ≢ Some [])) }
+            × (Rose (K.failed keeper) (K.failed after)
+            ⊎ (K.is_honest after → K.is_open keeper → (rows : List BookRow) → K.rows keeper ≡ Some rows → can_reopen place rows ≡ false)) }
     {
         let mut keeper = keeper;
         match keeper.rows() {
             Ok(rows) => {
-                if !rows.is_empty() {
-                    return Err(CallError::Storage);
-                }
+                let made = reopened_in(alloc, &place, rows)?;
                 Ok(Book {
                     keeper,
                     place,
                     is_refused: false,
-                    journal: Vec::new(alloc),
-                    callers: BTreeMap::new(alloc),
-                    replies: BTreeMap::new(alloc),
+                    journal: made.journal,
+                    callers: made.callers,
+                    replies: made.replies,
                 })
             }
             Err(KeeperFault::Memory) => Err(CallError::Memory),
@@ -107,7 +108,7 @@ impl<K: Keeper<Row = BookRow>> Book<K> {
     ///
     /// `Memory` where no memory is left, but never for `Busy`. `Storage` exactly where an earlier call was refused so.
     /// The time is that of a look-up among the transactions.
-    pub fn open(&mut self, caller: u64, key: &TransactionKey) -> Result<Opening, CallError>
+    pub fn open(&mut self, caller: Caller, key: &TransactionKey) -> Result<Opening, CallError>
         requires { IsTrue (is_at self.old.place key.now.origin) }
         ensures reply { IfOk result (λ opening. opening ≡ opening_of (hold_of self.old.journal key.now)) }
         ensures journal { OnOk result (self.new.journal ≡ self.old.journal ++ begins key.now caller (hold_of self.old.journal key.now)) }
@@ -137,15 +138,22 @@ impl<K: Keeper<Row = BookRow>> Book<K> {
     }
 
     /// Whether this caller began the transaction, and it is not ended.
-    pub fn is_begun(&self, caller: u64, key: &TransactionKey) -> bool
+    pub fn is_begun(&self, caller: Caller, key: &TransactionKey) -> bool
         ensures { IsTrue result ↔ (hold_of self.now.journal key.now ≡ begun caller) }
     {
         is_begun_in(&self.callers, caller, key)
     }
 
+    /// Whether it has no entry.
+    pub fn is_empty(&self) -> bool
+        ensures { IsTrue result ↔ (self.now.journal ≡ []) }
+    {
+        self.journal.is_empty()
+    }
+
     /// Whether no transaction is begun and not ended.
     pub fn none_open(&self) -> bool
-        ensures { IsTrue result ↔ ((key : TransactionKey) (caller : ℕ) → hold_of self.now.journal key ≢ begun caller) }
+        ensures { IsTrue result ↔ IsEnded self.now.journal }
     {
         self.callers.is_empty()
     }
@@ -155,7 +163,12 @@ impl<K: Keeper<Row = BookRow>> Book<K> {
     /// `Memory` where no memory is left. `Storage` where the keeper's count of failures rose in this call, or an earlier
     /// call was refused so; from then on the book answers `Storage`. The time is that of a look-up among the
     /// transactions, and of the keeper.
-    pub fn keep(&mut self, caller: u64, key: &TransactionKey, reply: Reply) -> Result<(), CallError>
+    pub fn keep(
+        &mut self,
+        caller: Caller,
+        key: &TransactionKey,
+        reply: Reply,
+    ) -> Result<(), CallError>
         requires { hold_of self.old.journal key.now ≡ begun caller }
         ensures journal { OnOk result (self.new.journal ≡ self.old.journal ++ BookEntry.Kept key.now caller reply ∷ []) }
         ensures err { OnErr result (self.new.journal ≡ self.old.journal) }
@@ -205,7 +218,7 @@ impl<K: Keeper<Row = BookRow>> Book<K> {
     }
 
     /// Ends a transaction with no reply. Nothing is stored. It takes no memory, and is never refused.
-    pub fn give_up(&mut self, caller: u64, key: &TransactionKey)
+    pub fn give_up(&mut self, caller: Caller, key: &TransactionKey)
         requires { hold_of self.old.journal key.now ≡ begun caller }
         ensures journal { self.new.journal ≡ self.old.journal ++ BookEntry.GivenUp key.now caller ∷ [] }
         ensures keeper { self.new.keeper ≡ self.old.keeper }

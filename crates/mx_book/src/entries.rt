@@ -5,17 +5,17 @@ ghost use Rattle.mx_book.specs.Journal.{hold_after};
 ghost use Rattle.mx_book.specs.Inside.{reply_of};
 
 use crate::transaction_keys::TransactionKey;
-use mx_keeper::Reply;
+use mx_keeper::{Caller, Reply};
 
 /// An entry of a book's journal, with the number of the caller that made it.
 #[derive(Debug, Drop)]
 pub enum BookEntry {
     // A transaction was begun.
-    Begun(TransactionKey, u64),
+    Begun(TransactionKey, Caller),
     // It was ended, and this reply is kept for good.
-    Kept(TransactionKey, u64, Reply),
+    Kept(TransactionKey, Caller, Reply),
     // It was ended with no reply, and may be begun again.
-    GivenUp(TransactionKey, u64),
+    GivenUp(TransactionKey, Caller),
 }
 
 impl BookEntry {

@@ -5,6 +5,7 @@ mod books;
 mod entries;
 mod openings;
 mod recording;
+mod reopening;
 mod transaction_keys;
 
 pub use books::Book;

@@ -10,7 +10,7 @@ ghost use Rattle.mx_book.specs.Inside.{hold_at, reply_of, IsMoved, IsSameMap, Is
 use crate::entries::BookEntry;
 use crate::openings::Opening;
 use crate::transaction_keys::TransactionKey;
-use mx_keeper::{BookRow, Place, Reply};
+use mx_keeper::{BookRow, Caller, Place, Reply};
 use std::alloc::AllocError;
 use std::collections::BTreeMap;
 
@@ -19,7 +19,7 @@ use std::collections::BTreeMap;
 /// What opening the transaction answers.
 pub(crate) fn opening_in(
     journal: &[BookEntry],
-    callers: &BTreeMap<TransactionKey, u64>,
+    callers: &BTreeMap<TransactionKey, Caller>,
     replies: &BTreeMap<TransactionKey, usize>,
     key: &TransactionKey,
 ) -> Result<Opening, AllocError>
@@ -60,14 +60,14 @@ fn reply_at(journal: &[BookEntry], place: usize) -> Option<&Reply>
 
 /// Whether this caller began the transaction, and it is not ended.
 pub(crate) fn is_begun_in(
-    callers: &BTreeMap<TransactionKey, u64>,
-    caller: u64,
+    callers: &BTreeMap<TransactionKey, Caller>,
+    caller: Caller,
     key: &TransactionKey,
 ) -> bool
     ensures { IsTrue result ↔ (get transaction_cmp callers.now key.now ≡ Some caller) }
 {
     match callers.get(key) {
-        Some(other) => *other == caller,
+        Some(other) => other.number() == caller.number(),
         None => false,
     }
 }
@@ -75,7 +75,10 @@ pub(crate) fn is_begun_in(
 // ---- the maps
 
 /// Takes a transaction out of those that are not ended.
-fn take_caller(callers: &mut BTreeMap<TransactionKey, u64>, key: &TransactionKey) -> TransactionKey
+fn take_caller(
+    callers: &mut BTreeMap<TransactionKey, Caller>,
+    key: &TransactionKey,
+) -> TransactionKey
     requires { IsSome (get transaction_cmp callers.old key.now) }
     ensures key { result ≡ key.now }
     ensures moved { IsMoved callers.old callers.new key.now None }
@@ -113,10 +116,10 @@ pub(crate) fn remove_reply(replies: &mut BTreeMap<TransactionKey, usize>, key: &
 /// Begins a transaction that is free. What can fail comes first; there is room afterwards for the entry that ends it.
 pub(crate) fn begin_in(
     journal: &mut Vec<BookEntry>,
-    callers: &mut BTreeMap<TransactionKey, u64>,
+    callers: &mut BTreeMap<TransactionKey, Caller>,
     replies: &BTreeMap<TransactionKey, usize>,
     place: &Place,
-    caller: u64,
+    caller: Caller,
     key: &TransactionKey,
 ) -> Result<(), AllocError>
     requires indexed { IsIndexed journal.old.items callers.old replies.now }
@@ -139,10 +142,10 @@ pub(crate) fn begin_in(
 /// Ends a transaction that this caller began, with no reply.
 pub(crate) fn give_up_in(
     journal: &mut Vec<BookEntry>,
-    callers: &mut BTreeMap<TransactionKey, u64>,
+    callers: &mut BTreeMap<TransactionKey, Caller>,
     replies: &BTreeMap<TransactionKey, usize>,
     place: &Place,
-    caller: u64,
+    caller: Caller,
     key: &TransactionKey,
 )
     requires indexed { IsIndexed journal.old.items callers.old replies.now }
@@ -159,9 +162,9 @@ pub(crate) fn give_up_in(
 /// Ends a transaction that this caller began, with the reply whose place the map has already.
 pub(crate) fn keep_in(
     journal: &mut Vec<BookEntry>,
-    callers: &mut BTreeMap<TransactionKey, u64>,
+    callers: &mut BTreeMap<TransactionKey, Caller>,
     place: &Place,
-    caller: u64,
+    caller: Caller,
     key: &TransactionKey,
     reply: Reply,
 )

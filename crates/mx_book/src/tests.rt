@@ -1,6 +1,6 @@
-use crate::{Book, CallError, TransactionKey};
+use crate::{Book, CallError, Opening, TransactionKey};
 use mx_ident::ServerName;
-use mx_keeper::{BookRow, Keeper, KeeperFault, MemoryKeeper, Place, Reply, TransactionId};
+use mx_keeper::{BookRow, Caller, Keeper, KeeperFault, MemoryKeeper, Place, Reply, TransactionId};
 use std::alloc::{AllocError, Global};
 use std::test::Fail;
 
@@ -29,20 +29,21 @@ fn only_book(alloc: Global) -> Result<Book<MemoryKeeper<BookRow>>, CallError> {
 #[test]
 fn rows_of_what_is_kept(rt: HostRuntime) -> Result<(), Fail> {
     let alloc = rt.alloc();
+    let caller = Caller::new(0);
     let mut book = only_book(alloc)?;
     assert!(rt; book.none_open());
     let first = key(alloc, "a.example", "t1")?;
     let second = key(alloc, "a.example", "t2")?;
     for key in [&first, &second] {
         if book.place().has(key.origin.as_str()) {
-            let _opening = book.open(0, key)?;
+            let _opening = book.open(caller, key)?;
         }
     }
     assert!(rt; !book.none_open());
-    assert!(rt; book.is_begun(0, &first));
-    book.keep(0, &first, reply(alloc, "{}")?)?;
-    assert!(rt; book.is_begun(0, &second));
-    book.give_up(0, &second);
+    assert!(rt; book.is_begun(caller, &first));
+    book.keep(caller, &first, reply(alloc, "{}")?)?;
+    assert!(rt; book.is_begun(caller, &second));
+    book.give_up(caller, &second);
     assert!(rt; book.none_open());
     let mut keeper = book.into_keeper();
     let rows = keeper.rows()?;
@@ -52,9 +53,27 @@ fn rows_of_what_is_kept(rt: HostRuntime) -> Result<(), Fail> {
         assert_eq!(rt; row.txn.as_str(), "t1");
         assert_eq!(rt; row.reply.as_str(), "{}");
     }
-    let again = Book::reopen(alloc, keeper, Place::new(0, 1));
-    assert_eq!(rt; again.err(), Some(CallError::Storage));
+    let mut again = Book::reopen(alloc, keeper, Place::new(0, 1))?;
+    assert!(rt; again.none_open());
+    assert_eq!(rt; told_on_opening(&mut again, &first)?, "kept {}");
+    assert_eq!(rt; told_on_opening(&mut again, &second)?, "fresh");
     Ok(())
+}
+
+// What opening a transaction answers, in words.
+fn told_on_opening(
+    book: &mut Book<MemoryKeeper<BookRow>>,
+    key: &TransactionKey,
+) -> Result<&'static str, CallError> {
+    if !book.place().has(key.origin.as_str()) {
+        return Ok("another place");
+    }
+    match book.open(Caller::new(0), key)? {
+        Opening::Fresh => Ok("fresh"),
+        Opening::Busy => Ok("busy"),
+        Opening::Kept(reply) if reply.as_str() == "{}" => Ok("kept {}"),
+        Opening::Kept(_) => Ok("kept"),
+    }
 }
 
 // A keeper of what does not read as rows.
@@ -91,22 +110,27 @@ impl Keeper for UnreadKeeper {
     ghost settled = { λ _ _ _ _ is. is };
 }
 
-// Neither is told as want of memory.
-#[test]
-fn rows_and_what_does_not_read_are_refused(rt: HostRuntime) -> Result<(), Fail> {
-    let alloc = rt.alloc();
-    let place = Place::new(0, 1);
-    let TransactionKey { origin, txn } = key(alloc, "a.example", "t1")?;
+fn row(alloc: Global, origin: &str, txn: &str) -> Result<BookRow, AllocError> {
+    let TransactionKey { origin, txn } = key(alloc, origin, txn)?;
     let reply = reply(alloc, "{}")?;
-    let mut keeper = MemoryKeeper::new(alloc);
-    keeper.append(&BookRow { origin, txn, reply })?;
-    assert_eq!(rt;
-        Book::reopen(alloc, keeper, place).err(),
-        Some(CallError::Storage)
-    );
-    assert_eq!(rt;
-        Book::reopen(alloc, UnreadKeeper {}, place).err(),
-        Some(CallError::Storage)
-    );
+    Ok(BookRow { origin, txn, reply })
+}
+
+// Two rows of a transaction, a row of another place, and what does not read as rows. None is told as want of memory.
+#[test]
+fn rows_that_no_book_has_are_refused(rt: HostRuntime) -> Result<(), Fail> {
+    let alloc = rt.alloc();
+    let mut twice = MemoryKeeper::new(alloc);
+    twice.append(&row(alloc, "a.example", "t1")?)?;
+    twice.append(&row(alloc, "a.example", "t1")?)?;
+    let book = Book::reopen(alloc, twice, Place::new(0, 1));
+    assert_eq!(rt; book.err(), Some(CallError::Storage));
+    let mut elsewhere = MemoryKeeper::new(alloc);
+    elsewhere.append(&row(alloc, "b.example", "t1")?)?;
+    let number = Place::of("a.example", 2).number();
+    let book = Book::reopen(alloc, elsewhere, Place::new(number, 2));
+    assert_eq!(rt; book.err(), Some(CallError::Storage));
+    let book = Book::reopen(alloc, UnreadKeeper {}, Place::new(0, 1));
+    assert_eq!(rt; book.err(), Some(CallError::Storage));
     Ok(())
 }
