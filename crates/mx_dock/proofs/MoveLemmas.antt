@@ -24,7 +24,7 @@ abbrev Fitting : {E : Type 0} → (E → ℕ) → History E → ℕ → PassView
 Fitting caller h pass v = v.is_live ≡ true → FitsPass caller h pass v
 
 module _ {T E : Type 0} (journal : T → List E) (caller : E → ℕ) (place : T → ℕ) where
-  pub takes : (index : ℕ) (v : PassView E) → v.is_live ≡ true → Pops (Docked journal caller place) index v (Takes journal place v)
+  pub takes : (index : ℕ) (v : PassView E) → v.is_live ≡ true → Pops (Docked journal caller place) index v (Takes journal caller place v)
   takes index v live x items views (inl h) at = absurd (let e = h.0 in cc)
   takes index v live x items views (inr (inr h)) at = absurd (let e = h.0 in cc)
   takes index v live x items views (inr (inl h)) at =
@@ -35,6 +35,8 @@ module _ {T E : Type 0} (journal : T → List E) (caller : E → ℕ) (place : T
       let past : History E = good.0 in
       let all : journal x ≡ past.opening ++ past.added = good.1 in
       let mine : FitsPass caller past index v = good.3 index v at live in
+      let whole : journal x ≡ v.own.opening ++ past.added = all ∙ ap (λ l. l ++ past.added) (sym mine.own.opening) in
+      let rest : since v.own.opening (journal x) ≡ past.added = ap (since v.own.opening) whole ∙ since-append v.own.opening past.added in
       let now : FitsPass caller past index w = record {
         own = record { owned = mine.own.owned; made = mine.own.made; added = mine.own.added; seen = ([], sym all ∙ sym (append-nil (journal x))); opening = mine.own.opening; first = mine.own.first; place = mine.own.place };
         joined = mine.joined;
@@ -51,7 +53,7 @@ module _ {T E : Type 0} (journal : T → List E) (caller : E → ℕ) (place : T
           (past, all, good.2, each_set (Fitting caller past) (Fitting caller past) views index w (λ _. now) (λ i u _ f. f) good.3, mine.own.place),
           each_set (λ _ u. u.holds ≡ false) (λ i u. u.holds ≡ true → i ≡ index) views index w (λ _. refl) (λ i u _ f e. absurd (true≢false (sym e ∙ f))) h.3,
         )),
-        (refl, subst (λ l. IsPrefix v.own.seen l) (sym all) mine.own.seen, good.4 ∙ sym mine.own.place),
+        (refl, subst (λ l. IsPrefix v.own.seen l) (sym all) mine.own.seen, good.4 ∙ sym mine.own.place, (past.added, whole), ap (entries_of caller v.own.number) rest ∙ mine.own.added),
       )
 
   pub opens : (n index : ℕ) (v : PassView E) (x : T) → v ≡ first_view → Pushes (Docked journal caller place) n index v x (Opens journal place v x)

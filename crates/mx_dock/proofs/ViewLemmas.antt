@@ -1,7 +1,7 @@
 -- Lists of views, and the entries of one caller.
 use Rattle.std.proofs.Common.{◌≡◌, ◌≢◌, ◌⊎◌, ℕ, zero, suc, ◌<◌, Bool, arith, true, false, cond, eq-eqb, ne_eqb, List, [], ◌∷◌, ◌++◌, length, set, sym, refl, ap, ◌∙◌, subst, inl, inr, ⊎_elim, append-nil, append_assoc}
-use Rattle.std.specs.Prelude.{All, map}
-use Rattle.std.proofs.lemmas.List.Elements.{All-nil, All-cons, All-head, All-tail}
+use Rattle.std.specs.Prelude.{All}
+use Rattle.std.proofs.lemmas.List.Elements.{All-head, All-tail}
 use mathlib.Core.Option.{some, some-ne-none, some-injective}
 use lib.ListN.{get_elem?}
 use Rattle.crossbeam_queue.proofs.Lists.{at_set}
@@ -59,7 +59,3 @@ module _ {E : Type 0} where
   entries_of-none caller number (e ∷ es) all =
       ap (λ b. cond b (e ∷ entries_of caller number es) (entries_of caller number es)) (ne_eqb (caller e) number (All-head (λ x. caller x ≢ number) e es all))
       ∙ entries_of-none caller number es (All-tail (λ x. caller x ≢ number) e es all)
-
-pub All-of_map : {X Y : Type 0} (P : X → Type 0) (f : Y → X) (ys : List Y) → All P (map f ys) → All (λ y. P (f y)) ys
-All-of_map P f [] all = All-nil (λ y. P (f y))
-All-of_map P f (y ∷ ys) all = All-cons (λ z. P (f z)) y ys (All-head P (f y) (map f ys) all) (All-of_map P f ys (All-tail P (f y) (map f ys) all))

@@ -41,10 +41,6 @@ module _ {E : Type 0} where
   abbrev pub both : PassView E → PassView E → PassView E
   both v w = record v { joined = v.joined ++ w.own ∷ [] }
 
-  -- with the berths that were joined to it
-  abbrev pub joining : PassView E → List (BerthView E) → PassView E
-  joining v berths = record v { joined = berths }
-
   -- the one berth that was joined is parted again: what is left, and that berth
   abbrev pub without_joined : PassView E → PassView E
   without_joined v = record v { joined = [] }
@@ -112,18 +108,21 @@ module _ {T E : Type 0} (journal : T → List E) (caller : E → ℕ) (place : T
       × Agrees caller w.own.seen w.own.place views × Each (λ pass v. v.holds ≡ true → pass ≡ holder) views))
 
 module _ {T E : Type 0} (journal : T → List E) (place : T → ℕ) where
-  abbrev pub Takes : PassView E → T → PassView E → Type 0
-  Takes v x w = (w ≡ taken v (journal x)) × IsPrefix v.own.seen (journal x) × (place x ≡ v.own.place)
-
   abbrev pub Opens : PassView E → T → PassView E → Type 0
   Opens v x w = w ≡ opened (journal x) (place x)
 
--- What a journal has of a berth that was joined: its entries past the opening are those that the berth added, and what the berth has seen is a beginning of it
+-- What a journal has of a berth: its entries past the opening are those that the berth added, and what the berth has seen is a beginning of it
 pub record Keeps {E : Type 0} (caller : E → ℕ) (opening journal : List E) (c : BerthView E) : Type 0 where
   pub added : entries_of caller c.number (since opening journal) ≡ c.added
   pub seen : IsPrefix c.seen journal
 
 module _ {T E : Type 0} (journal : T → List E) (caller : E → ℕ) (place : T → ℕ) where
+  -- The journal has what the berth added behind the opening, and no other entry of its number
+  abbrev pub Takes : PassView E → T → PassView E → Type 0
+  Takes v x w =
+      (w ≡ taken v (journal x)) × IsPrefix v.own.seen (journal x) × (place x ≡ v.own.place) × IsPrefix v.own.opening (journal x)
+      × (entries_of caller v.own.number (since v.own.opening (journal x)) ≡ v.own.added)
+
   -- the last take, of the first berth
   abbrev pub Closes : PassView E → T → PassView E → Type 0
   Closes v x w =

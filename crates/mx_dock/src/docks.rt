@@ -1,11 +1,11 @@
 // The dock.
 ghost use Rattle.std.specs.Prelude.{◌≡◌, ◌≢◌, ◌+◌, ◌++◌, ◌∷◌, [], true, false, All, IfOk};
 ghost use Rattle.mx_dock.specs.Journal.{IsPrefix, since, entries_of};
-ghost use Rattle.mx_dock.specs.Dock.{number, seen, added, holds, opening, place, made, view_of, IsBerthOf, IsSameBerth, HasNumber, HasEach};
+ghost use Rattle.mx_dock.specs.Dock.{own, given_back, number, seen, added, holds, opening, place, made, view_of, IsFirstOf, IsBerthOf, IsSameBerth, HasNumber, HasEach};
 
 use crate::berths::Berth;
 use crate::journals::Journaled;
-use crate::passes::{DockQueue, gather, put_first, take_last};
+use crate::passes::{DockQueue, put_first, take_last};
 use crate::steps::{BerthMade, Compared, Joined, Parted, Placeholder, Put, Taken};
 use std::alloc::{AllocError, Global};
 use std::sync::Wait;
@@ -47,24 +47,21 @@ impl<T: Journaled + Drop> Dock<T> {
     ///
     /// Its journal is the one at the opening, and then entries that each have the number of a berth. The entries of a
     /// number are just those that its berth added, each once and in their order. What each owner has seen is a beginning
-    /// of the journal. It asks for every berth that was made, each of them without the value: that is how no entry can be
-    /// missed. It takes no memory. It waits until the value is in.
-    pub fn close<R: Wait>(self, rt: &R, first: Berth<T>, others: Vec<Berth<T>>) -> T
-        requires first { IsBerthOf self first }
-        requires first_idle { holds first ≡ false }
-        requires first_number { number first ≡ 1 }
-        requires others { All (IsBerthOf self) others.items }
-        requires others_idle { All (λ b. holds b ≡ false) others.items }
-        requires all { HasEach (made first) (first ∷ others.items) }
+    /// of the journal. It asks for the first berth, after every other one that was made was given back to it: that is how
+    /// no entry can be missed. It takes no memory. It waits until the value is in, and so for good where the value is out
+    /// with the first berth.
+    pub fn close<R: Wait>(self, rt: &R, first: Berth<T>) -> T
+        requires first { IsFirstOf self first }
+        requires number { number first ≡ 1 }
+        requires all { HasEach (made first) (own first ∷ given_back first) }
         ensures place { T.place result ≡ place first }
         ensures opening { IsPrefix (opening first) (T.journal result) }
-        ensures numbered { All (λ e. HasNumber (first ∷ others.items) (T.caller e)) (since (opening first) (T.journal result)) }
-        ensures added { All (λ b. entries_of T.caller (number b) (since (opening first) (T.journal result)) ≡ added b) (first ∷ others.items) }
-        ensures seen { All (λ b. IsPrefix (seen b) (T.journal result)) (first ∷ others.items) }
+        ensures numbered { All (λ e. HasNumber (own first ∷ given_back first) (T.caller e)) (since (opening first) (T.journal result)) }
+        ensures added { All (λ b. entries_of T.caller b.number (since (opening first) (T.journal result)) ≡ b.added) (own first ∷ given_back first) }
+        ensures seen { All (λ b. IsPrefix b.seen (T.journal result)) (own first ∷ given_back first) }
     {
         let Dock { queue } = self;
         let mut pass = first.pass;
-        gather(&queue, &mut pass, others);
         take_last(rt, &queue, &mut pass)
     }
 }
@@ -99,6 +96,9 @@ impl<T: Journaled> Dock<T> {
 
     /// The value. Its journal begins with all that the berth's owner had seen, and the owner has then seen all of it.
     ///
+    /// It also begins with the journal at the opening. Of the entries behind that one, those that have the berth's number
+    /// are just those that the berth added, each once and in their order.
+    ///
     /// It asks for a berth of this dock that the value is not out with. It takes no memory. It waits until the value is
     /// in; that it ever is depends on who has it.
     pub fn take<R: Wait>(&self, rt: &R, berth: &mut Berth<T>) -> T
@@ -111,6 +111,9 @@ impl<T: Journaled> Dock<T> {
         ensures seen { seen berth.new ≡ T.journal result }
         ensures later { IsPrefix (seen berth.old) (T.journal result) }
         ensures added { added berth.new ≡ added berth.old }
+        // What came through this berth is all there, and nothing else has its number.
+        ensures begins { IsPrefix (opening berth.new) (T.journal result) }
+        ensures own { entries_of T.caller (number berth.new) (since (opening berth.new) (T.journal result)) ≡ added berth.new }
     {
         for _ in rt.forever() {
             if let Some(value) = self.queue.try_pop_as::<Taken<T>>(&mut berth.pass) {
@@ -175,6 +178,24 @@ impl<T: Journaled> Dock<T> {
         let value = self.take(rt, first);
         self.compare(first, second);
         self.put(rt, first, value);
+    }
+
+    /// Gives a berth back. The first berth then tells what that one added and what its owner has seen.
+    ///
+    /// It asks for two berths of this dock that the value is not out with. The first one may have others that were given
+    /// back to it. A berth to which one was given back can do no more than get others back and close the dock. It takes no
+    /// memory and doesn't wait.
+    pub fn give_back(&self, first: &mut Berth<T>, other: Berth<T>)
+        requires first { IsFirstOf self.now first.old }
+        requires first_idle { holds first.old ≡ false }
+        requires other { IsBerthOf self.now other }
+        requires other_idle { holds other ≡ false }
+        ensures first { IsFirstOf self.now first.new }
+        ensures own { own first.new ≡ own first.old }
+        ensures idle { holds first.new ≡ false }
+        ensures given { given_back first.new ≡ given_back first.old ++ own other ∷ [] }
+    {
+        self.queue.absorb::<Joined>(&mut first.pass, other.pass);
     }
 
     // The owner that the value is out with has seen all that the other one has.

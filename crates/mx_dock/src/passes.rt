@@ -1,12 +1,10 @@
 // The steps of a pass that is no berth, or that has others joined to it.
-ghost use Rattle.std.specs.Prelude.{◌≡◌, ◌++◌, true, All, map};
+ghost use Rattle.std.specs.Prelude.{◌≡◌, true};
 ghost use Rattle.crossbeam_queue.specs.Passes.{view, IsPassOf, IsSamePass};
-ghost use Rattle.mx_dock.specs.Dock.{view_of, IsFreeAt};
-ghost use Rattle.mx_dock.specs.Rule.{first_view, opened, joining, Closes};
+ghost use Rattle.mx_dock.specs.Rule.{first_view, opened, Closes};
 
-use crate::berths::Berth;
 use crate::journals::Journaled;
-use crate::steps::{Closed, DockRule, Joined, Opened};
+use crate::steps::{Closed, DockRule, Opened};
 use crate::views::PassView;
 use crossbeam_queue::{Pass, RuledArrayQueue};
 use std::sync::Wait;
@@ -39,23 +37,6 @@ pub(crate) fn put_first<R: Wait, T: Journaled>(
         thread::yield_now();
     }
     unreachable!()
-}
-
-/// Joins the berths to a pass, in their order.
-pub(crate) fn gather<T: Journaled>(
-    queue: &DockQueue<T>,
-    pass: &mut DockPass<T>,
-    berths: Vec<Berth<T>>,
-)
-    requires mine { IsPassOf queue.now pass.old }
-    requires live { (view pass.old).is_live ≡ true }
-    requires berths { All (IsFreeAt queue.now) berths.items }
-    ensures mine { IsSamePass pass.old pass.new }
-    ensures gathered { view pass.new ≡ joining (view pass.old) ((view pass.old).joined ++ map (λ b. (view_of b).own) berths.items) }
-{
-    for berth in berths {
-        queue.absorb::<Joined>(pass, berth.pass);
-    }
 }
 
 /// Takes the value for the last time. It waits until the value is in.

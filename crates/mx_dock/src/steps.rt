@@ -32,7 +32,7 @@ pub struct Taken<T> {
 }
 
 impl<T: Journaled> Outcome<T, PassView<T::Entry>> for Taken<T> {
-    ghost then = { Takes T.journal T.place };
+    ghost then = { Takes T.journal T.caller T.place };
 }
 
 /// A put.

@@ -96,19 +96,19 @@ fn owner_of(berth: Berth<Ledger>, number: u64) -> Owner
 
 fn close_three<R: Wait>(
     rt: &R,
-    alloc: Global,
     dock: Dock<Ledger>,
-    first: Berth<Ledger>,
+    mut first: Berth<Ledger>,
     second: Berth<Ledger>,
     third: Berth<Ledger>,
-) -> Result<Ledger, AllocError>
+) -> Ledger
     requires first { IsBerthOf dock first × (holds first ≡ false) × (number_of first ≡ 1) }
     requires second { IsBerthOf dock second × (holds second ≡ false) × (number_of second ≡ 2) }
     requires third { IsBerthOf dock third × (holds third ≡ false) × (number_of third ≡ 3) }
     requires made { made first ≡ 3 }
 {
-    let others = vec![in alloc; second, third]?;
-    Ok(dock.close(rt, first, others))
+    dock.give_back(&mut first, second);
+    dock.give_back(&mut first, third);
+    dock.close(rt, first)
 }
 
 // What three owners add in threads.
@@ -123,7 +123,7 @@ fn added_by_three<R: Threads + Wait + Sync>(
     let mut owners = [owner_of(first, 1), owner_of(second, 2), owner_of(third, 3)];
     add_in_threads(rt, &dock, &mut owners);
     let [first, second, third] = owners;
-    close_three(rt, alloc, dock, first.berth, second.berth, third.berth)
+    Ok(close_three(rt, dock, first.berth, second.berth, third.berth))
 }
 
 // Every entry is there once, those of a berth in the order in which it added them, behind the one at the opening.
