@@ -1,20 +1,17 @@
 -- What is kept of several rooms, in order (our own).
 use Rattle.std.specs.Prelude.{ℕ, nat_le, Bool, true, not, ◌&&◌, List, [], ◌∷◌, ◌++◌, codes, bytes_eq, length, map, filter, fold, is_none, IsTrue}
 use Rattle.std.specs.List.{list_any, list_all}
-use Rattle.mx_redact.specs.Fields.{Event}
 use Rattle.mx_pdu.specs.Event.{has_kind, prev_ids, auth_ids, room_of}
 use Rattle.mx_graph.specs.Adding.{most_rows}
 use Rattle.mx_receipt.specs.Receipt.{Kept, begun, received}
 use Rattle.mx_keeper.specs.declared.rows.ShardRow.{ShardRow}
 use Rattle.mx_room.specs.Hosting.{host_error}
 use Rattle.mx_shard.specs.LoneRoom.{Call, added}
+use Rattle.mx_shard.specs.declared.entries.ShardEntry.{ShardEntry}
 
 -- an event as it was kept, with its id, its room and the number of the caller that offered it
-pub record Entry : Type 0 where
-  pub room : List ℕ
-  pub id : List ℕ
-  pub event : Event
-  pub caller : ℕ
+abbrev pub Entry : Type 0
+Entry = ShardEntry
 
 abbrev pub entries_of : List Entry → List ℕ → List Entry
 entries_of journal room = filter (λ e. bytes_eq e.room room) journal

@@ -12,7 +12,7 @@ use crate::holders::{Holder, add_holder, remove_holder};
 use crate::journal_places::JournalPlace;
 use crate::storing::row_for;
 use mx_ident::{EventId, RoomId};
-use mx_keeper::ShardRow;
+use mx_keeper::{Caller, ShardRow};
 use mx_pdu::Offered;
 use mx_room::{HostError, Room};
 use std::alloc::{AllocError, Global};
@@ -37,7 +37,7 @@ pub(crate) fn hosting_in(
     alloc: Global,
     rooms: &[Room],
     numbers: &BTreeMap<RoomId, usize>,
-    caller: u64,
+    caller: Caller,
     offered: &Offered,
 ) -> Result<Hosting, AllocError>
     requires { IsNumbered numbers.now rooms.now }
@@ -123,7 +123,7 @@ pub(crate) fn remove_room(
 pub(crate) fn add_room(
     rooms: &mut Vec<Room>,
     journal: &mut Vec<JournalPlace>,
-    caller: u64,
+    caller: Caller,
     new: NewRoom,
 ) -> Answer
     requires rooms { vec_len rooms.old < vec_capacity rooms.old }

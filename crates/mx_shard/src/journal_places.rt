@@ -1,4 +1,5 @@
 // Where the entries of a journal stand.
+use mx_keeper::Caller;
 
 /// Where an entry of the journal stands: the number of its room, the number of the event there, and the number of the
 /// caller that offered it.
@@ -6,5 +7,5 @@
 pub(crate) struct JournalPlace {
     pub room: usize,
     pub row: usize,
-    pub caller: u64,
+    pub caller: Caller,
 }

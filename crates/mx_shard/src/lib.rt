@@ -3,6 +3,7 @@
 
 mod answers;
 mod asking;
+mod entries;
 mod holders;
 mod hosting;
 mod journal_places;
@@ -11,6 +12,7 @@ mod shards;
 mod storing;
 
 pub use answers::Answer;
+pub use entries::ShardEntry;
 pub use mx_keeper::CallError;
 pub use shards::Shard;
 

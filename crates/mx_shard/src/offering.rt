@@ -10,7 +10,7 @@ use crate::answers::Answer;
 use crate::journal_places::JournalPlace;
 use crate::storing::row_for;
 use mx_ident::{RoomId, ServerName};
-use mx_keeper::ShardRow;
+use mx_keeper::{Caller, ShardRow};
 use mx_pdu::Offered;
 use mx_room::Room;
 use std::alloc::{AllocError, Global};
@@ -42,7 +42,7 @@ pub(crate) fn offering_in(
     alloc: Global,
     rooms: &mut [Room],
     numbers: &BTreeMap<RoomId, usize>,
-    caller: u64,
+    caller: Caller,
     sending: Sending,
     origin: &ServerName,
     offered: &Offered,
@@ -72,7 +72,7 @@ pub(crate) fn offering_in(
 fn prepare_in(
     alloc: Global,
     room: &mut Room,
-    caller: u64,
+    caller: Caller,
     sending: Sending,
     origin: &ServerName,
     offered: &Offered,
@@ -119,7 +119,7 @@ fn send_to(
 }
 
 // The row that is stored of the event that the room is prepared to keep. The row and the room share the event.
-fn row_in(room: &Room, caller: u64, offered: &Offered) -> Result<Option<ShardRow>, AllocError>
+fn row_in(room: &Room, caller: Caller, offered: &Offered) -> Result<Option<ShardRow>, AllocError>
     ensures row { IfOk result (λ row. row ≡ option_map (row_of (room_of offered.now.pdu) caller) room.now.prepared) }
     ensures memory { OnErr result (IsTrue (is_some room.now.prepared)) }
 {
@@ -136,7 +136,7 @@ fn row_in(room: &Room, caller: u64, offered: &Offered) -> Result<Option<ShardRow
 pub(crate) fn install_in(
     rooms: &mut [Room],
     journal: &mut Vec<JournalPlace>,
-    caller: u64,
+    caller: Caller,
     new: NewRow,
 ) -> Answer
     requires within { new.number < length rooms.old }

@@ -18,7 +18,7 @@ use crate::journal_places::JournalPlace;
 use crate::offering::{Offering, Sending, discard_in, install_in, offering_in};
 use crate::storing::{store, store_with_place};
 use mx_ident::{EventId, RoomId, ServerName};
-use mx_keeper::{CallError, Keeper, KeeperFault, Place, ShardRow};
+use mx_keeper::{CallError, Caller, Keeper, KeeperFault, Place, ShardRow};
 use mx_pdu::Offered;
 use mx_room::{Moment, Query, Room};
 use std::alloc::Global;
@@ -121,7 +121,7 @@ impl<K: Keeper<Row = ShardRow>> Shard<K> {
     /// `Memory` where the room is hosted, by this event or before, and no memory is left for that or for the answer.
     /// `Storage` where the keeper's count of failures rose in this call, or an earlier call was refused so; from then on
     /// the shard answers `Storage`. At an error the journal stays.
-    pub fn host(&mut self, caller: u64, offered: &Offered) -> Result<Answer, CallError>
+    pub fn host(&mut self, caller: Caller, offered: &Offered) -> Result<Answer, CallError>
         requires { IsTrue (is_at self.old.place (room_of offered.now.pdu)) }
         ensures reply { IfOk result (λ reply. reply ≡ answer (record_of self.old.journal (room_of offered.now.pdu)) (to_host offered.now)) }
         ensures journal { OnOk result (self.new.journal ≡ journal_after self.old.journal caller (room_of offered.now.pdu) (to_host offered.now)) }
@@ -173,7 +173,7 @@ impl<K: Keeper<Row = ShardRow>> Shard<K> {
     /// Source: the Matrix specification, Server-Server API, "Checks performed on receipt of a PDU".
     pub fn offer(
         &mut self,
-        caller: u64,
+        caller: Caller,
         origin: &ServerName,
         offered: &Offered,
     ) -> Result<Answer, CallError>
@@ -207,7 +207,7 @@ impl<K: Keeper<Row = ShardRow>> Shard<K> {
     /// Source: the Matrix specification, Server-Server API, "Joining Rooms".
     pub fn join(
         &mut self,
-        caller: u64,
+        caller: Caller,
         origin: &ServerName,
         offered: &Offered,
     ) -> Result<Answer, CallError>
@@ -235,7 +235,7 @@ impl<K: Keeper<Row = ShardRow>> Shard<K> {
     // Sends an event of a server to its room.
     fn send(
         &mut self,
-        caller: u64,
+        caller: Caller,
         sending: Sending,
         origin: &ServerName,
         offered: &Offered,

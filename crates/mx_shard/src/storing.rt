@@ -9,13 +9,13 @@ use crate::holders::{Holder, add_holder, remove_holder};
 use crate::journal_places::JournalPlace;
 use crate::offering::NewRow;
 use mx_ident::EventId;
-use mx_keeper::{CallError, Keeper, KeeperFault, ShardRow};
+use mx_keeper::{CallError, Caller, Keeper, KeeperFault, ShardRow};
 use mx_pdu::{Offered, Pdu};
 use std::alloc::AllocError;
 use std::collections::BTreeMap;
 
 /// The row that is stored of an offered event in the form in which it is kept.
-pub(crate) fn row_for(offered: &Offered, event: Pdu, caller: u64) -> Result<ShardRow, AllocError>
+pub(crate) fn row_for(offered: &Offered, event: Pdu, caller: Caller) -> Result<ShardRow, AllocError>
     ensures { IfOk result (λ row. row ≡ record { room = room_of offered.now.pdu; event = event; caller = caller }) }
 {
     let room = offered.pdu.room_id().clone()?;

@@ -1,6 +1,6 @@
 use crate::{Answer, CallError, Shard};
 use mx_ident::{EventId, ServerName};
-use mx_keeper::{Keeper, KeeperFault, MemoryKeeper, Place, ShardRow};
+use mx_keeper::{Caller, Keeper, KeeperFault, MemoryKeeper, Place, ShardRow};
 use mx_pdu::{Offered, Pdu};
 use mx_room::{Moment, Outcome, Query};
 use serde_json::Value;
@@ -38,7 +38,7 @@ fn offered(alloc: Global, id: &str, name: &str, signed: bool) -> Result<Offered,
 fn tell<K: Keeper<Row = ShardRow>>(
     alloc: Global,
     shard: &mut Shard<K>,
-    caller: u64,
+    caller: u32,
     call: &str,
 ) -> Result<&'static str, CallError> {
     let mut words = call.split(' ');
@@ -55,9 +55,9 @@ fn tell<K: Keeper<Row = ShardRow>>(
         return Ok("another place");
     }
     if kind == "host" {
-        return Ok(word(&shard.host(caller, &offered)?));
+        return Ok(word(&shard.host(Caller::new(caller), &offered)?));
     }
-    Ok(word(&shard.offer(caller, &origin, &offered)?))
+    Ok(word(&shard.offer(Caller::new(caller), &origin, &offered)?))
 }
 
 fn word(answer: &Answer) -> &'static str {
@@ -91,7 +91,11 @@ fn rows_of_what_is_kept(rt: HostRuntime) -> Result<(), Fail> {
     let rows = keeper.rows()?;
     let mut lines = String::new(alloc);
     for row in &rows {
-        lines.push_str(format!(in alloc; "{} {}\n", row.event.kind(), row.caller)?.as_str())?;
+        lines.push_str(format!(in alloc;
+            "{} {}\n",
+            row.event.kind(),
+            row.caller.number()
+        )?.as_str())?;
     }
     assert_eq!(rt; lines.as_str(), "m.room.create 3\nm.room.member 5\n");
     let again = Shard::reopen(alloc, keeper, Place::new(0, 1));

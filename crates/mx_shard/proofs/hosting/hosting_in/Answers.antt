@@ -21,7 +21,7 @@ pub returns-in-Err-NotARoom-clause-hosting : goal.returns-in-Err-NotARoom-clause
 returns-in-Err-NotARoom-clause-hosting c =
     let missing : find (λ (r : RoomView). bytes_eq r.id (room_of c.args.offered.now.pdu)) c.args.rooms.now ≡ None =
     ap (λ id. find (λ (r : RoomView). bytes_eq r.id id) c.args.rooms.now) (sym c.room_id.ensures) ∙ sym c.room_with.ensures ∙ ap option_copied c.in_default.is in
-    not_host _ c.args.offered.now c.in-Err-NotARoom.error (ap rows_at missing) ((c.in-Err-NotARoom.ensures.refused c.in-Err-NotARoom.error).0 (ap Err c.in-Err-NotARoom.field-0-is))
+    rw c.in-Err-NotARoom.field-0-is (not_host (rows_at (find (λ (r : RoomView). bytes_eq r.id (room_of c.args.offered.now.pdu)) c.args.rooms.now)) c.args.offered.now c.in-Err-NotARoom.error (ap rows_at missing) ((c.in-Err-NotARoom.ensures.refused c.in-Err-NotARoom.error).0 (ap Err c.in-Err-NotARoom.field-0-is)))
 
 pub returns-in-Err-Memory-clause-memory : goal.returns-in-Err-Memory-clause-memory
 returns-in-Err-Memory-clause-memory c =
