@@ -15,7 +15,7 @@ use Rattle.mx_world.specs.Calls.{Start, left, if_put_to, offers, call_of, calls_
 use Rattle.mx_world.specs.Replies.{Status, unopened, waiting, ended, status_after, outcome_in, next_reply, IsAnswered, IsReply, AreReplies}
 use Rattle.mx_world.specs.Moves.{rest_of}
 use Rattle.mx_world.specs.Agree.{where_so, holds, hears, heard, offered_answer, answers_in, told_from, told_about, IsApart, IsApartAt, StayApart, IsRun, Agree, AlikeAbout}
-use Rattle.mx_receipt.specs.Receipt.{Kept, rows_of, kept_at}
+use Rattle.mx_receipt.specs.Receipt.{Kept, rows_of}
 use Rattle.mx_room.specs.declared.queries.Query.{Query}
 use Rattle.mx_room.specs.declared.queries.Query.TheVariants as ask
 use Rattle.mx_room.specs.declared.queries.QueryReply.TheVariants as gives

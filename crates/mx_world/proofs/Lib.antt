@@ -1,6 +1,7 @@
 pub mod NextStep
 pub mod Alike
 pub mod BodyLemmas
+pub mod PartLemmas
 pub mod PlaceLemmas
 pub mod StatusLemmas
 pub mod RefusalLemmas
@@ -11,3 +12,4 @@ pub mod StorageLemmas
 pub mod NextEventLemmas
 pub mod TextLemmas
 pub mod StepRows
+mod UnfitLemmas

@@ -5,7 +5,7 @@ use Rattle.std.proofs.Math.Nat.{eq-or-lt_of_le}
 use Rattle.mx_keeper.specs.Places.{PlaceView, place_number}
 use Rattle.mx_shard.specs.Journal.{Entry, record_of}
 use Rattle.mx_world.specs.Worlds.{records_of}
-use Rattle.mx_world.specs.Inside.{ArePlaced}
+use Rattle.mx_world.specs.Parts.{ArePlaced}
 
 -- each stands at its place among so many
 abbrev pub AreNumbered : {V : Type 0} → List V → (V → PlaceView) → ℕ → Type 0

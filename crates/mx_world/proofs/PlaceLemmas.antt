@@ -11,7 +11,7 @@ use Rattle.mx_shard.specs.View.{ShardView}
 use Rattle.mx_shard.proofs.JournalLaws.{record-after, record-after-other}
 use Rattle.mx_world.specs.Calls.{concerns, if_put_to}
 use Rattle.mx_world.specs.Worlds.{journal_at, records_of, shard_journals}
-use Rattle.mx_world.specs.Inside.{ArePlaced}
+use Rattle.mx_world.specs.Parts.{ArePlaced}
 
 -- ---- journals
 

@@ -1,13 +1,12 @@
 -- What the rooms of several shards show.
-use Rattle.std.proofs.Common.{◌≡◌, ◌⊎◌, ℕ, ◌+◌, ◌<◌, ◌≤◌, Bool, true, false, IsTrue, List, [], ◌∷◌, length, get_or, Some, None, refl, sym, ◌∙◌, ap, subst, arith, inl, inr, append-nil}
+use Rattle.std.proofs.Common.{◌≡◌, ℕ, ◌+◌, ◌<◌, ◌≤◌, Bool, true, false, IsTrue, List, [], ◌∷◌, length, get_or, Some, None, refl, sym, ◌∙◌, ap, subst, arith, inl, inr, append-nil}
 use Rattle.std.specs.Prelude.{All, Ok, Err, if◌then◌else◌}
 use Rattle.std.proofs.lemmas.Bool.{false≢true, eqb-true}
 use Rattle.std.proofs.lemmas.List.{get_or_default}
 use Rattle.std.proofs.Math.Nat.{eq-or-lt_of_le}
 use Rattle.mx_keeper.specs.Places.{place_number, is_at}
 use Rattle.mx_receipt.specs.Receipt.{Kept}
-use Rattle.mx_room.specs.Offer.{Offered, offer_outcome}
-use Rattle.mx_room.specs.declared.outcomes.Outcome.{Outcome}
+use Rattle.mx_room.specs.Offer.{Offered}
 use Rattle.mx_room.specs.Queries.{room_named}
 use Rattle.mx_room.specs.declared.queries.Query.{Query}
 use Rattle.mx_room.specs.declared.queries.Query.TheVariants as ask
@@ -17,40 +16,26 @@ use Rattle.mx_shard.specs.LoneRoom.{Call, to_offer, to_ask, answer, record_alone
 use Rattle.mx_shard.specs.Journal.{record_of}
 use Rattle.mx_shard.specs.Shown.{IsAnswer, IsShown}
 use Rattle.mx_shard.proofs.JournalLaws.{record-elsewhere}
-use Rattle.mx_world.specs.Replies.{outcome_in}
+use Rattle.mx_world.specs.Replies.{outcome_told, outcome_in}
 use Rattle.mx_world.specs.Worlds.{records_of, shard_journals}
 use Rattle.mx_shard.specs.Told.{tells_shown}
-use Rattle.mx_world.specs.Inside.{shard_places, ArePlaced}
+use Rattle.mx_world.specs.Parts.{shard_places, ArePlaced}
 use Rattle.mx_world.proofs.PlaceLemmas.{placed-get, journal_at-get}
 use Rattle.mx_shard.specs.View.{ShardView}
 use Rattle.mx_shard.specs.declared.answers.Answer.{Answer}
 use Rattle.mx_shard.specs.declared.answers.Answer.TheVariants.{NotHosted, Hosted, AlreadyHosted, NotHost, ToOffered, ToJoined, ToAsked}
 
--- an offered event is answered by what becomes of it, unless the room is not hosted
-pub offered_answers : (kept : List Kept) (origin : List ℕ) (o : Offered) → (answer kept (to_offer origin o) ≡ NotHosted) ⊎ (answer kept (to_offer origin o) ≡ ToOffered (offer_outcome kept origin o))
-offered_answers [] origin o = inl refl
-offered_answers (k ∷ ks) origin o = inr refl
-
--- what becomes of it is told by that answer
-outcome_kept : (kept : List Kept) (origin : List ℕ) (o : Offered) (outcome : Outcome) → ToOffered outcome ≡ answer kept (to_offer origin o) → Some outcome ≡ outcome_in kept origin o
-outcome_kept [] origin o outcome e = absurd (cc e)
-outcome_kept (k ∷ ks) origin o outcome e = ap (λ (x : Outcome). Some x) (let same : outcome ≡ offer_outcome (k ∷ ks) origin o = cc in same)
-
-outcome_none : (kept : List Kept) (origin : List ℕ) (o : Offered) → NotHosted ≡ answer kept (to_offer origin o) → None ≡ outcome_in kept origin o
-outcome_none [] origin o e = refl
-outcome_none (k ∷ ks) origin o e = absurd (cc e)
+-- the answer to an offer tells what becomes of the event
+outcome-answered : (kept : List Kept) (origin : List ℕ) (o : Offered) → outcome_told (answer kept (to_offer origin o)) ≡ outcome_in kept origin o
+outcome-answered [] origin o = refl
+outcome-answered (k ∷ ks) origin o = refl
 
 -- so at the journal of the room's place
-pub outcome-at : {K : Type 0} (shards : List (ShardView K)) (n : ℕ) (d : ShardView K) (room origin : List ℕ) (o : Offered) (outcome : Outcome) → n ≡ place_number (length shards) room → n < length shards →
-    ToOffered outcome ≡ answer (record_of (get_or shards n d).journal room) (to_offer origin o) → Some outcome ≡ outcome_in (records_of (shard_journals shards) room) origin o
-outcome-at {K = K} shards n d room origin o outcome is l e =
-    outcome_kept (record_of (get_or shards n d).journal room) origin o outcome e
-    ∙ ap (λ j. outcome_in (record_of j room) origin o) (sym (journal_at-get shards (λ (s : ShardView K). s.journal) n d room is l))
-
-pub none-at : {K : Type 0} (shards : List (ShardView K)) (n : ℕ) (d : ShardView K) (room origin : List ℕ) (o : Offered) → n ≡ place_number (length shards) room → n < length shards →
-    NotHosted ≡ answer (record_of (get_or shards n d).journal room) (to_offer origin o) → None ≡ outcome_in (records_of (shard_journals shards) room) origin o
-none-at {K = K} shards n d room origin o is l e =
-    outcome_none (record_of (get_or shards n d).journal room) origin o e
+pub outcome-at : {K : Type 0} (shards : List (ShardView K)) (n : ℕ) (d : ShardView K) (room origin : List ℕ) (o : Offered) (a : Answer) → n ≡ place_number (length shards) room → n < length shards →
+    a ≡ answer (record_of (get_or shards n d).journal room) (to_offer origin o) → outcome_told a ≡ outcome_in (records_of (shard_journals shards) room) origin o
+outcome-at {K = K} shards n d room origin o a is l e =
+    ap outcome_told e
+    ∙ outcome-answered (record_of (get_or shards n d).journal room) origin o
     ∙ ap (λ j. outcome_in (record_of j room) origin o) (sym (journal_at-get shards (λ (s : ShardView K). s.journal) n d room is l))
 
 -- a query adds nothing

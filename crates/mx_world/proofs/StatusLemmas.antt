@@ -17,7 +17,7 @@ use Rattle.mx_book.specs.declared.entries.BookEntry.{BookEntry}
 use Rattle.mx_book.specs.declared.entries.BookEntry.TheVariants.{Begun}
 use Rattle.mx_book.specs.declared.openings.Opening.TheVariants as opening
 use Rattle.mx_book.proofs.JournalLemmas.{same-self, same-eq, hold_of-here, hold_of-there}
-use Rattle.mx_world.specs.Replies.{Status, unopened, waiting, ended, body_of, open_reply, next_reply, close_reply}
+use Rattle.mx_world.specs.Replies.{Status, waiting, ended, body_of, open_reply, next_reply, close_reply}
 use Rattle.mx_world.specs.Moves.{rest_of, after_abandon, after_open, after_next, after_close}
 use Rattle.mx_world.specs.View.{Progress}
 use Rattle.mx_world.specs.Worlds.{journal_at, book_journals, holds_of, found, status_found, statuses_of, AtTransaction}

@@ -1,6 +1,5 @@
 -- What always holds of a server's parts, for private clauses.
-use Rattle.std.specs.Prelude.{ℕ, ◌≡◌, ◌<◌, ◌≤◌, List, [], ◌∷◌, ◌++◌, length, map, get_or, Option, Some, None}
-use Rattle.mx_keeper.specs.Places.{PlaceView}
+use Rattle.std.specs.Prelude.{ℕ, ◌≡◌, List, [], ◌∷◌, ◌++◌, Option, Some, None}
 use Rattle.mx_receipt.specs.Receipt.{Kept}
 use Rattle.mx_room.specs.Offer.{Offered}
 use Rattle.mx_shard.specs.View.{ShardView}
@@ -9,22 +8,11 @@ use Rattle.mx_book.specs.View.{BookView}
 use Rattle.mx_book.specs.declared.transaction_keys.TransactionKey.{TransactionKey}
 use Rattle.mx_book.specs.declared.entries.BookEntry.{BookEntry}
 use Rattle.mx_world.specs.Replies.{told_of}
+use Rattle.mx_world.specs.Parts.{shard_places, book_places, ArePlaced}
 use Rattle.mx_world.specs.View.{Progress}
 use Rattle.mx_world.specs.Worlds.{holds_of, book_journals, found}
 use Rattle.mx_world.specs.declared.answers.Told.{Told}
 use Rattle.mx_world.specs.declared.callers.TheConstants.{SOLE_CALLER}
-
-abbrev pub shard_places : {K : Type 0} → List (ShardView K) → List PlaceView
-shard_places shards = map (λ shard. shard.place) shards
-
-abbrev pub book_places : {L : Type 0} → List (BookView L) → List PlaceView
-book_places books = map (λ book. book.place) books
-
--- there are between 1 and 64, each at the place with its number
-pub record ArePlaced (places : List PlaceView) : Type 0 where
-  pub some : 0 < length places
-  pub few : length places ≤ 64
-  pub each : (n : ℕ) (d : PlaceView) → n < length places → get_or places n d ≡ record { number = n; count = length places }
 
 -- what is open was begun by the sole caller, and nothing else is begun and not ended
 abbrev pub Agrees : Option Progress → Hold → Type 0

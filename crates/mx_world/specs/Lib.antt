@@ -5,5 +5,7 @@ pub mod Moves
 pub mod View
 pub mod Codes
 pub mod Worlds
+pub mod Parts
 pub mod Inside
 pub mod Storage
+pub mod Offers

@@ -11,6 +11,8 @@ use Rattle.mx_receipt.specs.declared.verdicts.Verdict.{Verdict}
 use Rattle.mx_receipt.specs.declared.verdicts.Verdict.TheVariants.{Accepted, SoftFailed, Rejected}
 use Rattle.mx_shard.specs.LoneRoom.{Call, to_host, to_join, to_ask, call_room}
 use Rattle.mx_shard.specs.Shown.{IsAnswer}
+use Rattle.mx_shard.specs.declared.answers.Answer.{Answer}
+use Rattle.mx_shard.specs.declared.answers.Answer.TheVariants.{ToOffered}
 use Rattle.mx_book.specs.Transactions.{same}
 use Rattle.mx_world.specs.Calls.{Start, Opening, opening, left, left_of, is_closed, record_after}
 use Rattle.mx_room.specs.declared.outcomes.Outcome.{Outcome}
@@ -66,6 +68,11 @@ body_of told = canonical_text (object (member (codes "pdus") (texts_of told) no_
 abbrev pub outcome_in : List Kept → List ℕ → Offered → Option Outcome
 outcome_in [] origin o = None
 outcome_in (k ∷ ks) origin o = Some (offer_outcome (k ∷ ks) origin o)
+
+-- what a room's answer tells of an offered event; an answer to another call tells nothing
+abbrev pub outcome_told : Answer → Option Outcome
+outcome_told (ToOffered outcome) = Some outcome
+outcome_told _ = None
 
 -- what is told of the events of p among the later steps, after the earlier ones
 abbrev pub told_of : (List ℕ → List Kept) → List ℕ → Offered → Told

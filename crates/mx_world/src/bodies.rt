@@ -16,8 +16,13 @@ use mx_room::Outcome;
 use serde_json::{Map, Value};
 use std::alloc::{AllocError, Global};
 
-/// The reply of a transaction of whose events this was told.
-pub(crate) fn reply_body(alloc: Global, told: &[Told]) -> Result<Reply, AllocError>
+/// The reply of a transaction of whose events this was told: the canonical text of an object whose key `pdus` has the
+/// text of each id, and of an id that is told twice the last one.
+///
+/// `AllocError` where no memory is left.
+///
+/// Source: the Matrix specification, Server-Server API, "Transactions".
+pub fn reply_body(alloc: Global, told: &[Told]) -> Result<Reply, AllocError>
     ensures { IfOk result (λ reply. reply ≡ body_of told.now) }
 {
     let mut members = Map::new(alloc);

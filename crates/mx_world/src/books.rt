@@ -3,12 +3,13 @@ ghost use Rattle.std.specs.Prelude.{◌≡◌, Some, IfOk, OnOk, OnErr, map};
 ghost use Rattle.mx_book.specs.Journal.{begun, free, kept, opening_of};
 ghost use Rattle.mx_world.specs.Worlds.{book_journals, holds_of, AtTransaction};
 ghost use Rattle.mx_world.specs.Storage.{BookFails, BooksLast, OnlyAt};
-ghost use Rattle.mx_world.specs.Inside.{book_places, opened, ArePlaced};
+ghost use Rattle.mx_world.specs.Parts.{book_places, ArePlaced};
+ghost use Rattle.mx_world.specs.Inside.{opened};
 
 use crate::callers::SOLE_CALLER;
 use crate::numbering::number_for;
 use mx_book::{Book, Opening, TransactionKey};
-use mx_keeper::{BookRow, CallError, Keeper, Reply};
+use mx_keeper::{BookRow, CallError, Caller, Keeper, Reply};
 
 /// Begins a transaction.
 pub(crate) fn begin_in<L: Keeper<Row = BookRow>>(
@@ -26,7 +27,7 @@ pub(crate) fn begin_in<L: Keeper<Row = BookRow>>(
 {
     let number = number_for(key.origin.as_str(), books.len());
     let book = &mut books[number];
-    let opening = book.open(SOLE_CALLER, key)?;
+    let opening = book.open(Caller::new(SOLE_CALLER), key)?;
     Ok(opening)
 }
 
@@ -47,7 +48,7 @@ pub(crate) fn keep_in<L: Keeper<Row = BookRow>>(
 {
     let number = number_for(key.origin.as_str(), books.len());
     let book = &mut books[number];
-    book.keep(SOLE_CALLER, key, reply)?;
+    book.keep(Caller::new(SOLE_CALLER), key, reply)?;
     Ok(())
 }
 
@@ -63,5 +64,5 @@ pub(crate) fn give_up_in<L: Keeper<Row = BookRow>>(books: &mut [Book<L>], key: &
 {
     let number = number_for(key.origin.as_str(), books.len());
     let book = &mut books[number];
-    book.give_up(SOLE_CALLER, key);
+    book.give_up(Caller::new(SOLE_CALLER), key);
 }

@@ -7,6 +7,7 @@ mod books;
 mod callers;
 mod making;
 mod numbering;
+mod parts;
 mod rooms;
 mod runs;
 mod steps;
@@ -14,8 +15,8 @@ mod transacting;
 mod transactions;
 mod worlds;
 
-pub use answers::Told;
-pub use bodies::{last_answers_are_told, processing_result};
+pub use answers::{Told, outcome_of};
+pub use bodies::{last_answers_are_told, processing_result, reply_body};
 pub use callers::SOLE_CALLER;
 pub use mx_book::TransactionKey;
 pub use mx_keeper::{BookRow, CallError, Keeper, Reply, ShardRow};

@@ -2,7 +2,7 @@
 ghost use Rattle.std.specs.Prelude.{◌≡◌, ◌≤◌, length, replicate, [], IfOk};
 ghost use Rattle.mx_world.specs.Worlds.{shard_journals, book_journals};
 ghost use Rattle.mx_world.specs.Storage.{SomeUnfit};
-ghost use Rattle.mx_world.specs.Inside.{shard_places, book_places, ArePlaced};
+ghost use Rattle.mx_world.specs.Parts.{shard_places, book_places, ArePlaced};
 
 use mx_book::Book;
 use mx_keeper::{BookRow, CallError, Keeper, MOST_PLACES, Place, ShardRow};
@@ -46,6 +46,9 @@ pub(crate) fn books_over<L: Keeper<Row = BookRow>>(
     for keeper in keepers {
         let place = Place::new(books.len(), count);
         let book = Book::reopen(alloc, keeper, place)?;
+        if !book.is_empty() {
+            return Err(CallError::Storage);
+        }
         books.push(book)?;
     }
     Ok(books)

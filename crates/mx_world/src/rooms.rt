@@ -9,12 +9,13 @@ ghost use Rattle.mx_world.specs.Replies.{outcome_in};
 ghost use Rattle.mx_world.specs.Calls.{if_put_to};
 ghost use Rattle.mx_world.specs.Worlds.{shard_journals, records_of};
 ghost use Rattle.mx_world.specs.Storage.{AskFails, ShardFails, SomeShardFails, ShardsLast, OnlyAt};
-ghost use Rattle.mx_world.specs.Inside.{shard_places, ArePlaced};
+ghost use Rattle.mx_world.specs.Parts.{shard_places, ArePlaced};
 
+use crate::answers::outcome_of;
 use crate::callers::SOLE_CALLER;
 use crate::numbering::number_for;
 use mx_ident::{RoomId, ServerName};
-use mx_keeper::{CallError, Keeper, ShardRow};
+use mx_keeper::{CallError, Caller, Keeper, ShardRow};
 use mx_pdu::Offered;
 use mx_room::{Denied, Moment, Outcome, Query};
 use mx_shard::{Answer, Shard};
@@ -36,7 +37,7 @@ pub(crate) fn host_in<K: Keeper<Row = ShardRow>>(
 {
     let number = number_for(offered.pdu.room_id().as_str(), shards.len());
     let shard = &mut shards[number];
-    let answer = shard.host(SOLE_CALLER, offered)?;
+    let answer = shard.host(Caller::new(SOLE_CALLER), offered)?;
     Ok(answer)
 }
 
@@ -58,12 +59,8 @@ pub(crate) fn offer_in<K: Keeper<Row = ShardRow>>(
 {
     let number = number_for(offered.pdu.room_id().as_str(), shards.len());
     let shard = &mut shards[number];
-    let answer = shard.offer(SOLE_CALLER, origin, offered)?;
-    match answer {
-        Answer::ToOffered(outcome) => Ok(Some(outcome)),
-        Answer::NotHosted => Ok(None),
-        _ => unreachable!(),
-    }
+    let answer = shard.offer(Caller::new(SOLE_CALLER), origin, offered)?;
+    Ok(outcome_of(answer))
 }
 
 /// The answer to the join of a user, which a server sends to its room.
@@ -84,7 +81,7 @@ pub(crate) fn join_in<K: Keeper<Row = ShardRow>>(
 {
     let number = number_for(offered.pdu.room_id().as_str(), shards.len());
     let shard = &mut shards[number];
-    let answer = shard.join(SOLE_CALLER, origin, offered)?;
+    let answer = shard.join(Caller::new(SOLE_CALLER), origin, offered)?;
     Ok(answer)
 }
 

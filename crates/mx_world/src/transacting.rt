@@ -8,7 +8,8 @@ ghost use Rattle.mx_world.specs.Replies.{open_reply, next_reply, close_reply};
 ghost use Rattle.mx_world.specs.Moves.{rest_of, after_abandon, after_open, after_close};
 ghost use Rattle.mx_world.specs.Worlds.{shard_journals, records_of, book_journals, found, status_found, statuses_of, AtTransaction};
 ghost use Rattle.mx_world.specs.Storage.{BookFails, BooksLast, NextFails, ShardsLast, OnlyAt, next_room};
-ghost use Rattle.mx_world.specs.Inside.{shard_places, book_places, advanced, ArePlaced, AllAgree};
+ghost use Rattle.mx_world.specs.Parts.{shard_places, book_places, ArePlaced};
+ghost use Rattle.mx_world.specs.Inside.{advanced, AllAgree};
 
 use crate::bodies::reply_body;
 use crate::books::{begin_in, give_up_in, keep_in};

@@ -5,7 +5,8 @@ ghost use Rattle.mx_world.specs.Calls.{offers};
 ghost use Rattle.mx_world.specs.Replies.{waiting, next_reply};
 ghost use Rattle.mx_world.specs.Worlds.{shard_journals, records_of};
 ghost use Rattle.mx_world.specs.Storage.{NextFails, ShardsLast, OnlyAt, next_room};
-ghost use Rattle.mx_world.specs.Inside.{shard_places, progress_after, ArePlaced};
+ghost use Rattle.mx_world.specs.Parts.{shard_places, ArePlaced};
+ghost use Rattle.mx_world.specs.Inside.{progress_after};
 
 use crate::answers::Told;
 use crate::rooms::offer_in;

@@ -1,16 +1,19 @@
 // The server.
-ghost use Rattle.std.specs.Prelude.{◌≡◌, ◌++◌, ◌∷◌, ◌≤◌, ◌⊎◌, ℕ, List, [], Some, length, map, IfOk, OnOk, OnErr, IsTrue};
+ghost use Rattle.std.specs.Prelude.{◌≡◌, ◌++◌, ◌∷◌, ◌≤◌, ◌⊎◌, ℕ, List, [], Some, length, map, All, IfOk, OnOk, OnErr, IsTrue};
 ghost use Rattle.mx_shard.specs.LoneRoom.{to_ask, call_room};
 ghost use Rattle.mx_shard.specs.Shown.{IsAnswer};
+ghost use Rattle.mx_book.specs.Journal.{IsEnded};
 ghost use Rattle.mx_book.specs.declared.transaction_keys.TransactionKey.{TransactionKey};
 ghost use Rattle.mx_world.specs.Calls.{Start, record_after};
 ghost use Rattle.mx_world.specs.Replies.{unopened, status_after, IsReply};
 ghost use Rattle.mx_world.specs.Moves.{RecordsMove, StatusesMove, after_abandon};
 ghost use Rattle.mx_world.specs.Worlds.{shard_journals, book_journals, records_of, statuses_of, records_in, status_in, none_open, is_refused, AtTransaction, Stays, Moves, IsAfter};
 ghost use Rattle.mx_world.specs.Storage.{IsStorageFailure, ChangesOwn, OnlyAt, SomeUnfit};
+ghost use Rattle.mx_world.specs.Parts.{shard_places, book_places, ArePlaced, IsSoundShard, IsSoundBook};
 ghost use Rattle.mx_world.specs.Inside.{IsSound};
 
 use crate::making::{books_over, shards_over};
+use crate::parts::{books_are_sound, shards_are_sound};
 use crate::rooms::{ask_in, host_in, join_in};
 use crate::steps::{Step, StepReply};
 use crate::transacting::{abandon_in, close_in, next_in, open_in};
@@ -78,6 +81,43 @@ impl<K: Keeper<Row = ShardRow>, L: Keeper<Row = BookRow>> World<K, L> {
             books,
             going: BTreeMap::new(alloc),
         })
+    }
+
+    /// A server of these shards and books, with no transaction open. It takes no memory.
+    ///
+    /// It asks for each at the place with its number, between 1 and 64 of each, and that no transaction is begun and not
+    /// ended.
+    pub fn from_parts(alloc: Global, shards: Vec<Shard<K>>, books: Vec<Book<L>>) -> World<K, L>
+        requires shards { ArePlaced (shard_places shards.items) }
+        requires books { ArePlaced (book_places books.items) }
+        requires ended { All (λ book. IsEnded book.journal) books.items }
+        ensures shards { result.shards ≡ shards.items }
+        ensures books { result.books ≡ books.items }
+        ensures none_open { IsTrue (none_open result) }
+    {
+        World {
+            shards,
+            books,
+            going: BTreeMap::new(alloc),
+        }
+    }
+
+    /// Its shards and its books, in the order of their places. It takes no memory.
+    pub fn into_parts(self) -> (Vec<Shard<K>>, Vec<Book<L>>)
+        ensures shards { result.0.items ≡ self.shards }
+        ensures books { result.1.items ≡ self.books }
+        // Each is at the place with its number.
+        ensures shards_placed { ArePlaced (shard_places self.shards) }
+        ensures books_placed { ArePlaced (book_places self.books) }
+        // What always holds of each.
+        ensures shards_sound { All (IsSoundShard K.is_honest K.is_open K.rows) self.shards }
+        ensures books_sound { All (IsSoundBook L.is_honest L.is_open L.rows) self.books }
+        // Where no transaction is open, none is begun and not ended.
+        ensures ended { IsTrue (none_open self) → All (λ book. IsEnded book.journal) self.books }
+    {
+        shards_are_sound(&self.shards);
+        books_are_sound(&self.books);
+        (self.shards, self.books)
     }
 
     /// Whether no transaction is open: each that was opened has its reply kept for good.

@@ -1,5 +1,6 @@
-use Rattle.std.proofs.Common.{◌∙◌, ap, length, get_or, Err}
+use Rattle.std.proofs.Common.{◌∙◌, ◌++◌, ap, length, get_or, Err}
 use Rattle.mx_keeper.specs.Places.{place_number}
+use Rattle.mx_book.specs.Journal.{begins, hold_of}
 use Rattle.mx_world.proofs.PlaceLemmas.{placed-is_at, places-set, journals-set}
 use Rattle.mx_world.proofs.StorageLemmas.{lasts-same, all-set, only-set, fails-set}
 use Rattle.mx_world.proofs.StatusLemmas.{book-begun}
@@ -22,7 +23,8 @@ open-requires g c =
 pub returns-clause-states : goal.returns-clause-states
 returns-clause-states g c =
     book-begun c.args.books.now c.number_for-number.result c.index-books-number.result c.open.new.self c.args.key.now
-    (c.number_for-number.ensures.number ∙ ap (place_number (length c.args.books.now)) c.as_str.ensures.text) c.number_for-number.ensures.within c.in_ok-opening.ensures.journal
+    (c.number_for-number.ensures.number ∙ ap (place_number (length c.args.books.now)) c.as_str.ensures.text) c.number_for-number.ensures.within
+    (c.in_ok-opening.ensures.journal ∙ ap (λ n. (get_or c.args.books.now c.number_for-number.result c.index-books-number.result).journal ++ begins c.args.key.now n (hold_of (get_or c.args.books.now c.number_for-number.result c.index-books-number.result).journal c.args.key.now)) c.new.ensures.value)
 
 pub returns-clause-places : goal.returns-clause-places
 returns-clause-places g c =

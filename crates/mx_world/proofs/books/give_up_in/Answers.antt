@@ -1,6 +1,6 @@
-use Rattle.std.proofs.Common.{◌∙◌, sym, ap, refl, length}
+use Rattle.std.proofs.Common.{◌∙◌, ◌++◌, ◌∷◌, [], sym, ap, refl, length, get_or}
 use Rattle.mx_keeper.specs.Places.{place_number}
-use Rattle.mx_book.specs.Journal.{free}
+use Rattle.mx_book.specs.Journal.{free, begun}
 use Rattle.mx_book.specs.declared.entries.BookEntry.TheVariants.{GivenUp}
 use Rattle.mx_world.proofs.PlaceLemmas.{places-set, parts-set}
 use Rattle.mx_world.proofs.StorageLemmas.{only-set}
@@ -11,12 +11,13 @@ pub give_up-requires : goal.give_up-requires
 give_up-requires g c =
     sym (state-get c.args.books.now c.number_for-number.result c.index-books-number.result c.args.key.now
     (c.number_for-number.ensures.number ∙ ap (place_number (length c.args.books.now)) c.as_str.ensures.text) c.number_for-number.ensures.within)
-    ∙ c.requires.begun
+    ∙ c.requires.begun ∙ ap begun (sym c.new.ensures.value)
 
 pub returns-clause-states : goal.returns-clause-states
 returns-clause-states g c =
     book-entry c.args.books.now c.number_for-number.result c.index-books-number.result c.give_up.new.self c.args.key.now (GivenUp c.args.key.now 0) (λ _. free)
-    (c.number_for-number.ensures.number ∙ ap (place_number (length c.args.books.now)) c.as_str.ensures.text) c.number_for-number.ensures.within refl c.give_up.ensures.journal refl
+    (c.number_for-number.ensures.number ∙ ap (place_number (length c.args.books.now)) c.as_str.ensures.text) c.number_for-number.ensures.within refl
+    (c.give_up.ensures.journal ∙ ap (λ n. (get_or c.args.books.now c.number_for-number.result c.index-books-number.result).journal ++ GivenUp c.args.key.now n ∷ []) c.new.ensures.value) refl
 
 pub returns-clause-places : goal.returns-clause-places
 returns-clause-places g c =

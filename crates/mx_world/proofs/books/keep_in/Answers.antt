@@ -1,6 +1,6 @@
-use Rattle.std.proofs.Common.{◌∙◌, sym, ap, refl, length, get_or, Err}
+use Rattle.std.proofs.Common.{◌∙◌, ◌++◌, ◌∷◌, [], sym, ap, refl, length, get_or, Err}
 use Rattle.mx_keeper.specs.Places.{place_number}
-use Rattle.mx_book.specs.Journal.{kept}
+use Rattle.mx_book.specs.Journal.{kept, begun}
 use Rattle.mx_book.specs.declared.entries.BookEntry.TheVariants.{Kept}
 use Rattle.mx_world.proofs.PlaceLemmas.{places-set, journals-set}
 use Rattle.mx_world.proofs.StorageLemmas.{lasts-called, all-set, only-set, fails-set}
@@ -20,12 +20,13 @@ pub keep-requires : goal.keep-requires
 keep-requires g c =
     sym (state-get c.args.books.now c.number_for-number.result c.index-books-number.result c.args.key.now
     (c.number_for-number.ensures.number ∙ ap (place_number (length c.args.books.now)) c.as_str.ensures.text) c.number_for-number.ensures.within)
-    ∙ c.requires.begun
+    ∙ c.requires.begun ∙ ap begun (sym c.new.ensures.value)
 
 pub returns-clause-states : goal.returns-clause-states
 returns-clause-states g c =
     book-entry c.args.books.now c.number_for-number.result c.index-books-number.result c.keep.new.self c.args.key.now (Kept c.args.key.now 0 c.args.reply) (λ _. kept c.args.reply)
-    (c.number_for-number.ensures.number ∙ ap (place_number (length c.args.books.now)) c.as_str.ensures.text) c.number_for-number.ensures.within refl c.in_ok-keep.ensures.journal refl
+    (c.number_for-number.ensures.number ∙ ap (place_number (length c.args.books.now)) c.as_str.ensures.text) c.number_for-number.ensures.within refl
+    (c.in_ok-keep.ensures.journal ∙ ap (λ n. (get_or c.args.books.now c.number_for-number.result c.index-books-number.result).journal ++ Kept c.args.key.now n c.args.reply ∷ []) c.new.ensures.value) refl
 
 pub returns-clause-places : goal.returns-clause-places
 returns-clause-places g c =

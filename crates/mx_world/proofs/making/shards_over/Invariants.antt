@@ -2,7 +2,7 @@ use Rattle.std.proofs.Common.{◌≡◌, ℕ, ◌+◌, ◌<◌, [], length, drop
 use Rattle.std.specs.Vec.Iter.{into_iter_items, into_iter_len}
 use Rattle.mx_keeper.specs.Places.{PlaceView}
 use Rattle.mx_world.specs.Worlds.{shard_journals}
-use Rattle.mx_world.specs.Inside.{shard_places}
+use Rattle.mx_world.specs.Parts.{shard_places}
 use Rattle.mx_world.proofs.making.shards_over.Given as goal
 
 -- each so far stands at its place with no rows, and there is one for each keeper that is taken

@@ -2,6 +2,7 @@ use Rattle.std.proofs.Common.{◌≡◌, ◌∙◌, Err, get_or, ap, refl, lengt
 use Rattle.mx_keeper.specs.Places.{place_number}
 use Rattle.mx_pdu.specs.Event.{room_of}
 use Rattle.mx_shard.specs.LoneRoom.{to_host}
+use Rattle.mx_shard.specs.Journal.{journal_after}
 use Rattle.mx_world.proofs.PlaceLemmas.{placed-is_at, places-set, journals-set, room-called}
 use Rattle.mx_world.proofs.StorageLemmas.{lasts-called, all-set, only-set, fails-set}
 use Rattle.mx_world.proofs.RefusalLemmas.{is-storage, on_err}
@@ -25,7 +26,8 @@ pub returns-clause-records : goal.returns-clause-records
 returns-clause-records g c = λ room.
     let own : c.as_str.result.now ≡ room_of c.args.offered.now.pdu = c.as_str.ensures.text ∙ c.room_id.ensures in
     room-called c.args.shards.now c.number_for-number.result c.index-shards-number.result c.host.new.self (room_of c.args.offered.now.pdu) (to_host c.args.offered.now) room refl
-    (c.number_for-number.ensures.number ∙ ap (place_number (length c.args.shards.now)) own) c.number_for-number.ensures.within c.in_ok-answer.ensures.journal
+    (c.number_for-number.ensures.number ∙ ap (place_number (length c.args.shards.now)) own) c.number_for-number.ensures.within
+    (c.in_ok-answer.ensures.journal ∙ ap (λ n. journal_after (get_or c.args.shards.now c.number_for-number.result c.index-shards-number.result).journal n (room_of c.args.offered.now.pdu) (to_host c.args.offered.now)) c.new.ensures.value)
 
 pub returns-clause-places : goal.returns-clause-places
 returns-clause-places g c =

@@ -1,11 +1,11 @@
-use Rattle.std.proofs.Common.{inl, inr, ◌≡◌, ◌∙◌, Err, get_or, ap, sym, refl, length}
+use Rattle.std.proofs.Common.{◌≡◌, ◌∙◌, Err, get_or, ap, refl, length}
 use Rattle.mx_keeper.specs.Places.{place_number}
 use Rattle.mx_pdu.specs.Event.{room_of}
 use Rattle.mx_shard.specs.LoneRoom.{to_offer}
-use Rattle.mx_shard.specs.Journal.{record_of}
+use Rattle.mx_shard.specs.Journal.{journal_after}
 use Rattle.mx_world.proofs.PlaceLemmas.{placed-is_at, places-set, journals-set, room-called}
 use Rattle.mx_world.proofs.StorageLemmas.{lasts-called, all-set, only-set, fails-set}
-use Rattle.mx_world.proofs.RoomLemmas.{offered_answers, outcome-at, none-at}
+use Rattle.mx_world.proofs.RoomLemmas.{outcome-at}
 use Rattle.mx_world.proofs.RefusalLemmas.{is-storage, on_err}
 use Rattle.mx_world.proofs.rooms.offer_in.Goals as goal
 
@@ -23,44 +23,23 @@ pub returns-in_err-answer-clause-places : goal.returns-in_err-answer-clause-plac
 returns-in_err-answer-clause-places g c =
     places-set c.args.shards.now (λ shard. shard.place) c.number_for-number.result c.index-shards-number.result c.offer.new.self c.number_for-number.ensures.within c.offer.ensures.place
 
-pub returns-in-ToOffered-clause-reply : goal.returns-in-ToOffered-clause-reply
-returns-in-ToOffered-clause-reply g c =
+pub returns-clause-reply : goal.returns-clause-reply
+returns-clause-reply g c =
     let own : c.as_str.result.now ≡ room_of c.args.offered.now.pdu = c.as_str.ensures.text ∙ c.room_id.ensures in
-    outcome-at c.args.shards.now c.number_for-number.result c.index-shards-number.result (room_of c.args.offered.now.pdu) c.args.origin.now c.args.offered.now c.in-ToOffered.outcome
-    (c.number_for-number.ensures.number ∙ ap (place_number (length c.args.shards.now)) own) c.number_for-number.ensures.within (sym c.in-ToOffered.is ∙ c.in_ok-answer.ensures.reply)
+    c.outcome_of.ensures
+    ∙ outcome-at c.args.shards.now c.number_for-number.result c.index-shards-number.result (room_of c.args.offered.now.pdu) c.args.origin.now c.args.offered.now c.in_ok-answer.answer
+    (c.number_for-number.ensures.number ∙ ap (place_number (length c.args.shards.now)) own) c.number_for-number.ensures.within c.in_ok-answer.ensures.reply
 
-pub returns-in-NotHosted-clause-reply : goal.returns-in-NotHosted-clause-reply
-returns-in-NotHosted-clause-reply g c =
-    let own : c.as_str.result.now ≡ room_of c.args.offered.now.pdu = c.as_str.ensures.text ∙ c.room_id.ensures in
-    none-at c.args.shards.now c.number_for-number.result c.index-shards-number.result (room_of c.args.offered.now.pdu) c.args.origin.now c.args.offered.now
-    (c.number_for-number.ensures.number ∙ ap (place_number (length c.args.shards.now)) own) c.number_for-number.ensures.within (sym c.in-NotHosted.is ∙ c.in_ok-answer.ensures.reply)
-
-pub returns-in-ToOffered-clause-records : goal.returns-in-ToOffered-clause-records
-returns-in-ToOffered-clause-records g c = λ room.
+pub returns-clause-records : goal.returns-clause-records
+returns-clause-records g c = λ room.
     let own : c.as_str.result.now ≡ room_of c.args.offered.now.pdu = c.as_str.ensures.text ∙ c.room_id.ensures in
     room-called c.args.shards.now c.number_for-number.result c.index-shards-number.result c.offer.new.self (room_of c.args.offered.now.pdu) (to_offer c.args.origin.now c.args.offered.now) room refl
-    (c.number_for-number.ensures.number ∙ ap (place_number (length c.args.shards.now)) own) c.number_for-number.ensures.within c.in_ok-answer.ensures.journal
+    (c.number_for-number.ensures.number ∙ ap (place_number (length c.args.shards.now)) own) c.number_for-number.ensures.within
+    (c.in_ok-answer.ensures.journal ∙ ap (λ n. journal_after (get_or c.args.shards.now c.number_for-number.result c.index-shards-number.result).journal n (room_of c.args.offered.now.pdu) (to_offer c.args.origin.now c.args.offered.now)) c.new.ensures.value)
 
-pub returns-in-ToOffered-clause-places : goal.returns-in-ToOffered-clause-places
-returns-in-ToOffered-clause-places g c =
+pub returns-clause-places : goal.returns-clause-places
+returns-clause-places g c =
     places-set c.args.shards.now (λ shard. shard.place) c.number_for-number.result c.index-shards-number.result c.offer.new.self c.number_for-number.ensures.within c.offer.ensures.place
-
-pub returns-in-NotHosted-clause-records : goal.returns-in-NotHosted-clause-records
-returns-in-NotHosted-clause-records g c = λ room.
-    let own : c.as_str.result.now ≡ room_of c.args.offered.now.pdu = c.as_str.ensures.text ∙ c.room_id.ensures in
-    room-called c.args.shards.now c.number_for-number.result c.index-shards-number.result c.offer.new.self (room_of c.args.offered.now.pdu) (to_offer c.args.origin.now c.args.offered.now) room refl
-    (c.number_for-number.ensures.number ∙ ap (place_number (length c.args.shards.now)) own) c.number_for-number.ensures.within c.in_ok-answer.ensures.journal
-
-pub returns-in-NotHosted-clause-places : goal.returns-in-NotHosted-clause-places
-returns-in-NotHosted-clause-places g c =
-    places-set c.args.shards.now (λ shard. shard.place) c.number_for-number.result c.index-shards-number.result c.offer.new.self c.number_for-number.ensures.within c.offer.ensures.place
-
-pub unreachable-requires : goal.unreachable-requires
-unreachable-requires g c =
-    elim (offered_answers (record_of (get_or c.args.shards.now c.number_for-number.result c.index-shards-number.result).journal (room_of c.args.offered.now.pdu)) c.args.origin.now c.args.offered.now) [
-      | inl h ↦ c.in_default.not-NotHosted (c.in_ok-answer.ensures.reply ∙ h)
-      | inr h ↦ c.in_default.not-ToOffered _ (c.in_ok-answer.ensures.reply ∙ h)
-    ]
 
 pub returns-in_err-answer-clause-storage : goal.returns-in_err-answer-clause-storage
 returns-in_err-answer-clause-storage g c = λ is.
@@ -80,22 +59,12 @@ returns-in_err-answer-clause-last g c =
     all-set (λ shard. shard.is_refused) (λ shard. g.K.Keeper.failed shard.keeper) c.args.shards.now c.number_for-number.result c.index-shards-number.result c.offer.new.self c.number_for-number.ensures.within
     (lasts-called (λ shard. shard.is_refused) (λ shard. g.K.Keeper.failed shard.keeper) (get_or c.args.shards.now c.number_for-number.result c.index-shards-number.result) c.offer.new.self c.in_err-answer.ensures.storage c.in_err-answer.ensures.refused c.in_err-answer.ensures.stays_refused c.offer.ensures.counted)
 
-pub returns-in-ToOffered-clause-only : goal.returns-in-ToOffered-clause-only
-returns-in-ToOffered-clause-only g c =
+pub returns-clause-only : goal.returns-clause-only
+returns-clause-only g c =
     let own : c.as_str.result.now ≡ room_of c.args.offered.now.pdu = c.as_str.ensures.text ∙ c.room_id.ensures in
     only-set c.args.shards.now c.number_for-number.result c.offer.new.self (room_of c.args.offered.now.pdu) (c.number_for-number.ensures.number ∙ ap (place_number (length c.args.shards.now)) own)
 
-pub returns-in-ToOffered-clause-last : goal.returns-in-ToOffered-clause-last
-returns-in-ToOffered-clause-last g c =
-    all-set (λ shard. shard.is_refused) (λ shard. g.K.Keeper.failed shard.keeper) c.args.shards.now c.number_for-number.result c.index-shards-number.result c.offer.new.self c.number_for-number.ensures.within
-    (lasts-called (λ shard. shard.is_refused) (λ shard. g.K.Keeper.failed shard.keeper) (get_or c.args.shards.now c.number_for-number.result c.index-shards-number.result) c.offer.new.self c.in_ok-answer.ensures.storage c.in_ok-answer.ensures.refused c.in_ok-answer.ensures.stays_refused c.offer.ensures.counted)
-
-pub returns-in-NotHosted-clause-only : goal.returns-in-NotHosted-clause-only
-returns-in-NotHosted-clause-only g c =
-    let own : c.as_str.result.now ≡ room_of c.args.offered.now.pdu = c.as_str.ensures.text ∙ c.room_id.ensures in
-    only-set c.args.shards.now c.number_for-number.result c.offer.new.self (room_of c.args.offered.now.pdu) (c.number_for-number.ensures.number ∙ ap (place_number (length c.args.shards.now)) own)
-
-pub returns-in-NotHosted-clause-last : goal.returns-in-NotHosted-clause-last
-returns-in-NotHosted-clause-last g c =
+pub returns-clause-last : goal.returns-clause-last
+returns-clause-last g c =
     all-set (λ shard. shard.is_refused) (λ shard. g.K.Keeper.failed shard.keeper) c.args.shards.now c.number_for-number.result c.index-shards-number.result c.offer.new.self c.number_for-number.ensures.within
     (lasts-called (λ shard. shard.is_refused) (λ shard. g.K.Keeper.failed shard.keeper) (get_or c.args.shards.now c.number_for-number.result c.index-shards-number.result) c.offer.new.self c.in_ok-answer.ensures.storage c.in_ok-answer.ensures.refused c.in_ok-answer.ensures.stays_refused c.offer.ensures.counted)

@@ -2,7 +2,7 @@ use Rattle.std.proofs.Common.{sym, subst}
 use Rattle.mx_world.specs.Calls.{concerns}
 use Rattle.mx_room.specs.Queries.{room_named}
 use Rattle.mx_world.specs.Worlds.{shard_journals, book_journals, records_of}
-use Rattle.mx_world.specs.Inside.{ArePlaced}
+use Rattle.mx_world.specs.Parts.{ArePlaced}
 use Rattle.mx_world.proofs.NextEventLemmas.{next-statuses, next-agrees, next-own}
 use Rattle.mx_world.proofs.RoomLemmas.{ask-adds}
 use Rattle.mx_world.proofs.worlds.step_in.Goals as goal
