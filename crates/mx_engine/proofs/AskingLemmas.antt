@@ -1,0 +1,133 @@
+-- Queries that are put to each shard.
+use Rattle.std.proofs.Common.{◌≡◌, ◌≢◌, ℕ, ◌<◌, ◌+◌, true, false, true≢false, List, ◌++◌, length, set, append-nil, refl, sym, ◌∙◌, ap, subst, arith}
+use Rattle.std.specs.Prelude.{Option, None, Some, Ok, Err}
+use native.Mathlib.Decide.{ℕ_discrete}
+use mathlib.Core.Logic.{dite}
+use Rattle.std.proofs.lemmas.List.{length-set, get_or-set_same}
+use Rattle.mx_dock.specs.Dock.{own}
+use Rattle.mx_dock.specs.declared.berths.Berth.{Berth}
+use Rattle.mx_dock.proofs.ViewLemmas.{prefix_trans}
+use Rattle.mx_room.specs.Queries.{room_named}
+use Rattle.mx_room.specs.declared.queries.Query.{Query}
+use Rattle.mx_room.specs.declared.queries.Denied.TheVariants.{NotFound}
+use Rattle.mx_receipt.specs.Receipt.{Kept}
+use Rattle.mx_shard.specs.LoneRoom.{Call, to_ask}
+use Rattle.mx_shard.specs.Told.{tells_shown}
+use Rattle.mx_shard.specs.Journal.{Entry, record_of, IsLegal}
+use Rattle.mx_shard.specs.Shown.{IsShown, IsAnswer}
+use Rattle.mx_shard.specs.declared.answers.Answer.{Answer}
+use Rattle.mx_shard.specs.declared.answers.Answer.TheVariants.{NotHosted, Hosted, AlreadyHosted, NotHost, ToOffered, ToJoined, ToAsked}
+use Rattle.mx_keeper.specs.declared.refusals.CallError.{CallError}
+use Rattle.mx_engine.specs.Views.{BerthView, view_at, AddsNothing, AreSameViews}
+use Rattle.mx_engine.specs.Berths.{views_of}
+use Rattle.mx_engine.specs.Calls.{Shows, IsShownBy}
+use Rattle.mx_engine.specs.Calling.{IsTurn, IsAskTurn, told_by}
+use Rattle.mx_engine.proofs.TurnLemmas.{view-eq, view_at-here, views-set, view-set_other, ask_view}
+
+-- ---- one change after another
+
+module _ {E : Type 0} where
+  pub same_refl : (views : List (BerthView E)) → AreSameViews views views
+  same_refl views = record { long = refl; each = λ n. record { numbered = refl; opened = refl; counted = refl; placed = refl } }
+
+  pub same_trans : (a b c : List (BerthView E)) → AreSameViews a b → AreSameViews b c → AreSameViews a c
+  same_trans a b c s t = record {
+    long = t.long ∙ s.long;
+    each = λ n. let p = s.each n in let q = t.each n in record { numbered = q.numbered ∙ p.numbered; opened = q.opened ∙ p.opened; counted = q.counted ∙ p.counted; placed = q.placed ∙ p.placed };
+  }
+
+  pub nothing_trans : (a b c : List (BerthView E)) → AddsNothing a b → AddsNothing b c → AddsNothing a c
+  nothing_trans a b c s t = record {
+    long = t.long ∙ s.long;
+    each = λ n.
+        let p = s.each n in
+        let q = t.each n in
+        let seen : (view_at b n).seen ≡ p.0 = ap (λ (v : BerthView E). v.seen) p.2 in (
+          q.0,
+          prefix_trans (view_at a n).seen p.0 q.0 p.1 (subst (λ l. (rest : List E) × (q.0 ≡ l ++ rest)) seen q.1),
+          q.2 ∙ view-eq (record { number = (view_at b n).number; seen = q.0; added = (view_at b n).added; opening = (view_at b n).opening; made = (view_at b n).made; place = (view_at b n).place })
+              (record { number = (view_at a n).number; seen = q.0; added = (view_at a n).added; opening = (view_at a n).opening; made = (view_at a n).made; place = (view_at a n).place })
+              (ap (λ (v : BerthView E). v.number) p.2) refl (ap (λ (v : BerthView E). v.added) p.2) (ap (λ (v : BerthView E). v.opening) p.2) (ap (λ (v : BerthView E). v.made) p.2) (ap (λ (v : BerthView E). v.place) p.2),
+        );
+  }
+
+  pub same_nothing : (a b : List (BerthView E)) → AddsNothing a b → AreSameViews a b
+  same_nothing a b s = record {
+    long = s.long;
+    each = λ n. let p = s.each n in record { numbered = ap (λ (v : BerthView E). v.number) p.2; opened = ap (λ (v : BerthView E). v.opening) p.2; counted = ap (λ (v : BerthView E). v.made) p.2; placed = ap (λ (v : BerthView E). v.place) p.2 };
+  }
+
+-- ---- what a shard shows
+
+pub shown_found : (call : Call) (views : List (BerthView Entry)) (n : ℕ) (told : Answer) → tells_shown told ≡ true → n < length views → Shows call views told n → IsShownBy call views told
+shown_found call views n (ToAsked (Ok reply)) is l shows = (n, l, shows)
+shown_found call views n (ToAsked (Err denied)) is l shows = absurd (true≢false (sym is))
+shown_found call views n NotHosted is l shows = absurd shows.shown
+shown_found call views n (Hosted id) is l shows = absurd shows.shown
+shown_found call views n (AlreadyHosted id) is l shows = absurd shows.shown
+shown_found call views n (NotHost cause) is l shows = absurd shows.shown
+shown_found call views n (ToOffered outcome) is l shows = absurd shows.shown
+shown_found call views n (ToJoined reply) is l shows = absurd shows.shown
+
+none_shown : (rows : List ℕ → List Kept) (call : Call) (told : Answer) → tells_shown told ≡ false → IsShown rows call told → IsShown rows call (ToAsked (Err NotFound))
+none_shown rows call (ToAsked (Ok reply)) is shown = absurd (true≢false is)
+none_shown rows call (ToAsked (Err denied)) is shown = (refl, shown.1)
+none_shown rows call NotHosted is shown = absurd shown
+none_shown rows call (Hosted id) is shown = absurd shown
+none_shown rows call (AlreadyHosted id) is shown = absurd shown
+none_shown rows call (NotHost cause) is shown = absurd shown
+none_shown rows call (ToOffered outcome) is shown = absurd shown
+none_shown rows call (ToJoined reply) is shown = absurd shown
+
+module _ (caller : ℕ) (origin : List ℕ) (now : ℕ) (q : Query) (alone : room_named q ≡ None) where
+  pub found_turn : (old new : BerthView Entry) (told : Answer) → tells_shown told ≡ true → IsTurn caller (to_ask origin now q) (room_named q) old new (Ok told) → IsAskTurn (to_ask origin now q) old new (Ok (Some told))
+  found_turn old new told is t = record {
+    journal = t.journal;
+    legal = t.legal;
+    later = t.later;
+    seen = ask_view caller origin now q old new (Ok told) t;
+    shown = subst (λ room. IsAnswer (record_of t.journal) (to_ask origin now q) room told) alone t.reply;
+    told = is;
+  }
+
+  pub none_turn : (old new : BerthView Entry) (told : Answer) → tells_shown told ≡ false → IsTurn caller (to_ask origin now q) (room_named q) old new (Ok told) → IsAskTurn (to_ask origin now q) old new (Ok None)
+  none_turn old new told is t = record {
+    journal = t.journal;
+    legal = t.legal;
+    later = t.later;
+    seen = ask_view caller origin now q old new (Ok told) t;
+    shown = none_shown (record_of t.journal) (to_ask origin now q) told is (subst (λ room. IsAnswer (record_of t.journal) (to_ask origin now q) room told) alone t.reply);
+    told = refl;
+  }
+
+  pub refused_turn : (old new : BerthView Entry) (error : CallError) → IsTurn caller (to_ask origin now q) (room_named q) old new (Err error) → IsAskTurn (to_ask origin now q) old new (Err error)
+  refused_turn old new error t = record { journal = t.journal; legal = t.legal; later = t.later; seen = t.err; shown = tt; told = tt }
+
+-- what a turn at one shard shows, and what others showed before
+pub shows_here : {T : Type 0} (call : Call) (berths : List (Berth T Entry)) (n : ℕ) (old new : Berth T Entry) (found : Option Answer) → n < length berths →
+    IsAskTurn call (own old) (own new) (Ok found) → Shows call (views_of (set berths n new)) (told_by found) n
+shows_here {T = T} call berths n old new found l t =
+    let k : n < length (set berths n new) = subst (λ m. n < m) (sym (length-set berths n new)) l in
+    let there : (view_at (views_of (set berths n new)) n).seen ≡ t.journal =
+    ap (λ (v : BerthView Entry). v.seen) (view_at-here (set berths n new) n new k ∙ ap own (get_or-set_same berths n new new l) ∙ t.seen) ∙ append-nil t.journal in
+    record {
+      legal = subst IsLegal (sym there) t.legal;
+      shown = subst (λ l. IsShown (record_of l) call (told_by found)) (sym there) t.shown;
+    }
+
+pub shows_there : {T : Type 0} (call : Call) (berths : List (Berth T Entry)) (n m : ℕ) (new : Berth T Entry) (told : Answer) → m ≢ n → Shows call (views_of berths) told m → Shows call (views_of (set berths n new)) told m
+shows_there call berths n m new told apart shows =
+    let same : view_at (views_of (set berths n new)) m ≡ view_at (views_of berths) m = ap (λ vs. view_at vs m) (views-set berths n new) ∙ view-set_other (views_of berths) n m (own new) apart in
+    record {
+      legal = subst (λ (v : BerthView Entry). IsLegal v.seen) (sym same) shows.legal;
+      shown = subst (λ (v : BerthView Entry). IsShown (record_of v.seen) call told) (sym same) shows.shown;
+    }
+
+-- no shard before this one shows anything
+abbrev pub NoneBefore : Call → List (BerthView Entry) → ℕ → Type 0
+NoneBefore call views n = (m : ℕ) → m < n → Shows call views (ToAsked (Err NotFound)) m
+
+pub none_next : {T : Type 0} (call : Call) (berths : List (Berth T Entry)) (n : ℕ) (new : Berth T Entry) → NoneBefore call (views_of berths) n → Shows call (views_of (set berths n new)) (ToAsked (Err NotFound)) n → NoneBefore call (views_of (set berths n new)) (n + 1)
+none_next call berths n new before here = λ m k. dite (ℕ_discrete m n)
+    (λ same. subst (Shows call (views_of (set berths n new)) (ToAsked (Err NotFound))) (sym same) here)
+    (λ other. shows_there call berths n m new (ToAsked (Err NotFound)) other (before m (omega (arith, k, other))))

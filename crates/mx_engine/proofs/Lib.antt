@@ -1,0 +1,14 @@
+pub mod TurnLemmas
+pub mod AskingLemmas
+pub mod BerthLemmas
+pub mod MeetingLemmas
+pub mod SeatLemmas
+pub mod RowLemmas
+pub mod ClosingLemmas
+pub mod OpeningLemmas
+pub mod ClosedDockLemmas
+pub mod OpenedDockLemmas
+pub mod EndedLemmas
+pub mod TransactionLemmas
+pub mod OfferingLemmas
+pub mod Sending

@@ -1,0 +1,89 @@
+use Rattle.std.proofs.Common.{◌<◌, ◌∙◌, ap, length, set, sym, subst, arith, None, Some, Ok}
+use Rattle.std.proofs.lemmas.List.{length-map, length-set}
+use Rattle.mx_dock.specs.Dock.{own}
+use Rattle.mx_shard.specs.LoneRoom.{to_ask}
+use Rattle.mx_engine.specs.Berths.{views_of}
+use Rattle.mx_engine.specs.Calling.{IsAskTurn}
+use Rattle.mx_engine.proofs.TurnLemmas.{told_nothing, nothing_refl}
+use Rattle.mx_engine.proofs.AskingLemmas.{same_refl, same_trans, same_nothing, nothing_trans, shown_found, shows_here, none_next}
+use Rattle.mx_engine.proofs.BerthLemmas.{seated_set}
+use Rattle.mx_engine.proofs.asking.ask_each.Goals as goal
+
+pub loop-number-init : goal.loop-number-init
+loop-number-init g c = record {
+  seated = c.requires.seated;
+  same = same_refl (views_of c.args.berths.now.items);
+  nothing = nothing_refl (views_of c.args.berths.now.items);
+  none = λ m below. absurd (let e : ⊥ = omega (arith, below) in e);
+}
+
+pub returns-in_err-answer-clause-same : goal.returns-in_err-answer-clause-same
+returns-in_err-answer-clause-same g c =
+    let berths = c.loop-number.berths.items in
+    let n = c.loop-number.number in
+    let k : n < length berths = subst (λ j. n < j) (sym c.loop-number.invariant.seated.same) c.loop-number-test.true in
+    let t = c.ask_one.ensures.turn in
+    same_trans (views_of c.args.berths.now.items) (views_of berths) _ c.loop-number.invariant.same
+    (same_nothing (views_of berths) _ (told_nothing berths n c.index_mut-berth.result.now c.ask_one.new.berth t.journal k (sym c.index_mut-berth.ensures.value) t.later t.seen))
+
+pub returns-in_err-answer-clause-nothing : goal.returns-in_err-answer-clause-nothing
+returns-in_err-answer-clause-nothing g c =
+    let berths = c.loop-number.berths.items in
+    let n = c.loop-number.number in
+    let k : n < length berths = subst (λ j. n < j) (sym c.loop-number.invariant.seated.same) c.loop-number-test.true in
+    let t = c.ask_one.ensures.turn in
+    nothing_trans (views_of c.args.berths.now.items) (views_of berths) _ c.loop-number.invariant.nothing
+    (told_nothing berths n c.index_mut-berth.result.now c.ask_one.new.berth t.journal k (sym c.index_mut-berth.ensures.value) t.later t.seen)
+
+pub loop-number-preserved : goal.loop-number-preserved
+loop-number-preserved g c =
+    let berths = c.loop-number.berths.items in
+    let n = c.loop-number.number in
+    let call = to_ask c.args.origin.now c.args.now c.args.query.now in
+    let seated = c.loop-number.invariant.seated in
+    let k : n < length berths = subst (λ j. n < j) (sym seated.same) c.loop-number-test.true in
+    let t = c.ask_one.ensures.turn in
+    let change = told_nothing berths n c.index_mut-berth.result.now c.ask_one.new.berth t.journal k (sym c.index_mut-berth.ensures.value) t.later t.seen in
+    let none : IsAskTurn call (own c.index_mut-berth.result.now) (own c.ask_one.new.berth) (Ok None) =
+    subst (λ r. IsAskTurn call (own c.index_mut-berth.result.now) (own c.ask_one.new.berth) r) (c.in_ok-answer.was ∙ ap Ok c.in_default.is) t in
+    record {
+      seated = seated_set c.args.docks.now c.args.caller berths n c.new-place.result c.index-docks-number.result c.deref.result.now c.ask_one.new.berth seated c.loop-number-test.true c.new-place.ensures.number c.new-place.ensures.count (sym c.index-docks-number.is) c.deref.ensures c.ask_one.ensures.berth;
+      same = same_trans (views_of c.args.berths.now.items) (views_of berths) _ c.loop-number.invariant.same (same_nothing (views_of berths) _ change);
+      nothing = nothing_trans (views_of c.args.berths.now.items) (views_of berths) _ c.loop-number.invariant.nothing change;
+      none = none_next call berths n c.ask_one.new.berth c.loop-number.invariant.none (shows_here call berths n c.index_mut-berth.result.now c.ask_one.new.berth None k none);
+    }
+
+pub returns-clause-shown : goal.returns-clause-shown
+returns-clause-shown g c = λ n l.
+    let seated = c.loop-number.invariant.seated in
+    let k : n < length c.args.docks.now = subst (λ j. n < j) (length-map c.loop-number.berths.items own ∙ seated.same) l in
+    c.loop-number.invariant.none n (omega (arith, k, c.loop-number-test.false))
+
+pub returns-in-Some-clause-same : goal.returns-in-Some-clause-same
+returns-in-Some-clause-same g c =
+    let berths = c.loop-number.berths.items in
+    let n = c.loop-number.number in
+    let k : n < length berths = subst (λ j. n < j) (sym c.loop-number.invariant.seated.same) c.loop-number-test.true in
+    let t = c.ask_one.ensures.turn in
+    same_trans (views_of c.args.berths.now.items) (views_of berths) _ c.loop-number.invariant.same
+    (same_nothing (views_of berths) _ (told_nothing berths n c.index_mut-berth.result.now c.ask_one.new.berth t.journal k (sym c.index_mut-berth.ensures.value) t.later t.seen))
+
+pub returns-in-Some-clause-nothing : goal.returns-in-Some-clause-nothing
+returns-in-Some-clause-nothing g c =
+    let berths = c.loop-number.berths.items in
+    let n = c.loop-number.number in
+    let k : n < length berths = subst (λ j. n < j) (sym c.loop-number.invariant.seated.same) c.loop-number-test.true in
+    let t = c.ask_one.ensures.turn in
+    nothing_trans (views_of c.args.berths.now.items) (views_of berths) _ c.loop-number.invariant.nothing
+    (told_nothing berths n c.index_mut-berth.result.now c.ask_one.new.berth t.journal k (sym c.index_mut-berth.ensures.value) t.later t.seen)
+
+pub returns-in-Some-clause-shown : goal.returns-in-Some-clause-shown
+returns-in-Some-clause-shown g c =
+    let berths = c.loop-number.berths.items in
+    let n = c.loop-number.number in
+    let call = to_ask c.args.origin.now c.args.now c.args.query.now in
+    let k : n < length berths = subst (λ j. n < j) (sym c.loop-number.invariant.seated.same) c.loop-number-test.true in
+    let told = c.in-Some.answer in
+    let t : IsAskTurn call (own c.index_mut-berth.result.now) (own c.ask_one.new.berth) (Ok (Some told)) =
+    subst (λ r. IsAskTurn call (own c.index_mut-berth.result.now) (own c.ask_one.new.berth) r) (c.in_ok-answer.was ∙ ap Ok c.in-Some.is) c.ask_one.ensures.turn in
+    shown_found call (views_of (set berths n c.ask_one.new.berth)) n told t.told (subst (λ j. n < j) (sym (length-map (set berths n c.ask_one.new.berth) own ∙ length-set berths n c.ask_one.new.berth)) k) (shows_here call berths n c.index_mut-berth.result.now c.ask_one.new.berth (Some told) k t)

@@ -1,0 +1,10 @@
+use Rattle.mx_world.proofs.RefusalLemmas.{on_err}
+use Rattle.mx_engine.specs.Berths.{views_of}
+use Rattle.mx_engine.proofs.OfferingLemmas.{some_all}
+use Rattle.mx_engine.proofs.transactions.close_begun.Goals as goal
+
+pub returns-in_err-keep_in-in-Ok-clause-err : goal.returns-in_err-keep_in-in-Ok-clause-err
+returns-in_err-keep_in-in-Ok-clause-err g c =
+    let all = c.in-Ok.ensures.ok in
+    on_err c.from_residual.result
+    (some_all c.args.caller c.args.key.now.origin c.args.events.now (views_of c.args.shard_berths.now.items) (views_of c.reply_to.new.berths.items) all.0 all.1, c.in_err-keep_in-in-Ok.ensures.given_up)

@@ -1,0 +1,65 @@
+-- One turn at a dock, for private clauses (our own).
+use Rattle.std.specs.Prelude.{◌≡◌, ℕ, true, List, [], Option, None, Some, is_some, Result, Err, IfOk, OnOk, OnErr}
+use Rattle.mx_dock.specs.Dock.{IsBerthOf, holds, number, own, place}
+use Rattle.mx_dock.specs.declared.docks.Dock.{Dock}
+use Rattle.mx_dock.specs.declared.berths.Berth.{Berth}
+use Rattle.mx_dock.specs.Journal.{IsPrefix}
+use Rattle.mx_keeper.specs.Places.{PlaceView}
+use Rattle.mx_room.specs.Offer.{Offered}
+use Rattle.mx_keeper.specs.declared.refusals.CallError.{CallError}
+use Rattle.mx_shard.specs.LoneRoom.{Call, to_offer, to_join}
+use Rattle.mx_shard.specs.Journal.{Entry, record_of, IsLegal}
+use Rattle.mx_shard.specs.Shown.{IsAnswer, IsShown}
+use Rattle.mx_shard.specs.Told.{tells_shown}
+use Rattle.mx_shard.specs.declared.answers.Answer.{Answer}
+use Rattle.mx_shard.specs.declared.answers.Answer.TheVariants.{ToAsked}
+use Rattle.mx_room.specs.declared.queries.Denied.TheVariants.{NotFound}
+use Rattle.mx_engine.specs.Places.{place_code}
+use Rattle.mx_engine.specs.Views.{BerthView, after_turn}
+use Rattle.mx_engine.specs.Calls.{entries_added}
+use Rattle.mx_engine.specs.declared.calls.Sending.{Sending}
+use Rattle.mx_engine.specs.declared.calls.Sending.TheVariants as sends
+
+abbrev pub sent_call : Sending → List ℕ → Offered → Call
+sent_call sends.Offer origin o = to_offer origin o
+sent_call sends.Join origin o = to_join origin o
+
+-- the entries that a call adds; a query by an event's id alone adds none
+abbrev pub entries_by : List Entry → ℕ → Call → Option (List ℕ) → List Entry
+entries_by journal caller call None = []
+entries_by journal caller call (Some room) = entries_added journal caller room call
+
+-- A caller's berth at the dock of this place holds: the value has this place and this journal, which is legal and begins
+-- with all that the caller had seen.
+pub record IsHeld {T : Type 0} (at : PlaceView) (dock : Dock T Entry) (caller : ℕ) (old : BerthView Entry) (new : Berth T Entry) (found_place : PlaceView) (journal : List Entry) : Type 0 where
+  pub mine : IsBerthOf dock new
+  pub held : holds new ≡ true
+  pub numbered : number new ≡ caller
+  pub placed : place new ≡ place_code at
+  pub same : own new ≡ after_turn old journal []
+  pub found : found_place ≡ at
+  pub legal : IsLegal journal
+  pub later : IsPrefix old.seen journal
+
+-- A call of a shard: a legal journal was found, which begins with what was seen, and the answer is by its rooms' records.
+pub record IsTurn (caller : ℕ) (call : Call) (room : Option (List ℕ)) (old new : BerthView Entry) (result : Result Answer CallError) : Type 0 where
+  pub journal : List Entry
+  pub legal : IsLegal journal
+  pub later : IsPrefix old.seen journal
+  pub reply : IfOk result (λ told. IsAnswer (record_of journal) call room told)
+  pub ok : OnOk result (new ≡ after_turn old journal (entries_by journal caller call room))
+  pub err : OnErr result (new ≡ after_turn old journal [])
+
+-- what is told of what some room shows; not found where none shows it
+abbrev pub told_by : Option Answer → Answer
+told_by None = ToAsked (Err NotFound)
+told_by (Some told) = told
+
+-- A query by an event's id alone was put to a shard: what a room of it shows, if one shows it.
+pub record IsAskTurn (call : Call) (old new : BerthView Entry) (result : Result (Option Answer) CallError) : Type 0 where
+  pub journal : List Entry
+  pub legal : IsLegal journal
+  pub later : IsPrefix old.seen journal
+  pub seen : new ≡ after_turn old journal []
+  pub shown : IfOk result (λ found. IsShown (record_of journal) call (told_by found))
+  pub told : IfOk result (λ found. tells_shown (told_by found) ≡ is_some found)

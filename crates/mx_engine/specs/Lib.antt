@@ -1,0 +1,9 @@
+pub mod Places
+pub mod Views
+pub mod Berths
+pub mod Calls
+pub mod Calling
+pub mod BookTurns
+pub mod Transactions
+pub mod Seats
+pub mod Closing

@@ -1,0 +1,42 @@
+-- What a caller knows of the docks of an engine (our own): of each dock the journal that the caller has seen and the
+-- entries that it added.
+use Rattle.std.specs.Prelude.{◌≡◌, ℕ, List, ◌++◌, length, get_or, slice_set}
+use Rattle.mx_dock.specs.Journal.{IsPrefix}
+use Rattle.mx_dock.specs.Rule.{no_berth}
+pub use Rattle.mx_dock.specs.declared.views.BerthView.{BerthView}
+
+module _ {E : Type 0} where
+  -- what is known of the dock with this number
+  abbrev pub view_at : List (BerthView E) → ℕ → BerthView E
+  view_at views n = get_or views n no_berth
+
+  -- what a caller knows that found this journal and added these entries
+  abbrev pub after_turn : BerthView E → List E → List E → BerthView E
+  after_turn view journal entries = record {
+    number = view.number;
+    seen = journal ++ entries;
+    added = view.added ++ entries;
+    opening = view.opening;
+    made = view.made;
+    place = view.place;
+  }
+
+  -- it found this journal at the dock with this number and added these entries there; at no other dock it did anything
+  abbrev pub turned : List (BerthView E) → ℕ → List E → List E → List (BerthView E)
+  turned views n journal entries = slice_set views n (after_turn (view_at views n) journal entries)
+
+  -- nothing was added; more may have been seen
+  pub record AddsNothing (old new : List (BerthView E)) : Type 0 where
+    pub long : length new ≡ length old
+    pub each : (n : ℕ) → (journal : List E) × IsPrefix (view_at old n).seen journal × (view_at new n ≡ record { number = (view_at old n).number; seen = journal; added = (view_at old n).added; opening = (view_at old n).opening; made = (view_at old n).made; place = (view_at old n).place })
+
+  -- what no call changes of what a caller knows
+  pub record IsSameView (old new : BerthView E) : Type 0 where
+    pub numbered : new.number ≡ old.number
+    pub opened : new.opening ≡ old.opening
+    pub counted : new.made ≡ old.made
+    pub placed : new.place ≡ old.place
+
+  pub record AreSameViews (old new : List (BerthView E)) : Type 0 where
+    pub long : length new ≡ length old
+    pub each : (n : ℕ) → IsSameView (view_at old n) (view_at new n)

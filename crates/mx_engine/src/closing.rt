@@ -1,0 +1,226 @@
+// Seats that are given back, and docks that are closed.
+ghost use Rattle.std.specs.Prelude.{◌≡◌, ◌<◌, ◌≤◌, ◌++◌, ℕ, List, [], ◌∷◌, All, Any, IsTrue, length, get_or, map, vec_capacity};
+ghost use Rattle.crossbeam_utils.specs.Padded.{padded_value};
+ghost use Rattle.mx_dock.specs.Dock.{given_back, own, opening, place};
+ghost use Rattle.mx_keeper.specs.Places.{PlaceView};
+ghost use Rattle.mx_shard.specs.Journal.{Entry, IsLegal};
+ghost use Rattle.mx_book.specs.Journal.{is_legal};
+ghost use Rattle.mx_book.specs.declared.entries.BookEntry.{BookEntry as BookEntryOf};
+ghost use Rattle.mx_world.specs.Parts.{shard_places, book_places, ArePlaced};
+ghost use Rattle.mx_world.specs.Worlds.{shard_journals, book_journals};
+ghost use Rattle.mx_engine.specs.Places.{book_caller, place_code};
+ghost use Rattle.mx_engine.specs.Views.{BerthView, view_at};
+ghost use Rattle.mx_engine.specs.Berths.{AreBerthsAt, views_of};
+ghost use Rattle.mx_engine.specs.Closing.{AreAllBack, AreGathered, IsAllBack, IsWhole, known_at};
+
+use crate::calls::{BookDock, ShardDock};
+use crate::docked::{DockedBook, DockedShard};
+use crate::seats::Seat;
+use crossbeam_utils::CachePadded;
+use mx_book::Book;
+use mx_dock::{Berth, Dock, Journaled};
+use mx_keeper::{BookRow, Keeper, ShardRow};
+use mx_shard::Shard;
+use std::sync::Wait;
+
+// ---- the whole
+
+/// The shards and the books, once all seats are given back. It takes no memory.
+pub(crate) fn close_all<R: Wait, K: Keeper<Row = ShardRow>, L: Keeper<Row = BookRow>>(
+    rt: &R,
+    shards: Vec<ShardDock<K>>,
+    books: Vec<BookDock<L>>,
+    first: Seat<K, L>,
+    others: Vec<Seat<K, L>>,
+) -> (Vec<Shard<K>>, Vec<Book<L>>)
+    requires shards { All (λ seat. AreBerthsAt shards.items seat.number seat.shards.items) (first ∷ others.items) }
+    requires books { All (λ seat. AreBerthsAt books.items seat.number seat.books.items) (first ∷ others.items) }
+    requires number { first.number ≡ 1 }
+    requires all { (count : ℕ)
+        × ((n : ℕ) → n < length shards.items → (view_at (views_of first.shards.items) n).made ≡ count)
+        × ((n : ℕ) → n < length books.items → (view_at (views_of first.books.items) n).made ≡ count)
+        × ((n : ℕ) → 1 ≤ n → n ≤ count → Any (λ seat. seat.number ≡ n) (first ∷ others.items)) }
+    requires shard_list { (first.closed_shards.items ≡ []) × (length shards.items ≤ vec_capacity first.closed_shards) }
+    requires book_list { (first.closed_books.items ≡ []) × (length books.items ≤ vec_capacity first.closed_books) }
+    ensures shard_count { length result.0.items ≡ length shards.items }
+    ensures book_count { length result.1.items ≡ length books.items }
+    ensures shards_placed { ArePlaced (shard_places result.0.items) }
+    ensures books_placed { ArePlaced (book_places result.1.items) }
+    ensures legal_shards { All (λ shard. IsLegal shard.journal) result.0.items }
+    ensures legal_books { All (λ book. IsTrue (is_legal book.journal)) result.1.items }
+    ensures shards { (n : ℕ) → n < length result.0.items → IsWhole (λ e. e.caller) (view_at (views_of first.shards.items) n).opening
+        (known_at (map (λ seat. views_of seat.shards.items) (first ∷ others.items)) n) (get_or (shard_journals result.0.items) n []) }
+    ensures books { (n : ℕ) → n < length result.1.items → IsWhole book_caller (view_at (views_of first.books.items) n).opening
+        (known_at (map (λ seat. views_of seat.books.items) (first ∷ others.items)) n) (get_or (book_journals result.1.items) n []) }
+{
+    let mut first = first;
+    gather(&shards, &books, &mut first, others);
+    let Seat {
+        shards: shard_berths,
+        books: book_berths,
+        closed_shards,
+        closed_books,
+        ..
+    } = first;
+    let shards = close_shards(rt, shards, shard_berths, closed_shards);
+    let books = close_books(rt, books, book_berths, closed_books);
+    (shards, books)
+}
+
+// ---- seats
+
+// Gives the other seats back; the first one then knows what each of them does.
+fn gather<K: Keeper<Row = ShardRow>, L: Keeper<Row = BookRow>>(
+    shards: &[ShardDock<K>],
+    books: &[BookDock<L>],
+    first: &mut Seat<K, L>,
+    others: Vec<Seat<K, L>>,
+)
+    requires first_shards { AreBerthsAt shards.now first.old.number first.old.shards.items }
+    requires first_books { AreBerthsAt books.now first.old.number first.old.books.items }
+    requires shards { All (λ seat. AreBerthsAt shards.now seat.number seat.shards.items) others.items }
+    requires books { All (λ seat. AreBerthsAt books.now seat.number seat.books.items) others.items }
+    ensures shards { AreGathered shards.now first.new.shards.items (map (λ seat. views_of seat.shards.items) others.items) }
+    ensures books { AreGathered books.now first.new.books.items (map (λ seat. views_of seat.books.items) others.items) }
+    ensures shard_views { views_of first.new.shards.items ≡ views_of first.old.shards.items }
+    ensures book_views { views_of first.new.books.items ≡ views_of first.old.books.items }
+    ensures lists { (first.new.closed_shards ≡ first.old.closed_shards) × (first.new.closed_books ≡ first.old.closed_books) }
+{
+    for seat in others {
+        give_back_seat(shards, books, first, seat);
+    }
+}
+
+// Gives a seat back.
+fn give_back_seat<K: Keeper<Row = ShardRow>, L: Keeper<Row = BookRow>>(
+    shards: &[ShardDock<K>],
+    books: &[BookDock<L>],
+    first: &mut Seat<K, L>,
+    other: Seat<K, L>,
+)
+    requires first_shards { (known : List (List (BerthView Entry))) × AreGathered shards.now first.old.shards.items known }
+    requires first_books { (known : List (List (BerthView BookEntryOf))) × AreGathered books.now first.old.books.items known }
+    requires shards { AreBerthsAt shards.now other.number other.shards.items }
+    requires books { AreBerthsAt books.now other.number other.books.items }
+    ensures shards { (known : List (List (BerthView Entry))) → AreGathered shards.now first.old.shards.items known → AreGathered shards.now first.new.shards.items (known ++ views_of other.shards.items ∷ []) }
+    ensures books { (known : List (List (BerthView BookEntryOf))) → AreGathered books.now first.old.books.items known → AreGathered books.now first.new.books.items (known ++ views_of other.books.items ∷ []) }
+    ensures shard_views { views_of first.new.shards.items ≡ views_of first.old.shards.items }
+    ensures book_views { views_of first.new.books.items ≡ views_of first.old.books.items }
+    ensures lists { (first.new.closed_shards ≡ first.old.closed_shards) × (first.new.closed_books ≡ first.old.closed_books) }
+{
+    let Seat {
+        shards: shard_berths,
+        books: book_berths,
+        ..
+    } = other;
+    give_back(shards, &mut first.shards, shard_berths);
+    give_back(books, &mut first.books, book_berths);
+}
+
+// Gives a caller's berths back.
+fn give_back<T: Journaled>(
+    docks: &[CachePadded<Dock<T>>],
+    first: &mut Vec<Berth<T>>,
+    berths: Vec<Berth<T>>,
+)
+    requires first { (known : List (List (BerthView T.Entry))) × AreGathered docks.now first.old.items known }
+    requires other { (caller : ℕ) × AreBerthsAt docks.now caller berths.items }
+    ensures first { (known : List (List (BerthView T.Entry))) → AreGathered docks.now first.old.items known → AreGathered docks.now first.new.items (known ++ views_of berths.items ∷ []) }
+    ensures views { views_of first.new.items ≡ views_of first.old.items }
+{
+    for (number, berth) in berths.into_iter().enumerate() {
+        docks[number].give_back(&mut first[number], berth);
+    }
+}
+
+// ---- docks
+
+// The shards, once all berths are given back, in the list that has room for them. It takes no memory.
+fn close_shards<R: Wait, K: Keeper<Row = ShardRow>>(
+    rt: &R,
+    docks: Vec<ShardDock<K>>,
+    berths: Vec<Berth<DockedShard<K>>>,
+    list: Vec<Shard<K>>,
+) -> Vec<Shard<K>>
+    requires all { (known : List (List (BerthView Entry))) × AreAllBack docks.items berths.items known }
+    requires empty { list.items ≡ [] }
+    requires room { length docks.items ≤ vec_capacity list }
+    ensures count { length result.items ≡ length docks.items }
+    ensures placed { ArePlaced (shard_places result.items) }
+    ensures legal { All (λ shard. IsLegal shard.journal) result.items }
+    ensures whole { (known : List (List (BerthView Entry))) → AreAllBack docks.items berths.items known → (n : ℕ) (b : Berth (DockedShard K) Entry) → n < length docks.items
+        → IsWhole (λ e. e.caller) (opening (get_or berths.items n b)) (own (get_or berths.items n b) ∷ known_at known n) (get_or (shard_journals result.items) n []) }
+{
+    let mut berths = berths;
+    let mut shards = list;
+    for dock in docks {
+        let berth = berths.remove(0);
+        let shard = close_shard(rt, dock, berth);
+        shards.push_reserved(shard);
+    }
+    shards
+}
+
+// Closes the dock of one shard.
+fn close_shard<R: Wait, K: Keeper<Row = ShardRow>>(
+    rt: &R,
+    dock: ShardDock<K>,
+    berth: Berth<DockedShard<K>>,
+) -> Shard<K>
+    requires { (at : PlaceView) × IsAllBack at (padded_value dock) berth }
+    ensures place { place_code result.place ≡ place berth }
+    ensures within { (result.place.number < result.place.count) × (result.place.count ≤ 64) }
+    ensures legal { IsLegal result.journal }
+    ensures whole { IsWhole (λ e. e.caller) (opening berth) (own berth ∷ given_back berth) result.journal }
+{
+    let docked = dock.into_inner().close(rt, berth);
+    let held = docked.shard.place();
+    let _number = held.number();
+    let _count = held.count();
+    docked.shard
+}
+
+// The books, once all berths are given back, in the list that has room for them. It takes no memory.
+fn close_books<R: Wait, L: Keeper<Row = BookRow>>(
+    rt: &R,
+    docks: Vec<BookDock<L>>,
+    berths: Vec<Berth<DockedBook<L>>>,
+    list: Vec<Book<L>>,
+) -> Vec<Book<L>>
+    requires all { (known : List (List (BerthView BookEntryOf))) × AreAllBack docks.items berths.items known }
+    requires empty { list.items ≡ [] }
+    requires room { length docks.items ≤ vec_capacity list }
+    ensures count { length result.items ≡ length docks.items }
+    ensures placed { ArePlaced (book_places result.items) }
+    ensures legal { All (λ book. IsTrue (is_legal book.journal)) result.items }
+    ensures whole { (known : List (List (BerthView BookEntryOf))) → AreAllBack docks.items berths.items known → (n : ℕ) (b : Berth (DockedBook L) BookEntryOf) → n < length docks.items
+        → IsWhole book_caller (opening (get_or berths.items n b)) (own (get_or berths.items n b) ∷ known_at known n) (get_or (book_journals result.items) n []) }
+{
+    let mut berths = berths;
+    let mut books = list;
+    for dock in docks {
+        let berth = berths.remove(0);
+        let book = close_book(rt, dock, berth);
+        books.push_reserved(book);
+    }
+    books
+}
+
+// Closes the dock of one book.
+fn close_book<R: Wait, L: Keeper<Row = BookRow>>(
+    rt: &R,
+    dock: BookDock<L>,
+    berth: Berth<DockedBook<L>>,
+) -> Book<L>
+    requires { (at : PlaceView) × IsAllBack at (padded_value dock) berth }
+    ensures place { place_code result.place ≡ place berth }
+    ensures within { (result.place.number < result.place.count) × (result.place.count ≤ 64) }
+    ensures legal { IsTrue (is_legal result.journal) }
+    ensures whole { IsWhole book_caller (opening berth) (own berth ∷ given_back berth) result.journal }
+{
+    let docked = dock.into_inner().close(rt, berth);
+    let held = docked.book.place();
+    let _number = held.number();
+    let _count = held.count();
+    docked.book
+}
