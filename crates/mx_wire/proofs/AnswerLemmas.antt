@@ -12,7 +12,7 @@ use Rattle.mx_wire.specs.LineOutputs.{response_output, step_output}
 use Rattle.mx_wire.specs.LineRuns.{IsCalled, IsDone, IsTaken}
 use Rattle.mx_wire.specs.Lines.{Line, step_line, call_line}
 use Rattle.mx_wire.specs.LineSteps.{call_reply, call_steps, first_of, line_output, line_steps, step_shown}
-use Rattle.mx_wire.specs.Offers.{Offered}
+use Rattle.mx_world.specs.Offers.{Offered}
 use Rattle.mx_wire.specs.ReplyBodies.{Response, failure}
 use Rattle.mx_wire.specs.declared.faults.Fault.{Fault}
 use Rattle.mx_wire.proofs.CallStepLemmas.{none_done, one_done}

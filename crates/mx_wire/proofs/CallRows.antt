@@ -11,7 +11,7 @@ use Rattle.mx_wire.specs.declared.faults.Fault.TheVariants.{NotJson, WrongForm, 
 use Rattle.mx_wire.specs.declared.faults.MissingParameter.TheVariants as missing
 use Rattle.mx_wire.specs.declared.faults.InvalidPart.TheVariants as invalid
 use Rattle.mx_wire.specs.Requests.{Read, on_ok, body_value}
-use Rattle.mx_wire.specs.Offers.{Offered}
+use Rattle.mx_world.specs.Offers.{Offered}
 use Rattle.mx_wire.specs.Calls.{Request, Call, sends, asks, joins, call_under, largest_body}
 use Rattle.mx_wire.proofs.OnExamples.{wire_on_examples}
 

@@ -13,7 +13,7 @@ use Rattle.mx_wire.specs.Calls.{Call}
 use Rattle.mx_wire.specs.LineRuns.{AreDone, AreFollowed, AreTaken, AreTakenFrom, AreTurned, IsCalled, IsTaken, nexts}
 use Rattle.mx_wire.specs.LineSteps.{first_of, first_step, following, last_of, once_open, reply_to, step_shown, steps_from, turns}
 use Rattle.mx_wire.specs.Lines.{StepView, open_step, next_step, close_step}
-use Rattle.mx_wire.specs.Offers.{Offered}
+use Rattle.mx_world.specs.Offers.{Offered}
 use Rattle.mx_wire.specs.ReplyBodies.{Response}
 use Rattle.mx_wire.proofs.LineRunLemmas.{map_one, replies_append}
 

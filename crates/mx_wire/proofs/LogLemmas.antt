@@ -15,7 +15,7 @@ use Rattle.mx_wire.specs.Lines.{lines_of, read_line}
 use Rattle.mx_wire.specs.declared.line_answers.LineRefusal.TheVariants.{Memory}
 use Rattle.mx_wire.specs.LinesShown.{refusal_output}
 use Rattle.mx_wire.specs.LineSteps.{AreRun, IsAnswered, nothing_yet}
-use Rattle.mx_wire.specs.Offers.{Judge, Offered, offer_by}
+use Rattle.mx_world.specs.Offers.{Judge, Offered, offer_by}
 use Rattle.mx_wire.proofs.LineRunLemmas.{appends_more, appends_none, none_so_far, one_more}
 use Rattle.mx_wire.proofs.RefusalLineLemmas.{ended-more, ended-none, refusal-stays, refused}
 

@@ -16,7 +16,7 @@ use Rattle.mx_wire.specs.declared.routes.Route.TheVariants as route
 use Rattle.mx_wire.specs.Authorization.{origin_of}
 use Rattle.mx_wire.specs.Targets.{route_of, method_of, path_of, query_of, room_at, user_at, event_at, txn_at, parameters, all_named}
 use Rattle.mx_wire.specs.Requests.{Read, ok_or_fault, unless, on_ok, body_value, events_in, event_id_parameter, v_parameters, limit_parameter, missing_query}
-use Rattle.mx_wire.specs.Offers.{Judge, Offered, offer_by}
+use Rattle.mx_world.specs.Offers.{Judge, Offered, offer_by}
 
 -- the first Authorization header, where there is one
 pub record Request : Type 0 where

@@ -6,7 +6,6 @@ pub mod Targets
 pub mod Parameters
 pub mod Requests
 pub mod BodyIds
-pub mod Offers
 pub mod Calls
 pub mod CallsShown
 pub mod ReplyBodies

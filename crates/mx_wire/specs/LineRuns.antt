@@ -13,7 +13,7 @@ use Rattle.mx_world.specs.declared.steps.StepReply.{StepReply}
 use Rattle.mx_wire.specs.Calls.{Call}
 use Rattle.mx_wire.specs.LineOutputs.{has_refusal}
 use Rattle.mx_wire.specs.Lines.{Line, StepView, next_step, close_step, read_line}
-use Rattle.mx_wire.specs.Offers.{Offered}
+use Rattle.mx_world.specs.Offers.{Offered}
 use Rattle.mx_wire.specs.LineSteps.{AreRun, Exchange, first_of, first_step, last_of, line_output, line_steps, once_open, reply_to, step_shown, steps_from}
 use Rattle.mx_wire.specs.LinesShown.{refusal_output}
 use Rattle.mx_wire.specs.ReplyBodies.{Response}

@@ -13,7 +13,7 @@ use Rattle.mx_wire.specs.Calls.{Call, sends, asks, joins, call_under}
 use Rattle.mx_wire.specs.JoinReplies.{join_reply}
 use Rattle.mx_wire.specs.LineOutputs.{bad_output, refused_output, response_output, step_output}
 use Rattle.mx_wire.specs.Lines.{Line, bad_line, malformed_host, step_line, call_line, lines_of, read_line, StepView, host_step, open_step, next_step, close_step, join_step, ask_step}
-use Rattle.mx_wire.specs.Offers.{Judge, Offered, offer_by}
+use Rattle.mx_world.specs.Offers.{Judge, Offered, offer_by}
 use Rattle.mx_wire.specs.ReplyBodies.{Response, success, failure, query_reply}
 use Rattle.mx_wire.specs.Requests.{Read}
 use Rattle.mx_wire.specs.declared.faults.Fault.TheVariants.{NotFound, Busy as TransactionBusy}

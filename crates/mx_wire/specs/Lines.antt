@@ -11,7 +11,7 @@ use Rattle.mx_book.specs.declared.transaction_keys.TransactionKey.{TransactionKe
 use Rattle.mx_room.specs.declared.moments.TheConstants.{LATEST_MILLISECONDS}
 use Rattle.mx_room.specs.declared.queries.Query.{Query}
 use Rattle.mx_wire.specs.Calls.{Request}
-use Rattle.mx_wire.specs.Offers.{Offered}
+use Rattle.mx_world.specs.Offers.{Offered}
 use Rattle.mx_wire.specs.Requests.{entries_up_to, json_of, natural_of}
 
 -- the lines of a text; the last may lack its newline

@@ -6,7 +6,7 @@ ghost use Rattle.mx_pdu.specs.Format.{is_well_formed};
 ghost use Rattle.mx_wire.specs.Calls as definition;
 ghost use Rattle.mx_wire.specs.CallsShown.{call_shown};
 ghost use Rattle.mx_wire.specs.LineSteps.{first_step, step_shown};
-ghost use Rattle.mx_wire.specs.Offers.{offer_by};
+ghost use Rattle.mx_world.specs.Offers.{offer_by};
 ghost use Rattle.mx_wire.specs.Requests.{missing_query as missing_query_of};
 ghost use Rattle.mx_wire.specs.Targets.{parameters};
 

@@ -10,7 +10,7 @@ ghost use Rattle.mx_wire.specs.Lines.{lines_of};
 ghost use Rattle.mx_wire.specs.Lines as definition;
 ghost use Rattle.mx_wire.specs.LinesShown.{answer_output};
 ghost use Rattle.mx_world.specs.declared.steps.Step.{Step as AnyStep};
-ghost use Rattle.mx_wire.specs.Offers.{offer_by};
+ghost use Rattle.mx_world.specs.Offers.{offer_by};
 
 use crate::input::{InputError, read_all};
 use crate::line_answers::{LineAnswer, LineRefusal};

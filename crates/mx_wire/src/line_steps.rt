@@ -8,7 +8,7 @@ ghost use Rattle.mx_wire.specs.LineOutputs.{response_output};
 ghost use Rattle.mx_wire.specs.LineRuns.{IsCalled, IsDone, IsTaken};
 ghost use Rattle.mx_wire.specs.Lines.{call_line};
 ghost use Rattle.mx_wire.specs.LinesShown.{answer_output, line_shown};
-ghost use Rattle.mx_wire.specs.Offers.{offer_by};
+ghost use Rattle.mx_world.specs.Offers.{offer_by};
 ghost use Rattle.mx_wire.specs.RepliesShown.{reply_shown};
 ghost use Rattle.mx_wire.specs.ReplyBodies.{failure};
 

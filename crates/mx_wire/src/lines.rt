@@ -4,7 +4,7 @@ ghost use Rattle.serde_json.specs.Data.{object};
 ghost use Rattle.serde_json.specs.View.{view, members_view};
 ghost use Rattle.mx_wire.specs.Lines as definition;
 ghost use Rattle.mx_wire.specs.LinesShown.{line_shown};
-ghost use Rattle.mx_wire.specs.Offers.{offer_by};
+ghost use Rattle.mx_world.specs.Offers.{offer_by};
 
 use crate::call_lines::{CallLine, call_line};
 use crate::line_texts::text_line;

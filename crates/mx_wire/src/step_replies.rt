@@ -4,7 +4,7 @@ ghost use Rattle.mx_book.specs.declared.transaction_keys.TransactionKey.{Transac
 ghost use Rattle.mx_wire.specs.Lines.{ask_step, join_step, open_step};
 ghost use Rattle.mx_wire.specs.LineSteps as definition;
 ghost use Rattle.mx_wire.specs.LineSteps.{step_shown};
-ghost use Rattle.mx_wire.specs.Offers.{Offered as AnyOffered};
+ghost use Rattle.mx_world.specs.Offers.{Offered as AnyOffered};
 ghost use Rattle.mx_wire.specs.RepliesShown.{reply_shown};
 
 use crate::faults::Fault;

@@ -5,7 +5,7 @@ ghost use Rattle.serde_json.specs.View.{view, members_view};
 ghost use Rattle.mx_pdu.specs.Format.{is_well_formed};
 ghost use Rattle.mx_redact.specs.Fields.{field as field_of, is_none_or};
 ghost use Rattle.mx_wire.specs.Requests as definition;
-ghost use Rattle.mx_wire.specs.Offers.{offer_by};
+ghost use Rattle.mx_world.specs.Offers.{offer_by};
 
 use mx_pdu::{Offered, PduError, Verifier};
 use mx_redact::field;

@@ -1,7 +1,7 @@
 use Rattle.std.proofs.Common.{◌≡◌, List, ℕ, [], ◌∷◌, ◌++◌, length, refl, sym, ◌∙◌, ap, subst, append_assoc, append-nil}
 use Rattle.mx_wire.specs.LineRuns.{AreAnswered}
 use Rattle.mx_wire.specs.Lines.{lines_of}
-use Rattle.mx_wire.specs.Offers.{offer_by}
+use Rattle.mx_world.specs.Offers.{offer_by}
 use Rattle.mx_wire.proofs.LogLemmas.{answered_none, answered_more, none-left, some-left}
 use Rattle.mx_wire.proofs.line_runs.answer_log.Goals as goal
 

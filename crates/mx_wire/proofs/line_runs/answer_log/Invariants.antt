@@ -3,7 +3,7 @@ use Rattle.mx_world.specs.Calls.{Start}
 use Rattle.mx_world.specs.Worlds.{IsAfter}
 use Rattle.mx_wire.specs.LineRuns.{AreAnswered}
 use Rattle.mx_wire.specs.Lines.{lines_of}
-use Rattle.mx_wire.specs.Offers.{offer_by}
+use Rattle.mx_world.specs.Offers.{offer_by}
 use Rattle.mx_wire.proofs.line_runs.answer_log.Given as goal
 
 -- the lines so far are answered, and the others are left

@@ -1,6 +1,6 @@
 use Rattle.mx_wire.specs.LineRuns.{not_answered}
 use Rattle.mx_wire.specs.LinesShown.{answer_output}
-use Rattle.mx_wire.specs.Offers.{offer_by}
+use Rattle.mx_world.specs.Offers.{offer_by}
 use Rattle.mx_wire.proofs.LogLemmas.{written_by}
 use Rattle.mx_wire.proofs.line_runs.answer_text.Goals as goal
 

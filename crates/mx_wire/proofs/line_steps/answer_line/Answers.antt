@@ -2,7 +2,7 @@ use Rattle.std.proofs.Common.{refl}
 use Rattle.std.specs.Prelude.{codes}
 use Rattle.mx_wire.specs.LineOutputs.{bad_output, refused_output}
 use Rattle.mx_wire.specs.Lines.{bad_line, malformed_host}
-use Rattle.mx_wire.specs.Offers.{offer_by}
+use Rattle.mx_world.specs.Offers.{offer_by}
 use Rattle.mx_wire.proofs.AnswerLemmas.{nothing_done, step_done}
 use Rattle.mx_wire.proofs.line_steps.answer_line.Goals as goal
 

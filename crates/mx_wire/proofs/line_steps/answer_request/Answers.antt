@@ -1,6 +1,6 @@
 use Rattle.std.proofs.Common.{⊎_elim}
 use Rattle.mx_wire.specs.CallsShown.{call_shown, request_shown}
-use Rattle.mx_wire.specs.Offers.{offer_by}
+use Rattle.mx_world.specs.Offers.{offer_by}
 use Rattle.mx_wire.specs.RepliesShown.{reply_shown}
 use Rattle.mx_wire.proofs.AnswerLemmas.{fault_done, called_done}
 use Rattle.mx_wire.proofs.line_steps.answer_request.Goals as goal

@@ -5,7 +5,7 @@ use Rattle.serde_json.specs.View.{view, members_view}
 use Rattle.serde_json.specs.declared.value.Value.{Value}
 use Rattle.mx_wire.specs.Lines.{Line}
 use Rattle.mx_wire.specs.LinesShown.{line_shown}
-use Rattle.mx_wire.specs.Offers.{offer_by}
+use Rattle.mx_world.specs.Offers.{offer_by}
 use Rattle.mx_wire.proofs.EntryLemmas.{shown_at}
 use Rattle.mx_wire.proofs.LineLemmas.{hosts}
 use Rattle.mx_wire.proofs.step_lines.host_line.Goals as goal

@@ -4,7 +4,7 @@ use Rattle.std.proofs.lemmas.Bool.{le-leb}
 use Rattle.serde_json.specs.View.{view}
 use Rattle.serde_json.proofs.Views.{view-Array}
 use Rattle.mx_pdu.specs.Format.{is_well_formed}
-use Rattle.mx_wire.specs.Offers.{offer_by}
+use Rattle.mx_world.specs.Offers.{offer_by}
 use Rattle.mx_wire.specs.Requests.{entries_up_to}
 use Rattle.mx_wire.proofs.EntryLemmas.{short, long, not_below}
 use Rattle.mx_wire.proofs.transaction_bodies.events_in.Goals as goal

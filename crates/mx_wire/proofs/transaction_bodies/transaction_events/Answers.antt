@@ -3,7 +3,7 @@ use Rattle.std.specs.Prelude.{option_map, Some, None}
 use Rattle.serde_json.specs.Data.{object}
 use Rattle.serde_json.specs.View.{view, members_view}
 use Rattle.serde_json.specs.declared.value.Value.{Value}
-use Rattle.mx_wire.specs.Offers.{offer_by}
+use Rattle.mx_world.specs.Offers.{offer_by}
 use Rattle.mx_wire.proofs.EntryLemmas.{events-at, shown_at}
 use Rattle.mx_wire.proofs.transaction_bodies.transaction_events.Goals as goal
 

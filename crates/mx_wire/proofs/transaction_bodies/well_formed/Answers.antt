@@ -1,7 +1,7 @@
 use Rattle.std.proofs.Common.{◌≡◌, sym, ap, Err, is_none, false, Some, None, if◌then◌else◌}
 use Rattle.serde_json.specs.View.{view}
 use Rattle.mx_pdu.specs.Format.{is_well_formed}
-use Rattle.mx_wire.specs.Offers.{offer_by}
+use Rattle.mx_world.specs.Offers.{offer_by}
 use Rattle.mx_wire.proofs.transaction_bodies.well_formed.Goals as goal
 
 pub returns-in-Err-NotAnEvent : goal.returns-in-Err-NotAnEvent
