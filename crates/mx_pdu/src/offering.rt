@@ -70,6 +70,19 @@ impl Offered {
     }
 }
 
+impl Pdu {
+    /// Its id: `$` and the unpadded URL-safe base64 of its reference hash.
+    ///
+    /// Source: the Matrix specification, Room Version 4, "Event IDs".
+    pub fn event_id(&self, alloc: Global) -> Result<EventId, AllocError>
+        ensures { IfOk result (λ id. id ≡ event_id_of self.now) }
+    {
+        let bytes = signing_bytes_of(alloc, self)?;
+        let id = event_id_by_text(alloc, &bytes)?;
+        Ok(id)
+    }
+}
+
 // The event as it is offered, by its id and by the text that is signed of it.
 fn judged<V: Verifier>(
     alloc: Global,
