@@ -9,6 +9,8 @@ use Rattle.mx_keeper.specs.Places.{PlaceView, is_at}
 use Rattle.mx_receipt.specs.Receipt.{Kept, kept_at, installed}
 use Rattle.mx_room.specs.RoomView.{RoomView, IsHosted}
 use Rattle.mx_shard.specs.Journal.{Entry, entry_of, record_of, IsLegal}
+use Rattle.mx_shard.specs.Holders.{IsHolding}
+use Rattle.mx_shard.specs.declared.holders.Holder.{Holder}
 use Rattle.mx_shard.specs.declared.journal_places.JournalPlace.{JournalPlace}
 
 -- ---- the rooms
@@ -97,3 +99,9 @@ pub record IsSound (place : PlaceView) (rooms : List RoomView) (numbers : BTreeM
   pub indexed : IsIndexed rooms numbers places
   pub here : All (λ entry. IsTrue (is_at place entry.room)) (journal_of rooms places)
   pub legal : IsLegal (journal_of rooms places)
+
+-- the rooms and the journal of rows that were found, and which rooms may hold an event
+pub record IsReopened (rooms : List RoomView) (numbers : BTreeMap (List ℕ) ℕ) (holders : BTreeMap (List ℕ) Holder) (places : List JournalPlace) : Type 0 where
+  pub indexed : IsIndexed rooms numbers places
+  pub legal : IsLegal (journal_of rooms places)
+  pub holding : IsHolding holders rooms

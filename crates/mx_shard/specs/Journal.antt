@@ -1,11 +1,13 @@
 -- What is kept of several rooms, in order (our own).
-use Rattle.std.specs.Prelude.{ℕ, nat_le, Bool, true, not, ◌&&◌, List, [], ◌∷◌, ◌++◌, codes, bytes_eq, length, map, filter, fold, is_none, IsTrue}
+use Rattle.std.specs.Prelude.{ℕ, nat_le, Bool, true, not, ◌&&◌, List, [], ◌∷◌, ◌++◌, codes, bytes_eq, length, map, filter, fold, is_none, All, IsTrue}
 use Rattle.std.specs.List.{list_any, list_all}
+use Rattle.mx_redact.specs.Hashes.{event_id}
 use Rattle.mx_pdu.specs.Event.{has_kind, prev_ids, auth_ids, room_of}
 use Rattle.mx_graph.specs.Adding.{most_rows}
 use Rattle.mx_receipt.specs.Receipt.{Kept, begun, received}
+use Rattle.mx_keeper.specs.Places.{PlaceView, is_at}
 use Rattle.mx_keeper.specs.declared.rows.ShardRow.{ShardRow}
-use Rattle.mx_room.specs.Hosting.{host_error}
+use Rattle.mx_room.specs.Hosting.{reopen_error}
 use Rattle.mx_shard.specs.LoneRoom.{Call, added}
 use Rattle.mx_shard.specs.declared.entries.ShardEntry.{ShardEntry}
 
@@ -38,9 +40,9 @@ stored = map (λ e. record { room = e.room; event = e.event; caller = e.caller }
 
 -- ---- which journals arise
 
--- a create event that makes a room; its signature is not asked again
+-- a create event that makes a room; its signature and its content hash are not asked again
 abbrev pub is_first : Entry → Bool
-is_first e = is_none (host_error (record { pdu = e.event; id = e.id; signed = true }))
+is_first e = is_none (reopen_error e.event)
 
 abbrev pub has_id : List Entry → List ℕ → Bool
 has_id es id = list_any (λ e. bytes_eq e.id id) es
@@ -64,3 +66,18 @@ are_legal (e ∷ es) =
 
 abbrev pub IsLegal : List Entry → Type 0
 IsLegal journal = (room : List ℕ) → IsTrue (are_legal (entries_of journal room))
+
+-- ---- opening a shard again
+
+-- the entry of a row that was found; its id is worked out of its event
+abbrev pub entry_of_row : ShardRow → Entry
+entry_of_row row = record { room = row.room; id = event_id row.event; event = row.event; caller = row.caller }
+
+-- the journal of the rows that were found
+abbrev pub reopened : List ShardRow → List Entry
+reopened rows = map entry_of_row rows
+
+-- a shard at this place can have these rows: each is of a room of the place, and they make a journal that can arise
+pub record CanReopen (place : PlaceView) (rows : List ShardRow) : Type 0 where
+  pub here : All (λ row. IsTrue (is_at place row.room)) rows
+  pub legal : IsLegal (reopened rows)

@@ -8,6 +8,7 @@ mod holders;
 mod hosting;
 mod journal_places;
 mod offering;
+mod reopening;
 mod shards;
 mod storing;
 

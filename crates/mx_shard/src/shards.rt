@@ -1,5 +1,5 @@
 // The rooms of a shard.
-ghost use Rattle.std.specs.Prelude.{◌≡◌, ◌≢◌, ◌≤◌, ◌↔◌, ◌⊎◌, [], Option, Some, None, List, true, false, IfOk, OnOk, OnErr, IsErrOf, IsTrue, All};
+ghost use Rattle.std.specs.Prelude.{◌≡◌, ¬◌, ◌≤◌, ◌↔◌, ◌⊎◌, [], Option, Some, None, List, true, false, IfOk, OnOk, OnErr, IsErrOf, IsTrue, All};
 ghost use Rattle.mx_keeper.specs.Keeping.{Rose};
 ghost use Rattle.mx_keeper.specs.Places.{is_at};
 ghost use Rattle.mx_keeper.specs.declared.rows.ShardRow.{ShardRow};
@@ -8,7 +8,7 @@ ghost use Rattle.mx_shard.specs.Changes.{sent_call};
 ghost use Rattle.mx_shard.specs.LoneRoom.{to_host, to_offer, to_join, to_ask, call_room, answer};
 ghost use Rattle.mx_shard.specs.Shown.{HasShown, IsAnswer};
 ghost use Rattle.mx_shard.specs.Told.{tells_hosted, tells_kept};
-ghost use Rattle.mx_shard.specs.Journal.{record_of, journal_after, stored, IsLegal};
+ghost use Rattle.mx_shard.specs.Journal.{record_of, journal_after, stored, reopened, CanReopen, IsLegal};
 
 use crate::answers::Answer;
 use crate::asking::answer_in;
@@ -16,6 +16,7 @@ use crate::holders::Holder;
 use crate::hosting::{Hosting, add_room, hosting_in, remove_room, reserve_room};
 use crate::journal_places::JournalPlace;
 use crate::offering::{Offering, Sending, discard_in, install_in, offering_in};
+use crate::reopening::reopened_in;
 use crate::storing::{store, store_with_place};
 use mx_ident::{EventId, RoomId, ServerName};
 use mx_keeper::{CallError, Caller, Keeper, KeeperFault, Place, ShardRow};
@@ -64,42 +65,51 @@ impl<K: Keeper<Row = ShardRow>> Model for Shard<K> {
 }
 
 impl<K: Keeper<Row = ShardRow>> Shard<K> {
-    /// A shard over a keeper that has no rows, at this place.
+    /// A shard over a keeper, at this place, with the rooms that its rows make.
     ///
-    /// `Memory` where no memory is left. `Storage` where the keeper failed, or has rows or what does not read as rows.
-    /// A refused call drops the keeper.
+    /// Each event is judged again by those before it of its room, and the ids are worked out again; neither signatures,
+    /// content hashes nor access control lists are asked again. `Memory` where no memory is left. `Storage` where the
+    /// keeper failed, where what it has does not read as rows, or where no shard at this place has such rows. A refused
+    /// call drops the keeper.
     pub fn reopen(alloc: Global, keeper: K, place: Place) -> Result<Shard<K>, CallError>
-        ensures journal { IfOk result (λ shard. shard.journal ≡ []) }
+        // Its entries are those of its rows.
+        ensures journal { IfOk result (λ shard. shard.journal ≡ reopened (stored shard.journal)) }
         ensures place { IfOk result (λ shard. shard.place ≡ place) }
         ensures taken { IfOk result (λ shard. shard.is_refused ≡ false) }
-        ensures honest { IfOk result (λ shard. K.is_honest shard.keeper → K.is_honest keeper × (K.rows keeper ≡ Some [])) }
+        ensures honest { IfOk result (λ shard. K.is_honest shard.keeper → K.is_honest keeper × (K.rows keeper ≡ Some (stored shard.journal))) }
         ensures crash { IfOk result (λ shard. K.is_honest shard.keeper → (left : Option (List ShardRow)) → K.may_leave shard.keeper left → K.may_leave keeper left) }
 
         // What became of the keeper tells why.
         ensures storage { result ≡ Err CallError.Storage → (after : K) × (K.is_honest after → K.is_honest keeper)
-            × (Rose (K.failed keeper) (K.failed after) ⊎ (K.is_honest after → K.is_open keeper → K.rows keeper ≢ Some [])) }
+            × (Rose (K.failed keeper) (K.failed after)
+            ⊎ (K.is_honest after → K.is_open keeper → (rows : List ShardRow) → K.rows keeper ≡ Some rows → ¬ (CanReopen place rows))) }
     {
         let mut keeper = keeper;
         match keeper.rows() {
             Ok(rows) => {
-                if !rows.is_empty() {
-                    return Err(CallError::Storage);
-                }
+                let made = reopened_in(alloc, &place, rows)?;
                 Ok(Shard {
                     alloc,
                     keeper,
                     place,
                     is_refused: false,
-                    rooms: Vec::new(alloc),
-                    numbers: BTreeMap::new(alloc),
-                    holders: BTreeMap::new(alloc),
-                    journal: Vec::new(alloc),
+                    rooms: made.rooms,
+                    numbers: made.numbers,
+                    holders: made.holders,
+                    journal: made.journal,
                 })
             }
             Err(KeeperFault::Memory) => Err(CallError::Memory),
             Err(KeeperFault::Store) => Err(CallError::Storage),
             Err(KeeperFault::Table) => Err(CallError::Storage),
         }
+    }
+
+    /// Whether it has no entry.
+    pub fn is_empty(&self) -> bool
+        ensures { IsTrue result ↔ (self.now.journal ≡ []) }
+    {
+        self.journal.is_empty()
     }
 
     /// Its place, and what always holds of its journal and its rows.

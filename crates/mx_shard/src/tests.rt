@@ -7,18 +7,18 @@ use serde_json::Value;
 use std::alloc::{AllocError, Global};
 use std::test::Fail;
 
-// Content hashes are by Python's json, hashlib and base64.
+// Content hashes and ids are by Python's json, hashlib and base64.
 const CREATE: &str =
     "{\"auth_events\":[],\"content\":{\"creator\":\"@a:a.example\",\"room_version\":\"6\"},\"depth\":1,\"hashes\":{\"sha256\":\"7EqXFjg0TbdsCVVLsQz/QJbYgosrTahPKlTsIutVbDQ\"},\"origin_server_ts\":5,\"prev_events\":[],\"room_id\":\"!r:a.example\",\"sender\":\"@a:a.example\",\"signatures\":{\"a.example\":{\"ed25519:1\":\"s\"}},\"state_key\":\"\",\"type\":\"m.room.create\"}";
 
 const JOIN: &str =
-    "{\"auth_events\":[\"$c\"],\"content\":{\"membership\":\"join\"},\"depth\":2,\"hashes\":{\"sha256\":\"9CvJGI5afUSAk8phx3t+b1kdq1qYRSChDsNLuQbxzHY\"},\"origin_server_ts\":5,\"prev_events\":[\"$c\"],\"room_id\":\"!r:a.example\",\"sender\":\"@a:a.example\",\"signatures\":{\"a.example\":{\"ed25519:1\":\"s\"}},\"state_key\":\"@a:a.example\",\"type\":\"m.room.member\"}";
+    "{\"auth_events\":[\"$r6uLfKfdvI6Q9vcoK1wbTRLqz6Y-CrjhoNwng1O3qaE\"],\"content\":{\"membership\":\"join\"},\"depth\":2,\"hashes\":{\"sha256\":\"5P+WXwTK6dmCTI6c6u5xMtvvduOfgdYCvVConbZV+Hg\"},\"origin_server_ts\":5,\"prev_events\":[\"$r6uLfKfdvI6Q9vcoK1wbTRLqz6Y-CrjhoNwng1O3qaE\"],\"room_id\":\"!r:a.example\",\"sender\":\"@a:a.example\",\"signatures\":{\"a.example\":{\"ed25519:1\":\"s\"}},\"state_key\":\"@a:a.example\",\"type\":\"m.room.member\"}";
 
-// An event by its name in the tests.
-fn event_named(name: &str) -> &'static str {
+// An event by its name in the tests, and its id.
+fn event_named(name: &str) -> (&'static str, &'static str) {
     match name {
-        "create" => CREATE,
-        _ => JOIN,
+        "create" => (CREATE, "$r6uLfKfdvI6Q9vcoK1wbTRLqz6Y-CrjhoNwng1O3qaE"),
+        _ => (JOIN, "$Sr9HczLFs9oCjpKK3Xnn2oTc8bow3Yx3BbtUDjNgM7U"),
     }
 }
 
@@ -27,14 +27,19 @@ fn refused<E: Drop>(_error: E) -> AllocError {
     AllocError
 }
 
-fn offered(alloc: Global, id: &str, name: &str, signed: bool) -> Result<Offered, AllocError> {
-    let value = Value::from_str(alloc, event_named(name)).map_err(refused)?;
+fn offered(alloc: Global, name: &str) -> Result<Offered, AllocError> {
+    let (text, id) = event_named(name);
+    let value = Value::from_str(alloc, text).map_err(refused)?;
     let pdu = Pdu::from_value(alloc, value).map_err(refused)?;
     let id = EventId::parse(alloc, id).map_err(refused)?;
-    Ok(Offered { pdu, id, signed })
+    Ok(Offered {
+        pdu,
+        id,
+        signed: true,
+    })
 }
 
-// A call of the server a.example by its words, `host ID NAME`, `offer ID NAME` or `ask ID`. The answer is told in a word.
+// A call of the server a.example by its words, `host NAME`, `offer NAME` or `ask NAME`. The answer is told in a word.
 fn tell<K: Keeper<Row = ShardRow>>(
     alloc: Global,
     shard: &mut Shard<K>,
@@ -43,14 +48,12 @@ fn tell<K: Keeper<Row = ShardRow>>(
 ) -> Result<&'static str, CallError> {
     let mut words = call.split(' ');
     let kind = words.next().unwrap_or("");
-    let id = words.next().unwrap_or("");
+    let offered = offered(alloc, words.next().unwrap_or(""))?;
     let origin = ServerName::parse(alloc, "a.example").map_err(refused)?;
     if kind == "ask" {
-        let query = Query::Event(EventId::parse(alloc, id).map_err(refused)?);
         let now = Moment::at(1).ok_or(AllocError)?;
-        return Ok(word(&shard.ask(&origin, now, &query)?));
+        return Ok(word(&shard.ask(&origin, now, &Query::Event(offered.id))?));
     }
-    let offered = offered(alloc, id, words.next().unwrap_or(""), true)?;
     if !shard.place().has(offered.pdu.room_id().as_str()) {
         return Ok("another place");
     }
@@ -70,27 +73,25 @@ fn word(answer: &Answer) -> &'static str {
     }
 }
 
-fn shard_at(alloc: Global, place: Place) -> Result<Shard<MemoryKeeper<ShardRow>>, CallError> {
-    Shard::reopen(alloc, MemoryKeeper::new(alloc), place)
-}
-
-// The rows are the events that were kept, with the callers that offered them.
+// The rows are the events that were kept, with the callers that offered them. A shard is opened again over them after
+// each call, and goes on.
 #[test]
-fn rows_of_what_is_kept(rt: HostRuntime) -> Result<(), Fail> {
+fn reopened_over_its_rows(rt: HostRuntime) -> Result<(), Fail> {
     let alloc = rt.alloc();
-    let mut shard = shard_at(alloc, Place::new(0, 1))?;
+    let place = Place::new(0, 1);
+    let mut shard = Shard::reopen(alloc, MemoryKeeper::new(alloc), place)?;
+    assert!(rt; shard.is_empty());
     for (caller, call, told) in [
-        (3, "host $c create", "hosted"),
-        (4, "host $c create", "already"),
-        (5, "offer $j join", "kept"),
-        (6, "ask $j", "event"),
+        (3, "host create", "hosted"),
+        (4, "host create", "already"),
+        (5, "offer join", "kept"),
+        (6, "ask join", "event"),
     ] {
         assert_eq!(rt; tell(alloc, &mut shard, caller, call)?, told);
+        shard = Shard::reopen(alloc, shard.into_keeper(), place)?;
     }
-    let mut keeper = shard.into_keeper();
-    let rows = keeper.rows()?;
     let mut lines = String::new(alloc);
-    for row in &rows {
+    for row in &shard.into_keeper().rows()? {
         lines.push_str(format!(in alloc;
             "{} {}\n",
             row.event.kind(),
@@ -98,8 +99,41 @@ fn rows_of_what_is_kept(rt: HostRuntime) -> Result<(), Fail> {
         )?.as_str())?;
     }
     assert_eq!(rt; lines.as_str(), "m.room.create 3\nm.room.member 5\n");
-    let again = Shard::reopen(alloc, keeper, Place::new(0, 1));
-    assert_eq!(rt; again.err(), Some(CallError::Storage));
+    Ok(())
+}
+
+// What becomes of a shard at a place over the rows of these events.
+fn reopen_over(alloc: Global, names: &[&str], place: Place) -> Result<bool, CallError> {
+    let mut keeper = MemoryKeeper::new(alloc);
+    for name in names {
+        let event = offered(alloc, name)?.pdu;
+        let room = event.room_id().clone()?;
+        let caller = Caller::new(0);
+        let row = ShardRow {
+            room,
+            event,
+            caller,
+        };
+        keeper.append(&row).map_err(refused)?;
+    }
+    let shard = Shard::reopen(alloc, keeper, place)?;
+    Ok(shard.is_empty())
+}
+
+// An event that is refused behind others, a first one that makes no room, and one of a room of another place.
+#[test]
+fn rows_that_no_shard_has(rt: HostRuntime) -> Result<(), Fail> {
+    let alloc = rt.alloc();
+    let own = Place::new(0, 2);
+    let other = Place::new(1, 2);
+    for (names, place, told) in [
+        (&["create", "join"], own, Ok(false)),
+        (&["create", "create"], own, Err(CallError::Storage)),
+        (&["join", "create"], own, Err(CallError::Storage)),
+        (&["create", "join"], other, Err(CallError::Storage)),
+    ] {
+        assert_eq!(rt; reopen_over(alloc, names, place), told);
+    }
     Ok(())
 }
 
@@ -157,11 +191,11 @@ fn refused_from_the_first_failure(rt: HostRuntime) -> Result<(), Fail> {
     };
     let mut shard = Shard::reopen(alloc, keeper, Place::new(0, 1))?;
     for (call, wanted) in [
-        ("host $c create", None),
-        ("ask $c", None),
-        ("offer $j join", Some(CallError::Storage)),
-        ("host $c create", Some(CallError::Storage)),
-        ("ask $c", Some(CallError::Storage)),
+        ("host create", None),
+        ("ask create", None),
+        ("offer join", Some(CallError::Storage)),
+        ("host create", Some(CallError::Storage)),
+        ("ask create", Some(CallError::Storage)),
     ] {
         assert_eq!(rt; tell(alloc, &mut shard, 0, call).err(), wanted, "at {call}");
     }
@@ -204,14 +238,8 @@ impl Keeper for UnreadableKeeper {
 }
 
 #[test]
-fn no_shard_over_a_row_or_an_unreadable_table(rt: HostRuntime) -> Result<(), Fail> {
-    let alloc = rt.alloc();
-    let place = Place::new(0, 1);
-    let mut shard = shard_at(alloc, place)?;
-    assert_eq!(rt; tell(alloc, &mut shard, 0, "host $c create")?, "hosted");
-    let again = Shard::reopen(alloc, shard.into_keeper(), place);
-    assert_eq!(rt; again.err(), Some(CallError::Storage));
-    let unreadable = Shard::reopen(alloc, UnreadableKeeper, place);
+fn no_shard_over_an_unreadable_table(rt: HostRuntime) -> Result<(), Fail> {
+    let unreadable = Shard::reopen(rt.alloc(), UnreadableKeeper, Place::new(0, 1));
     assert_eq!(rt; unreadable.err(), Some(CallError::Storage));
     Ok(())
 }
