@@ -1,6 +1,6 @@
 -- A shard's rooms and its journal, after a call.
 use Rattle.std.proofs.Common.{◌≡◌, ℕ, ◌<◌, true, false, cond, IsTrue, List, [], ◌∷◌, ◌++◌, length, set, map, Option, Some, None, refl, sym, ◌∙◌, ap, subst, arith, length-append, append-nil, ◌⊎◌, inl, inr}
-use Rattle.std.specs.Prelude.{All, IsTrue, bytes_eq, option_to_list}
+use Rattle.std.specs.Prelude.{All, IsTrue, bytes_eq, find, option_to_list}
 use Rattle.std.specs.BTreeMap.{BTreeMap}
 use Rattle.std.specs.Map.{lookup}
 use Rattle.std.specs.Cmp.Lexicographic.{slice_cmp}
@@ -30,7 +30,7 @@ use Rattle.mx_shard.specs.declared.offering.NewRow.{NewRow}
 use Rattle.mx_shard.specs.declared.offering.Sending.{Sending}
 use Rattle.mx_shard.specs.declared.journal_places.JournalPlace.{JournalPlace}
 use Rattle.mx_shard.proofs.JournalLaws.{record-after, record-after-other}
-use Rattle.mx_shard.proofs.LegalLaws.{legal-after, legal-start}
+use Rattle.mx_shard.proofs.LegalLaws.{legal-after}
 use Rattle.mx_shard.proofs.HolderLemmas.{holding_set}
 use Rattle.mx_shard.proofs.Places.{IsFound}
 use Rattle.mx_shard.proofs.RoomLemmas.{text-eq, room_found, rows_found, id_found, rows_push, rows_set, numbers_push, numbers_set, numbers_same, no_number, moved_back}
@@ -89,6 +89,93 @@ journal-grows before after grows (p ∷ ps) within =
 all-grows : (before after : List RoomView) → Grows before after → (places : List JournalPlace) → All (IsWithin before) places → All (IsWithin after) places
 all-grows before after grows places within = λ k d l. grows.within _ (within k d l)
 
+-- ---- one entry more
+
+-- the rooms and the journal have this entry more
+pub record IsPushed (before after : List RoomView) (numbers : BTreeMap (List ℕ) ℕ) (places places' : List JournalPlace) (e : Entry) : Type 0 where
+  pub indexed : IsIndexed after numbers places'
+  pub journal : journal_of after places' ≡ journal_of before places ++ e ∷ []
+
+-- in the journal with this entry the room has kept this event behind the others
+abbrev pub RecordsMore : List RoomView → List JournalPlace → ℕ → List ℕ → Kept → Type 0
+RecordsMore rooms places caller id k =
+    (q : List ℕ) → record_of (journal_of rooms places ++ entry_of id caller k ∷ []) q ≡ cond (bytes_eq id q) (rows_in rooms id ++ k ∷ []) (rows_in rooms q)
+
+module _ (before after : List RoomView) (numbers numbers' : BTreeMap (List ℕ) ℕ) (places : List JournalPlace) (p : JournalPlace) (caller : ℕ) (id : List ℕ) (k : Kept)
+    (indexed : IsIndexed before numbers places) (grows : Grows before after) (numbered : IsNumbered numbers' after) (ready : All IsReady after) (here : IsWithin after p)
+    (entry : entry_in (room_at after p.room) p ≡ entry_of id caller k) (rows : (q : List ℕ) → rows_in after q ≡ cond (bytes_eq id q) (rows_in before id ++ k ∷ []) (rows_in before q))
+    (records : RecordsMore before places caller id k) where
+  journal-pushed : journal_of after (places ++ p ∷ []) ≡ journal_of before places ++ entry_of id caller k ∷ []
+  journal-pushed =
+      map_push (λ (q : JournalPlace). entry_in (room_at after q.room) q) places p
+      ∙ ap (λ es. es ++ entry_in (room_at after p.room) p ∷ []) (journal-grows before after grows places indexed.within)
+      ∙ ap (λ e. journal_of before places ++ e ∷ []) entry
+
+  index-pushed : IsPushed before after numbers' places (places ++ p ∷ []) (entry_of id caller k)
+  index-pushed = record {
+    indexed = record {
+      numbered = numbered;
+      ready = ready;
+      within = All-push (IsWithin after) places p (all-grows before after grows places indexed.within) here;
+      records = λ q. ap (λ js. record_of js q) journal-pushed ∙ records q ∙ sym (rows q);
+    };
+    journal = journal-pushed;
+  }
+
+-- a room with this event alone
+abbrev pub room_with : List ℕ → Kept → RoomView
+room_with id k = record { id = id; kept = k ∷ []; prepared = None }
+
+-- a room more
+module _ (before : List RoomView) (numbers : BTreeMap (List ℕ) ℕ) (places : List JournalPlace) (caller : ℕ) (id : List ℕ) (k : Kept) (indexed : IsIndexed before numbers places)
+    (missing : find (λ room. bytes_eq room.id id) before ≡ None) where
+  abbrev first_place : JournalPlace
+  first_place = record { room = length before; row = 0; caller = caller }
+
+  at-end : room_at (before ++ room_with id k ∷ []) (length before) ≡ room_with id k
+  at-end = get_or_push before (room_with id k) no_room (length before) refl
+
+  pub room-pushed : (numbers' : BTreeMap (List ℕ) ℕ) → IsMoved numbers numbers' id (Some (length before)) → RecordsMore before places caller id k →
+      IsPushed before (before ++ room_with id k ∷ []) numbers' places (places ++ first_place ∷ []) (entry_of id caller k)
+  room-pushed numbers' moved records =
+      index-pushed before (before ++ room_with id k ∷ []) numbers numbers' places first_place caller id k indexed (grows-push before (room_with id k))
+      (numbers_push numbers numbers' before (room_with id k) id indexed.numbered missing refl moved)
+      (All-push IsReady before (room_with id k) indexed.ready (record { hosted = omega arith; free = refl }))
+      (record {
+        room = omega (arith, length-append before (room_with id k ∷ []));
+        row = subst (λ (r : RoomView). 0 < length r.kept) (sym at-end) (omega arith);
+      })
+      (ap (λ r. entry_in r first_place) at-end)
+      (λ q. rows_push before (room_with id k) id missing refl q ∙ ap (λ ks. cond (bytes_eq id q) (ks ++ k ∷ []) (rows_in before q)) (sym (ap rows_at missing)))
+      records
+
+-- a room with one event more
+module _ (before : List RoomView) (numbers : BTreeMap (List ℕ) ℕ) (places : List JournalPlace) (caller : ℕ) (id : List ℕ) (n : ℕ) (k : Kept) (indexed : IsIndexed before numbers places)
+    (found : IsFound (λ room. bytes_eq room.id id) before n) where
+  abbrev last_place : JournalPlace
+  last_place = record { room = n; row = length (room_at before n).kept; caller = caller }
+
+  abbrev grown : RoomView
+  grown = with_kept (room_at before n) (Some k)
+
+  at-number : room_at (set before n grown) n ≡ grown
+  at-number = get_or-set_same before n grown no_room found.within
+
+  pub event-pushed : RecordsMore before places caller id k → IsPushed before (set before n grown) numbers places (places ++ last_place ∷ []) (entry_of id caller k)
+  event-pushed records =
+      index-pushed before (set before n grown) numbers numbers places last_place caller id k indexed (grows-set before n grown (k ∷ []) found.within refl refl)
+      (numbers_set numbers before n grown id indexed.numbered found (id_found before id n found))
+      (All-set IsReady before n grown (record { hosted = omega (arith, length-append (room_at before n).kept (k ∷ [])); free = refl }) indexed.ready)
+      (record {
+        room = let l : n < length before = found.within in omega (arith, length-set before n grown);
+        row = subst (λ (r : RoomView). length (room_at before n).kept < length r.kept) (sym at-number) (omega (arith, length-append (room_at before n).kept (k ∷ [])));
+      })
+      (ap (λ r. entry_in r last_place) at-number
+      ∙ ap (λ i. entry_of i caller (kept_at ((room_at before n).kept ++ k ∷ []) (length (room_at before n).kept))) (id_found before id n found)
+      ∙ ap (entry_of id caller) (get_or_push (room_at before n).kept k (kept_at [] 0) (length (room_at before n).kept) refl))
+      (λ q. rows_set before n grown id found (id_found before id n found) q ∙ ap (λ ks. cond (bytes_eq id q) (ks ++ k ∷ []) (rows_in before q)) (sym (rows_found before id n found)))
+      records
+
 -- ---- a call that adds an event
 
 -- the rooms and the journal are as after the call
@@ -96,37 +183,23 @@ pub record IsAfter (before after : List RoomView) (numbers : BTreeMap (List ℕ)
   pub indexed : IsIndexed after numbers places'
   pub journal : journal_of after places' ≡ journal_after (journal_of before places) caller id call
 
-module _ (before after : List RoomView) (numbers numbers' : BTreeMap (List ℕ) ℕ) (places : List JournalPlace) (p : JournalPlace) (caller : ℕ) (id : List ℕ) (call : Call) (k : Kept)
-    (indexed : IsIndexed before numbers places) (grows : Grows before after) (numbered : IsNumbered numbers' after) (ready : All IsReady after) (here : IsWithin after p)
-    (entry : entry_in (room_at after p.room) p ≡ entry_of id caller k) (adds : added (rows_in before id) call ≡ k ∷ [])
-    (rows : (q : List ℕ) → rows_in after q ≡ cond (bytes_eq id q) (rows_in before id ++ k ∷ []) (rows_in before q)) where
-  journal-is : journal_of after (places ++ p ∷ []) ≡ journal_after (journal_of before places) caller id call
-  journal-is =
-      map_push (λ (q : JournalPlace). entry_in (room_at after q.room) q) places p
-      ∙ ap (λ es. es ++ entry_in (room_at after p.room) p ∷ []) (journal-grows before after grows places indexed.within)
-      ∙ ap (λ e. journal_of before places ++ e ∷ []) entry
-      ∙ ap (λ ks. journal_of before places ++ map (entry_of id caller) ks) (sym adds ∙ ap (λ rows. added rows call) (sym (indexed.records id)))
+module _ (before : List RoomView) (numbers : BTreeMap (List ℕ) ℕ) (places : List JournalPlace) (caller : ℕ) (id : List ℕ) (call : Call) (k : Kept)
+    (indexed : IsIndexed before numbers places) (adds : added (rows_in before id) call ≡ k ∷ []) where
+  journal-called : journal_of before places ++ entry_of id caller k ∷ [] ≡ journal_after (journal_of before places) caller id call
+  journal-called = ap (λ ks. journal_of before places ++ map (entry_of id caller) ks) (sym adds ∙ ap (λ rows. added rows call) (sym (indexed.records id)))
 
-  record-is : (q : List ℕ) → record_of (journal_after (journal_of before places) caller id call) q ≡ rows_in after q
-  record-is q =
-      elim (bytes_eq id q) as (λ b. bytes_eq id q ≡ b → record_of (journal_after (journal_of before places) caller id call) q ≡ cond b (rows_in before id ++ k ∷ []) (rows_in before q)) [
+  records-called : RecordsMore before places caller id k
+  records-called q =
+      ap (λ js. record_of js q) journal-called
+      ∙ elim (bytes_eq id q) as (λ b. bytes_eq id q ≡ b → record_of (journal_after (journal_of before places) caller id call) q ≡ cond b (rows_in before id ++ k ∷ []) (rows_in before q)) [
         | true ↦ λ h.
             subst (λ i. record_of (journal_after (journal_of before places) caller id call) i ≡ rows_in before id ++ k ∷ []) (text-eq id q h)
             (record-after (journal_of before places) caller id call ∙ ap (λ rows. rows ++ added rows call) (indexed.records id) ∙ ap (λ ks. rows_in before id ++ ks) adds)
         | false ↦ λ h. record-after-other (journal_of before places) caller id q call h ∙ indexed.records q
       ] refl
-      ∙ sym (rows q)
 
-  index-more : IsAfter before after numbers' places (places ++ p ∷ []) caller id call
-  index-more = record {
-    indexed = record {
-      numbered = numbered;
-      ready = ready;
-      within = All-push (IsWithin after) places p (all-grows before after grows places indexed.within) here;
-      records = λ q. ap (λ js. record_of js q) journal-is ∙ record-is q;
-    };
-    journal = journal-is;
-  }
+  called : (after : List RoomView) (numbers' : BTreeMap (List ℕ) ℕ) (places' : List JournalPlace) → IsPushed before after numbers' places places' (entry_of id caller k) → IsAfter before after numbers' places places' caller id call
+  called after numbers' places' pushed = record { indexed = pushed.indexed; journal = pushed.journal ∙ journal-called }
 
 -- ---- what is stored, and where
 
@@ -158,20 +231,17 @@ no_record : (id : List ℕ) → record_of [] id ≡ []
 unfolding record_of
 no_record id = refl
 
-pub sound_start : (place : PlaceView) (rooms : List RoomView) (numbers : BTreeMap (List ℕ) ℕ) (places : List JournalPlace) → rooms ≡ [] → numbers.entries ≡ [] → places ≡ [] → IsSound place rooms numbers places
-sound_start place rooms numbers places no_rooms no_numbers no_places =
-    subst (λ rs. IsSound place rs numbers places) (sym no_rooms) (subst (IsSound place [] numbers) (sym no_places) (record {
-      indexed = record {
-        numbered = record {
-          each = λ id. ap (lookup (λ q. is_eq (slice_cmp nat_cmp id q))) no_numbers;
-          once = λ n d l. absurd (omega arith);
-        };
-        ready = λ k d l. absurd (omega arith);
-        within = λ k d l. absurd (omega arith);
-        records = no_record;
+-- no rooms
+pub indexed_start : (rooms : List RoomView) (numbers : BTreeMap (List ℕ) ℕ) (places : List JournalPlace) → rooms ≡ [] → numbers.entries ≡ [] → places ≡ [] → IsIndexed rooms numbers places
+indexed_start rooms numbers places no_rooms no_numbers no_places =
+    subst (λ rs. IsIndexed rs numbers places) (sym no_rooms) (subst (IsIndexed [] numbers) (sym no_places) (record {
+      numbered = record {
+        each = λ id. ap (lookup (λ q. is_eq (slice_cmp nat_cmp id q))) no_numbers;
+        once = λ n d l. absurd (omega arith);
       };
-      here = λ k d l. absurd (omega arith);
-      legal = legal-start;
+      ready = λ k d l. absurd (omega arith);
+      within = λ k d l. absurd (omega arith);
+      records = no_record;
     }))
 
 module _ (place : PlaceView) (before after : List RoomView) (numbers numbers' : BTreeMap (List ℕ) ℕ) (places places' : List JournalPlace) (sound : IsSound place before numbers places) where
@@ -230,33 +300,20 @@ module _ (before : List RoomView) (numbers : BTreeMap (List ℕ) ℕ) (places : 
   pub host_stored : (rows : Option (List ShardRow)) → rows ≡ Some (stored (journal_of before places)) → with_row rows new.row ≡ Some (stored (journal_after (journal_of before places) caller (room_of o.pdu) (to_host o)))
   host_stored rows is = stored_after rows (journal_of before places) caller (room_of o.pdu) (to_host o) (first o) new.row is (ap (λ rows. added rows (to_host o)) (indexed.records (room_of o.pdu)) ∙ host_adds) made.row
 
-  abbrev room : RoomView
-  room = record { id = room_of o.pdu; kept = begun o.id o.pdu; prepared = None }
-
-  abbrev first_place : JournalPlace
-  first_place = record { room = length before; row = 0; caller = caller }
-
-  at-end : room_at (before ++ room ∷ []) (length before) ≡ room
-  at-end = get_or_push before room no_room (length before) refl
+  abbrev place_at_end : JournalPlace
+  place_at_end = record { room = length before; row = 0; caller = caller }
 
   host_one : (numbers' : BTreeMap (List ℕ) ℕ) → IsMoved numbers numbers' (room_of o.pdu) (Some (length before)) →
-      IsAfter before (before ++ room ∷ []) numbers' places (places ++ first_place ∷ []) caller (room_of o.pdu) (to_host o)
+      IsAfter before (before ++ room_with (room_of o.pdu) (first o) ∷ []) numbers' places (places ++ place_at_end ∷ []) caller (room_of o.pdu) (to_host o)
   host_one numbers' moved =
-      index-more before (before ++ room ∷ []) numbers numbers' places first_place caller (room_of o.pdu) (to_host o) (first o) indexed (grows-push before room)
-      (numbers_push numbers numbers' before room (room_of o.pdu) indexed.numbered made.missing refl moved)
-      (All-push IsReady before room indexed.ready (record { hosted = omega arith; free = refl }))
-      (record {
-        room = omega (arith, length-append before (room ∷ []));
-        row = subst (λ (r : RoomView). 0 < length r.kept) (sym at-end) (omega arith);
-      })
-      (ap (λ r. entry_in r first_place) at-end) host_adds
-      (λ q. rows_push before room (room_of o.pdu) made.missing refl q ∙ ap (λ ks. cond (bytes_eq (room_of o.pdu) q) (ks ++ first o ∷ []) (rows_in before q)) (sym no_rows))
+      called before numbers places caller (room_of o.pdu) (to_host o) (first o) indexed host_adds (before ++ room_with (room_of o.pdu) (first o) ∷ []) numbers' (places ++ place_at_end ∷ [])
+      (room-pushed before numbers places caller (room_of o.pdu) (first o) indexed made.missing numbers' moved (records-called before numbers places caller (room_of o.pdu) (to_host o) (first o) indexed host_adds))
 
   pub host_after : (after : List RoomView) (numbers' : BTreeMap (List ℕ) ℕ) (key : List ℕ) (places' : List JournalPlace) → after ≡ before ++ new.room ∷ [] → key ≡ room_of o.pdu →
-      IsMoved numbers numbers' key (Some (length before)) → places' ≡ places ++ first_place ∷ [] → IsAfter before after numbers' places places' caller (room_of o.pdu) (to_host o)
+      IsMoved numbers numbers' key (Some (length before)) → places' ≡ places ++ place_at_end ∷ [] → IsAfter before after numbers' places places' caller (room_of o.pdu) (to_host o)
   host_after after numbers' key places' is named moved more =
       subst (λ rooms. IsAfter before rooms numbers' places places' caller (room_of o.pdu) (to_host o)) (sym (is ∙ ap (λ (r : RoomView). before ++ r ∷ []) made.room))
-      (subst (λ ps. IsAfter before (before ++ room ∷ []) numbers' places ps caller (room_of o.pdu) (to_host o)) (sym more)
+      (subst (λ ps. IsAfter before (before ++ room_with (room_of o.pdu) (first o) ∷ []) numbers' places ps caller (room_of o.pdu) (to_host o)) (sym more)
       (host_one numbers' (subst (λ i. IsMoved numbers numbers' i (Some (length before))) named moved)))
 
   -- the number was added and taken away again
@@ -320,48 +377,34 @@ module _ (before mid : List RoomView) (numbers : BTreeMap (List ℕ) ℕ) (place
       ∙ ap (λ x. set before new.number (with_prepared old x)) (sym is_ready.free)
       ∙ set-get_or before new.number no_room
 
-  abbrev grown : RoomView
-  grown = with_kept old (Some made.kept)
+  abbrev with_new : RoomView
+  with_new = with_kept old (Some made.kept)
 
-  abbrev last_place : JournalPlace
-  last_place = record { room = new.number; row = length old.kept; caller = caller }
+  abbrev place_behind : JournalPlace
+  place_behind = record { room = new.number; row = length old.kept; caller = caller }
 
-  at-number : room_at (set before new.number grown) new.number ≡ grown
-  at-number = get_or-set_same before new.number grown no_room found.within
-
-  offer_one : IsAfter before (set before new.number grown) numbers places (places ++ last_place ∷ []) caller (room_of o.pdu) (sent_call s origin o)
+  offer_one : IsAfter before (set before new.number with_new) numbers places (places ++ place_behind ∷ []) caller (room_of o.pdu) (sent_call s origin o)
   offer_one =
-      index-more before (set before new.number grown) numbers numbers places last_place caller (room_of o.pdu) (sent_call s origin o) made.kept indexed
-      (grows-set before new.number grown (made.kept ∷ []) found.within refl refl)
-      (numbers_set numbers before new.number grown (room_of o.pdu) indexed.numbered found (id_found before (room_of o.pdu) new.number found))
-      (All-set IsReady before new.number grown (record { hosted = omega (arith, length-append old.kept (made.kept ∷ [])); free = refl }) indexed.ready)
-      (record {
-        room = let l : new.number < length before = found.within in omega (arith, length-set before new.number grown);
-        row = subst (λ (r : RoomView). length old.kept < length r.kept) (sym at-number) (omega (arith, length-append old.kept (made.kept ∷ [])));
-      })
-      (ap (λ r. entry_in r last_place) at-number
-      ∙ ap (λ id. entry_of id caller (kept_at (old.kept ++ made.kept ∷ []) (length old.kept))) (id_found before (room_of o.pdu) new.number found)
-      ∙ ap (entry_of (room_of o.pdu) caller) (get_or_push old.kept made.kept (kept_at [] 0) (length old.kept) refl))
-      offer_adds
-      (λ q. rows_set before new.number grown (room_of o.pdu) found (id_found before (room_of o.pdu) new.number found) q ∙ ap (λ ks. cond (bytes_eq (room_of o.pdu) q) (ks ++ made.kept ∷ []) (rows_in before q)) (sym own_rows))
+      called before numbers places caller (room_of o.pdu) (sent_call s origin o) made.kept indexed offer_adds (set before new.number with_new) numbers (places ++ place_behind ∷ [])
+      (event-pushed before numbers places caller (room_of o.pdu) new.number made.kept indexed found (records-called before numbers places caller (room_of o.pdu) (sent_call s origin o) made.kept indexed offer_adds))
 
-  grown_rooms : (after : List RoomView) → after ≡ set mid new.number (with_kept (room_at mid new.number) (room_at mid new.number).prepared) → after ≡ set before new.number grown
+  grown_rooms : (after : List RoomView) → after ≡ set mid new.number (with_kept (room_at mid new.number) (room_at mid new.number).prepared) → after ≡ set before new.number with_new
   grown_rooms after is =
       is ∙ ap (λ (r : RoomView). set mid new.number (with_kept r r.prepared)) prepared_at
-      ∙ ap (λ (rs : List RoomView). set rs new.number grown) made.rooms
-      ∙ set-set before new.number (with_prepared old (Some made.kept)) grown
+      ∙ ap (λ (rs : List RoomView). set rs new.number with_new) made.rooms
+      ∙ set-set before new.number (with_prepared old (Some made.kept)) with_new
 
   -- the event is one of the room that may hold it
   pub offer_holding : (after : List RoomView) (holders holders' : BTreeMap (List ℕ) Holder) → after ≡ set mid new.number (with_kept (room_at mid new.number) (room_at mid new.number).prepared) →
       IsHolding holders before → IsHolderKept holders holders' → IsTrue (may_hold (holder_of holders' o.id) new.number) → IsHolding holders' after
   offer_holding after holders holders' is holding kept held =
-      holding_set holders holders' before after new.number grown made.kept holding kept found.within (grown_rooms after is) refl
+      holding_set holders holders' before after new.number with_new made.kept holding kept found.within (grown_rooms after is) refl
       (subst (λ i. IsTrue (may_hold (holder_of holders' i) new.number)) (sym (sent_id s old.kept origin o made.kept made.adds)) held)
 
   pub offer_after : (after : List RoomView) (places' : List JournalPlace) → after ≡ set mid new.number (with_kept (room_at mid new.number) (room_at mid new.number).prepared) →
       places' ≡ places ++ record { room = new.number; row = length (room_at mid new.number).kept; caller = caller } ∷ [] → IsAfter before after numbers places places' caller (room_of o.pdu) (sent_call s origin o)
   offer_after after places' is more =
-      let rooms : after ≡ set before new.number grown = grown_rooms after is in
-      let ps : places' ≡ places ++ last_place ∷ [] = more ∙ ap (λ (r : RoomView). places ++ (let p : JournalPlace = record { room = new.number; row = length r.kept; caller = caller } in p) ∷ []) prepared_at in
+      let rooms : after ≡ set before new.number with_new = grown_rooms after is in
+      let ps : places' ≡ places ++ place_behind ∷ [] = more ∙ ap (λ (r : RoomView). places ++ (let p : JournalPlace = record { room = new.number; row = length r.kept; caller = caller } in p) ∷ []) prepared_at in
       subst (λ rs. IsAfter before rs numbers places places' caller (room_of o.pdu) (sent_call s origin o)) (sym rooms)
-      (subst (λ qs. IsAfter before (set before new.number grown) numbers places qs caller (room_of o.pdu) (sent_call s origin o)) (sym ps) offer_one)
+      (subst (λ qs. IsAfter before (set before new.number with_new) numbers places qs caller (room_of o.pdu) (sent_call s origin o)) (sym ps) offer_one)

@@ -1,8 +1,8 @@
 -- A room's call changes that room's record as it changes the record of a server that hosts the room alone, and no other room's.
-use Rattle.std.proofs.Common.{◌≡◌, ℕ, Bool, true, false, cond, IsTrue, List, [], ◌∷◌, ◌++◌, Option, Some, None, refl, sym, ◌∙◌, ap, append-nil, map, length}
+use Rattle.std.proofs.Common.{◌≡◌, ℕ, Bool, true, false, cond, IsTrue, List, [], ◌∷◌, ◌++◌, Option, Some, None, refl, sym, ◌∙◌, ap, subst, append-nil, map, length}
 use Rattle.std.specs.Prelude.{bytes_eq, codes, nat_le, fold, if◌then◌else◌, not, option_to_list, All}
 use Rattle.std.proofs.lemmas.Bool.{false≢true}
-use Rattle.std.proofs.lemmas.List.{map-append}
+use Rattle.std.proofs.lemmas.List.{map-append, map_push}
 use Rattle.std.proofs.lemmas.List.Elements.{All-head, All-tail, filter-append}
 use Rattle.std.proofs.lemmas.List.Sums.{fold-append}
 use Rattle.std.proofs.lemmas.Slice.Eq.{bytes_eq-Decides}
@@ -128,6 +128,26 @@ record-push room caller (e ∷ es) call =
     ∙ fold-append received start (map of_entry es) (map arrival new)
     ∙ on_filled kept call (fold-filled (map of_entry es) start (filled _ []))
 
+-- the record with one entry more
+abbrev pub record_with : List Kept → Entry → List Kept
+record_with [] e = begun e.id e.event
+record_with (k ∷ ks) e = received (k ∷ ks) (of_entry e)
+
+filled-with : (kept : List Kept) (e : Entry) → IsFilled kept → received kept (of_entry e) ≡ record_with kept e
+filled-with (k ∷ ks) e h = refl
+filled-with [] e h = elim h [ ]
+
+pub record-with : (es : List Entry) (e : Entry) → record_by (es ++ e ∷ []) ≡ record_with (record_by es) e
+record-with [] e = refl
+record-with (x ∷ es) e =
+    ap (fold received (begun x.id x.event)) (map_push of_entry es e) ∙ fold-append received (begun x.id x.event) (map of_entry es) (of_entry e ∷ [])
+    ∙ filled-with (record_by (x ∷ es)) e (record-filled x es)
+
+-- only no entries make no record
+pub no-entries : (es : List Entry) → record_by es ≡ [] → es ≡ []
+no-entries [] e = refl
+no-entries (x ∷ es) e = elim (subst IsFilled e (record-filled x es)) [ ]
+
 -- ---- the entries of a room
 
 pub entries-append : (room : List ℕ) (xs ys : List Entry) → entries_of (xs ++ ys) room ≡ entries_of xs room ++ entries_of ys room
@@ -144,6 +164,14 @@ entries-other room other caller [] h = refl
 entries-other room other caller (k ∷ ks) h =
     ap (λ b. cond b (entry_of room caller k ∷ entries_of (map (entry_of room caller) ks) other) (entries_of (map (entry_of room caller) ks) other)) h
     ∙ entries-other room other caller ks h
+
+pub entries-own : (journal : List Entry) (e : Entry) → entries_of (journal ++ e ∷ []) e.room ≡ entries_of journal e.room ++ e ∷ []
+entries-own journal e =
+    entries-append e.room journal (e ∷ []) ∙ ap (λ b. entries_of journal e.room ++ cond b (e ∷ []) []) ((bytes_eq-Decides e.room e.room).1 refl)
+
+pub entries-others : (journal : List Entry) (e : Entry) (room : List ℕ) → bytes_eq e.room room ≡ false → entries_of (journal ++ e ∷ []) room ≡ entries_of journal room
+entries-others journal e room h =
+    entries-append room journal (e ∷ []) ∙ ap (λ b. entries_of journal room ++ cond b (e ∷ []) []) h ∙ append-nil (entries_of journal room)
 
 -- a room of another place has no entry among those of this one
 entries-elsewhere : (place : PlaceView) (room : List ℕ) (journal : List Entry) → is_at place room ≡ false → All (λ entry. IsTrue (is_at place entry.room)) journal → entries_of journal room ≡ []
@@ -173,6 +201,15 @@ record-after-other journal caller room other call h =
     ap record_by (entries-append other journal (map (entry_of room caller) (added (record_of journal room) call)))
     ∙ ap (λ es. record_by (entries_of journal other ++ es)) (entries-other room other caller (added (record_of journal room) call) h)
     ∙ ap record_by (append-nil (entries_of journal other))
+
+-- with one entry more
+pub record-own : (journal : List Entry) (e : Entry) → record_of (journal ++ e ∷ []) e.room ≡ record_with (record_of journal e.room) e
+unfolding record_of
+record-own journal e = ap record_by (entries-own journal e) ∙ record-with (entries_of journal e.room) e
+
+pub record-others : (journal : List Entry) (e : Entry) (room : List ℕ) → bytes_eq e.room room ≡ false → record_of (journal ++ e ∷ []) room ≡ record_of journal room
+unfolding record_of
+record-others journal e room h = ap record_by (entries-others journal e room h)
 
 -- of a room of another place
 pub record-elsewhere : (place : PlaceView) (journal : List Entry) (room : List ℕ) → All (λ entry. IsTrue (is_at place entry.room)) journal → is_at place room ≡ false → record_of journal room ≡ []

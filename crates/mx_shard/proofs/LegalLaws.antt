@@ -17,11 +17,11 @@ use Rattle.mx_graph.specs.Record.{Row, place_of}
 use Rattle.mx_receipt.specs.Receipt.{Kept, begun, received, judged, rows_of, kept_at, is_rejected, lacks_cited, verdict}
 use Rattle.mx_receipt.specs.declared.verdicts.Verdict.{Verdict}
 use Rattle.mx_access.specs.Acl.{acl_allows}
-use Rattle.mx_room.specs.Hosting.{host_error}
+use Rattle.mx_room.specs.Hosting.{host_error, reopen_error}
 use Rattle.mx_room.specs.Joins.{join_reply, row_by_join}
 use Rattle.mx_room.specs.Offer.{Offered, as_kept, new_outcome, allowed_outcome, offer_outcome, row_by}
 use Rattle.mx_room.specs.declared.hosting.NotARoom.{NotARoom}
-use Rattle.mx_room.specs.declared.hosting.NotARoom.TheVariants.{NotACreateEvent, CitesAuthEvents, Unsigned}
+use Rattle.mx_room.specs.declared.hosting.NotARoom.TheVariants.{NotACreateEvent, CitesAuthEvents, Unsigned, BadContentHash}
 use Rattle.mx_room.specs.declared.outcomes.Outcome.{Outcome}
 use Rattle.mx_room.specs.declared.outcomes.Outcome.TheVariants as outcome
 use Rattle.mx_room.specs.declared.outcomes.Refusal.TheVariants.{AccessList, SecondCreate, Signature, MissingEvents, RoomFull}
@@ -47,7 +47,7 @@ record-ids : (es : List Entry) → map (λ k. k.id) (record_by es) ≡ map (λ e
 record-ids [] = refl
 record-ids (e ∷ es) = fold-ids (map of_entry es) (begun e.id e.event) ∙ ap (λ zs. e.id ∷ zs) (entry-ids es)
 
-record-length : (es : List Entry) → length (record_by es) ≡ length es
+pub record-length : (es : List Entry) → length (record_by es) ≡ length es
 record-length es = sym (length-map (record_by es) (λ (k : Kept). k.id)) ∙ ap (λ (ids : List (List ℕ)). length ids) (record-ids es) ∙ length-map es (λ (e : Entry). e.id)
 
 zero-below : (n : ℕ) → nat_lt 0 (suc n) ≡ true
@@ -75,7 +75,7 @@ any-map : {A B : Type 0} (t : B → Bool) (f : A → B) (xs : List A) → list_a
 any-map t f [] = refl
 any-map t f (x ∷ xs) = ap (λ b. t (f x) || b) (any-map t f xs)
 
-known-is : (es : List Entry) (id : List ℕ) → is_some (place_of (rows_of (record_by es)) id) ≡ has_id es id
+pub known-is : (es : List Entry) (id : List ℕ) → is_some (place_of (rows_of (record_by es)) id) ≡ has_id es id
 known-is es id =
     position-any (λ (r : Row). bytes_eq r.id id) (rows_of (record_by es))
     ∙ any-map (λ (r : Row). bytes_eq r.id id) (λ (k : Kept). let r : Row = record { id = k.id; event = k.event; rejected = is_rejected k.verdict } in r) (record_by es)
@@ -144,7 +144,7 @@ joined : (a b c : Bool) → (a && (b && c)) ≡ (a && b && c)
 joined true b c = refl
 joined false b c = refl
 
-all_follow-push : (earlier es : List Entry) (e : Entry) → all_follow earlier (es ++ e ∷ []) ≡ (all_follow earlier es && may_follow (earlier ++ es) e)
+pub all_follow-push : (earlier es : List Entry) (e : Entry) → all_follow earlier (es ++ e ∷ []) ≡ (all_follow earlier es && may_follow (earlier ++ es) e)
 all_follow-push earlier [] e = last-true (may_follow earlier e) ∙ ap (λ js. may_follow js e) (sym (append-nil earlier))
 all_follow-push earlier (first ∷ es) e =
     ap (λ b. may_follow earlier first && b) (all_follow-push (earlier ++ first ∷ []) es e)
@@ -154,7 +154,7 @@ all_follow-push earlier (first ∷ es) e =
 room-for : (most n : ℕ) → nat_le most n ≡ false → nat_le (n + 1) most ≡ true
 room-for most n e = grind (arith, nat_tests)
 
-legal-push : (e : Entry) (es : List Entry) (new : Entry) → are_legal (e ∷ es) ≡ true → may_follow (e ∷ es) new ≡ true → nat_le most_rows (length (e ∷ es)) ≡ false → bytes_eq (room_of new.event) new.room ≡ true →
+pub legal-push : (e : Entry) (es : List Entry) (new : Entry) → are_legal (e ∷ es) ≡ true → may_follow (e ∷ es) new ≡ true → nat_le most_rows (length (e ∷ es)) ≡ false → bytes_eq (room_of new.event) new.room ≡ true →
     are_legal ((e ∷ es) ++ new ∷ []) ≡ true
 legal-push e es new legal follows few own =
     let a = and_parts (is_first e && all_follow (e ∷ []) es && nat_le (length (e ∷ es)) most_rows) (list_all (λ (f : Entry). bytes_eq (room_of f.event) f.room) (e ∷ es)) legal in
@@ -206,27 +206,24 @@ legal-filled room caller e es (k ∷ ks) (to_join origin o) h is at legal =
 legal-filled room caller e es (k ∷ ks) (to_offer origin o) h is at legal =
     legal-offer room caller e es origin o (offer_outcome (k ∷ ks) origin o) (ap (λ kept. offer_outcome kept origin o) is) (let own : room_of o.pdu ≡ room = cc in own) legal
 
--- the signature of what makes a room holds
-not_refused : {X : Type 0} (b : Bool) (r : X) (next : Option X) → refuse_if b r next ≡ None → (b ≡ false) × (next ≡ None)
+pub not_refused : {X : Type 0} (b : Bool) (r : X) (next : Option X) → refuse_if b r next ≡ None → (b ≡ false) × (next ≡ None)
 not_refused true r next e = absurd (cc e)
 not_refused false r next e = (refl, e)
 
-not-false : (b : Bool) → not b ≡ false → b ≡ true
-not-false true e = refl
-not-false false e = absurd (false≢true (sym e))
-
-first-signed : (o : Offered) → host_error o ≡ None → host_error (record { pdu = o.pdu; id = o.id; signed = true }) ≡ None
-unfolding host_error
-first-signed o e =
-    let first = not_refused (not (has_kind (codes "m.room.create") o.pdu && is_text [] (state_key_of o.pdu))) NotACreateEvent _ e in
-    let second = not_refused _ CitesAuthEvents _ first.1 in
-    let third = not_refused (not o.signed) Unsigned _ second.1 in
-    ap (λ (signed : Bool). host_error (record { pdu = o.pdu; id = o.id; signed = signed })) (sym (not-false o.signed third.0)) ∙ e
+-- what makes a room makes it again
+first-kept : (o : Offered) → host_error o ≡ None → reopen_error o.pdu ≡ None
+unfolding host_error reopen_error
+first-kept o e =
+    let create = not_refused (not (has_kind (codes "m.room.create") o.pdu && is_text [] (state_key_of o.pdu))) NotACreateEvent _ e in
+    let alone = not_refused _ CitesAuthEvents _ create.1 in
+    let signed = not_refused (not o.signed) Unsigned _ alone.1 in
+    let whole = not_refused (not (hash_holds o.pdu)) BadContentHash _ signed.1 in
+    λ i. refuse_if (create.0 i) NotACreateEvent (refuse_if (alone.0 i) CitesAuthEvents (whole.1 i))
 
 legal-first : (room : List ℕ) (caller : ℕ) (o : Offered) (error : Option NotARoom) → host_error o ≡ error → room_of o.pdu ≡ room → are_legal (map (entry_of room caller) (first_rows o error)) ≡ true
 legal-first room caller o (Some error) is at = refl
 legal-first room caller o None is at =
-    let first = ap is_none (first-signed o is) in
+    let first = ap is_none (first-kept o is) in
     let own : bytes_eq (room_of o.pdu) room ≡ true = ap (λ r. bytes_eq r room) at ∙ text-self room in
     λ i. first i && true && true && (own i && true)
 

@@ -5,3 +5,4 @@ mod RoomLemmas
 mod HolderLemmas
 mod ChangeLemmas
 mod IndexLemmas
+mod ReopenLemmas

@@ -1,5 +1,5 @@
 // Shards that are opened with rows.
-ghost use Rattle.std.specs.Prelude.{◌≡◌, ◌++◌, ◌∷◌, [], ¬◌, None, Some, All, IfOk, OnOk, Err, IsTrue};
+ghost use Rattle.std.specs.Prelude.{◌≡◌, ◌++◌, ◌∷◌, [], None, Some, All, IfOk, OnOk, Err, IsTrue};
 ghost use Rattle.mx_keeper.specs.Places.{is_at};
 ghost use Rattle.mx_pdu.specs.Event.{room_of};
 ghost use Rattle.mx_redact.specs.Hashes.{event_id};

@@ -1,5 +1,5 @@
 // The rooms of a shard.
-ghost use Rattle.std.specs.Prelude.{◌≡◌, ¬◌, ◌≤◌, ◌↔◌, ◌⊎◌, [], Option, Some, None, List, true, false, IfOk, OnOk, OnErr, IsErrOf, IsTrue, All};
+ghost use Rattle.std.specs.Prelude.{◌≡◌, ◌≤◌, ◌↔◌, ◌⊎◌, [], Option, Some, None, List, true, false, IfOk, OnOk, OnErr, IsErrOf, IsTrue, All};
 ghost use Rattle.mx_keeper.specs.Keeping.{Rose};
 ghost use Rattle.mx_keeper.specs.Places.{is_at};
 ghost use Rattle.mx_keeper.specs.declared.rows.ShardRow.{ShardRow};

@@ -25,6 +25,9 @@ pub(crate) fn shards_over<K: Keeper<Row = ShardRow>>(
     for keeper in keepers {
         let place = Place::new(shards.len(), count);
         let shard = Shard::reopen(alloc, keeper, place)?;
+        if !shard.is_empty() {
+            return Err(CallError::Storage);
+        }
         shards.push(shard)?;
     }
     Ok(shards)

@@ -1,9 +1,11 @@
-use Rattle.std.proofs.Common.{◌≡◌, ◌+◌, ◌∙◌, ◌++◌, ◌∷◌, [], length, drop, Err, refl, sym, ap, subst, arith}
+use Rattle.std.proofs.Common.{◌≡◌, ◌+◌, ◌∙◌, ◌++◌, ◌∷◌, [], false, length, drop, Err, refl, sym, ap, subst, arith}
+use Rattle.std.proofs.lemmas.Bool.{false≢true}
 use Rattle.std.proofs.lemmas.List.{length_push}
+use Rattle.mx_book.specs.Journal.{stored, reopened, can_reopen}
 use Rattle.mx_world.proofs.MakingLemmas.{numbered-none, numbered-more, journals-more, placed-all, taken_first, taken_more}
 use Rattle.mx_world.specs.Storage.{IsUnfit}
 use Rattle.mx_world.proofs.RefusalLemmas.{is-storage}
-use Rattle.mx_world.proofs.UnfitLemmas.{unfit-keeper, unfit-book}
+use Rattle.mx_world.proofs.UnfitLemmas.{unfit-keeper, unfit-filled}
 use Rattle.mx_world.proofs.making.books_over.Goals as goal
 
 pub loop-keeper-init : goal.loop-keeper-init
@@ -50,7 +52,7 @@ returns-then-not-is_empty-clause-storage g c = λ is.
       length c.loop-keeper.books.items,
       taken.0,
       λ d. subst (IsUnfit g.L.Keeper.is_honest g.L.Keeper.is_open g.L.Keeper.rows g.L.Keeper.failed) (sym (taken.1 d))
-          (unfit-book g.L.Keeper.is_honest g.L.Keeper.is_open g.L.Keeper.rows g.L.Keeper.failed c.in-Some.keeper c.in_ok-book.book.keeper c.in_ok-book.book.journal c.is_empty.result
+          (unfit-filled g.L.Keeper.is_honest g.L.Keeper.is_open g.L.Keeper.rows g.L.Keeper.failed c.in-Some.keeper stored reopened c.in_ok-book.book.keeper c.in_ok-book.book.journal c.is_empty.result refl
           c.in_ok-book.ensures.honest c.in_ok-book.ensures.journal c.is_empty.ensures.1 c.if-not-is_empty.true),
     )
 
@@ -60,6 +62,6 @@ returns-in_err-book-clause-storage g c = λ is.
       length c.loop-keeper.books.items,
       taken.0,
       λ d. subst (IsUnfit g.L.Keeper.is_honest g.L.Keeper.is_open g.L.Keeper.rows g.L.Keeper.failed) (sym (taken.1 d))
-          (unfit-keeper g.L.Keeper.is_honest g.L.Keeper.is_open g.L.Keeper.rows g.L.Keeper.failed c.in-Some.keeper c.new-place.result
+          (unfit-keeper g.L.Keeper.is_honest g.L.Keeper.is_open g.L.Keeper.rows g.L.Keeper.failed c.in-Some.keeper (λ rows. can_reopen c.new-place.result rows ≡ false) (λ refused. false≢true (sym refused))
           (c.in_err-book.ensures.storage (ap (λ e. Err e) (is-storage c.from_residual.result c.in_err-book.field-0.0 c.from_residual.ensures.1 is)))),
     )

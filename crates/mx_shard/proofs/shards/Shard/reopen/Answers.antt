@@ -1,21 +1,33 @@
-use Rattle.std.proofs.Common.{◌≡◌, List, [], Some, ap, sym, ◌∙◌, arith}
-use Rattle.std.proofs.lemmas.Grind.{common_steps}
+use Rattle.std.proofs.Common.{◌≡◌, Some, List, sym, ap, ◌∙◌}
 use Rattle.mx_keeper.specs.declared.rows.ShardRow.{ShardRow}
-use Rattle.mx_shard.specs.Journal.{stored}
+use Rattle.mx_shard.specs.Journal.{stored, reopened}
 use Rattle.mx_shard.specs.Inside.{journal_of}
-use Rattle.mx_shard.proofs.HolderLemmas.{holding_start}
-use Rattle.mx_shard.proofs.IndexLemmas.{sound_start}
+use Rattle.mx_shard.proofs.ReopenLemmas.{stored-reopened, all-here}
 use Rattle.mx_shard.proofs.shards.Shard.reopen.Goals as goal
 
 pub invariant_of-result : goal.invariant_of-result
-invariant_of-result g c = (
-  sound_start c.args.place c.new.result.items c.new-in-Ok.result c.new-in-Ok-3.result.items c.new.ensures.items c.new-in-Ok.ensures.empty c.new-in-Ok-3.ensures.items,
-  λ taken honest.
-      let none : c.in-Ok.rows.items ≡ [] = grind (arith, common_steps) in
-      let open_now = c.in-Ok.ensures.open honest in (
-        open_now,
-        c.in-Ok.ensures.stay honest open_now ∙ c.in-Ok.ensures.ok honest ∙ ap (λ (rows : List ShardRow). Some rows) none
-            ∙ ap (λ ps. Some (stored (journal_of c.new.result.items ps))) (sym c.new-in-Ok-3.ensures.items),
+invariant_of-result g c =
+    let made = c.in_ok-made-in-Ok.ensures.made in
+    let is = c.in_ok-made-in-Ok.ensures.journal in (
+      record {
+        indexed = made.indexed;
+        here = all-here c.args.place c.in-Ok.rows.items _ is c.in_ok-made-in-Ok.ensures.here;
+        legal = made.legal;
+      },
+      λ _ honest. let open' = c.in-Ok.ensures.open honest in (
+        open',
+        c.in-Ok.ensures.stay honest open' ∙ c.in-Ok.ensures.ok honest ∙ ap (λ (rs : List ShardRow). Some rs) (sym (ap stored is ∙ stored-reopened c.in-Ok.rows.items)),
       ),
-  holding_start c.new-in-Ok-2.result c.new.result.items c.new.ensures.items,
+      made.holding,
+    )
+
+pub returns-in-Ok-clause-journal : goal.returns-in-Ok-clause-journal
+returns-in-Ok-clause-journal g c =
+    let is = c.in_ok-made-in-Ok.ensures.journal in
+    is ∙ ap reopened (sym (ap stored is ∙ stored-reopened c.in-Ok.rows.items))
+
+pub returns-in-Ok-clause-honest : goal.returns-in-Ok-clause-honest
+returns-in-Ok-clause-honest g c = λ honest. (
+  c.in-Ok.ensures.honest honest,
+  c.in-Ok.ensures.ok honest ∙ ap (λ (rs : List ShardRow). Some rs) (sym (ap stored c.in_ok-made-in-Ok.ensures.journal ∙ stored-reopened c.in-Ok.rows.items)),
 )

@@ -1,4 +1,4 @@
-use Rattle.std.proofs.Common.{◌≡◌, ◌⊎◌, ◌<◌, ℕ, List, [], ◌++◌, length, take, drop, set, Some, None, IsTrue, refl, sym, ap, subst, ◌∙◌}
+use Rattle.std.proofs.Common.{◌≡◌, ◌⊎◌, ◌<◌, List, ◌++◌, length, take, drop, set, Some, None, IsTrue, refl, sym, ap, subst, ◌∙◌}
 use Rattle.mx_keeper.specs.Keeping.{with_row}
 use Rattle.mx_keeper.specs.Places.{is_at}
 use Rattle.mx_pdu.specs.Event.{room_of}
