@@ -1,9 +1,8 @@
 -- Which rooms hold an event, after a change, and what they show of it.
-use Rattle.std.proofs.Common.{◌≡◌, ℕ, suc, ◌+◌, ◌<◌, ◌≤◌, ◌==◌, Bool, true, false, cond, ◌||◌, List, [], ◌∷◌, ◌++◌, length, get_or, set, Option, Some, None, refl, sym, ◌∙◌, ap, subst, arith, length-append, inl, inr}
-use Rattle.std.specs.Prelude.{IsTrue, All, bytes_eq, is_ok, is_some, option_map, option_and_then, Ok, Err}
-use Rattle.std.specs.List.{list_any, position_from}
+use Rattle.std.proofs.Common.{◌≡◌, ℕ, ◌+◌, ◌<◌, Bool, true, false, cond, ◌||◌, List, [], ◌∷◌, ◌++◌, length, get_or, set, Option, Some, None, refl, sym, ◌∙◌, ap, subst, arith, length-append, inl, inr}
+use Rattle.std.specs.Prelude.{IsTrue, All, bytes_eq, is_ok, option_map, option_and_then, Err}
+use Rattle.std.specs.List.{position_from}
 use Rattle.std.specs.BTreeMap.{BTreeMap}
-use Rattle.std.specs.Map.{lookup}
 use Rattle.std.specs.Cmp.Lexicographic.{slice_cmp}
 use Rattle.std.specs.Ordering.{is_eq, nat_cmp}
 use Rattle.std.proofs.lemmas.Bool.{false≢true, cases_eq, eq-eqb, ne_eqb}
@@ -13,7 +12,7 @@ use Rattle.std.proofs.lemmas.Iterator.Adapters.{position_from-zero}
 use Rattle.std.proofs.lemmas.Map.Text.{is_eq-slice_cmp}
 use Rattle.mx_graph.specs.Record.{Row, place_of}
 use Rattle.mx_access.specs.Access.{shown}
-use Rattle.mx_receipt.specs.Receipt.{Kept, begun, is_rejected, rows_of}
+use Rattle.mx_receipt.specs.Receipt.{Kept, is_rejected, rows_of}
 use Rattle.mx_room.specs.Queries.{Answered, room_named, given_or, event_shown, query_answer}
 use Rattle.mx_room.specs.RoomView.{RoomView}
 use Rattle.mx_room.specs.declared.queries.Query.{Query}
@@ -24,10 +23,10 @@ use Rattle.mx_room.specs.declared.queries.Denied.TheVariants.{NotFound}
 use Rattle.mx_shard.specs.LoneRoom.{to_ask}
 use Rattle.mx_shard.specs.Shown.{IsShown}
 use Rattle.mx_shard.specs.Holders.{holder_of, may_hold, holder_with, holder_without, IsHolderMoved, IsSameHolder, IsHolderKept, has_event, IsHolding, holder_asked}
-use Rattle.mx_shard.specs.Inside.{room_at, no_room, rows_in, with_kept, IsDistinct, IsReady}
+use Rattle.mx_shard.specs.Inside.{room_at, no_room, rows_in, IsDistinct, IsReady}
 use Rattle.mx_shard.specs.declared.answers.Answer.TheVariants.{ToAsked}
 use Rattle.mx_shard.specs.declared.holders.Holder.{Holder}
-use Rattle.mx_shard.specs.declared.holders.Holder.TheVariants.{Room, Several}
+use Rattle.mx_shard.specs.declared.holders.Holder.TheVariants.{Room}
 use Rattle.mx_shard.proofs.RoomLemmas.{text-eq, text-self, shown_none, shown_some}
 
 -- ---- who may hold an event

@@ -12,7 +12,7 @@ use Rattle.mx_keeper.specs.Keeping.{with_row}
 use Rattle.mx_keeper.specs.Places.{PlaceView, is_at}
 use Rattle.mx_keeper.specs.declared.rows.ShardRow.{ShardRow}
 use Rattle.mx_pdu.specs.Event.{room_of}
-use Rattle.mx_receipt.specs.Receipt.{Kept, begun, kept_at}
+use Rattle.mx_receipt.specs.Receipt.{Kept, kept_at}
 use Rattle.mx_receipt.specs.declared.verdicts.Verdict.TheVariants.{Accepted}
 use Rattle.mx_room.specs.Offer.{Offered}
 use Rattle.mx_room.specs.RoomView.{RoomView}

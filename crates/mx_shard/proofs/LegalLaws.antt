@@ -206,7 +206,7 @@ legal-filled room caller e es (k ∷ ks) (to_join origin o) h is at legal =
 legal-filled room caller e es (k ∷ ks) (to_offer origin o) h is at legal =
     legal-offer room caller e es origin o (offer_outcome (k ∷ ks) origin o) (ap (λ kept. offer_outcome kept origin o) is) (let own : room_of o.pdu ≡ room = cc in own) legal
 
-pub not_refused : {X : Type 0} (b : Bool) (r : X) (next : Option X) → refuse_if b r next ≡ None → (b ≡ false) × (next ≡ None)
+not_refused : {X : Type 0} (b : Bool) (r : X) (next : Option X) → refuse_if b r next ≡ None → (b ≡ false) × (next ≡ None)
 not_refused true r next e = absurd (cc e)
 not_refused false r next e = (refl, e)
 

@@ -1,13 +1,13 @@
 -- A shard's rooms and its journal, by the rows that were found.
-use Rattle.std.proofs.Common.{◌≡◌, ℕ, ◌+◌, ◌<◌, ◌≤◌, Bool, true, false, cond, IsTrue, List, [], ◌∷◌, ◌++◌, length, get_or, set, map, Option, Some, None, refl, sym, ◌∙◌, ap, subst, append_assoc, append-nil, arith, length-append}
-use Rattle.std.specs.Prelude.{All, bytes_eq, codes, nat_le, not, ◌&&◌, ◌||◌, is_some, is_none, find, Result, Ok, Err, IsErrOf, ◌↔◌}
+use Rattle.std.proofs.Common.{◌≡◌, ℕ, ◌+◌, ◌<◌, Bool, true, false, cond, IsTrue, List, [], ◌∷◌, ◌++◌, length, get_or, set, Option, Some, None, refl, sym, ◌∙◌, ap, subst, append_assoc, arith, length-append}
+use Rattle.std.specs.Prelude.{All, bytes_eq, codes, nat_le, not, ◌&&◌, ◌||◌, is_some, is_none, find, Result, Ok, Err}
 use Rattle.std.specs.Result.{IsErrAnd}
 use Rattle.std.specs.List.{list_any, list_all}
 use Rattle.std.specs.BTreeMap.{BTreeMap}
 use Rattle.std.proofs.lemmas.Bool.{false≢true, and_parts, and_from}
 use Rattle.std.proofs.lemmas.Bool.Decides.{nat_tests}
-use Rattle.std.proofs.lemmas.List.{map-append, length-map, get_or_default, get_or-set_same}
-use Rattle.std.proofs.lemmas.List.Elements.{All-map, All-push}
+use Rattle.std.proofs.lemmas.List.{map-append, length-map, get_or_default}
+use Rattle.std.proofs.lemmas.List.Elements.{All-map}
 use Rattle.std.proofs.lemmas.List.Folds.{list_all-append}
 use Rattle.std.proofs.Math.Seq.{get_or-append_seam}
 use Rattle.mx_ident.specs.Identifier.{refuse_if}
@@ -27,14 +27,14 @@ use Rattle.mx_room.specs.Hosting.{reopen_error}
 use Rattle.mx_room.specs.RoomView.{RoomView, IsHosted}
 use Rattle.mx_room.specs.declared.hosting.NotARoom.{NotARoom}
 use Rattle.mx_shard.specs.Journal.{Entry, entries_of, record_by, record_of, entry_of, stored, is_first, has_id, may_follow, all_follow, are_legal, IsLegal, entry_of_row, reopened, CanReopen}
-use Rattle.mx_shard.specs.Holders.{IsHolderKept, IsHolderMoved, IsHolding, holder_of, holder_with, may_hold}
-use Rattle.mx_shard.specs.Inside.{no_room, room_at, rows_at, rows_in, with_kept, IsNumbered, IsMoved, number_of, journal_of, IsIndexed, IsReopened}
+use Rattle.mx_shard.specs.Holders.{IsHolderKept, IsHolderMoved, holder_of, holder_with, may_hold}
+use Rattle.mx_shard.specs.Inside.{no_room, room_at, rows_at, rows_in, with_kept, IsMoved, number_of, journal_of, IsIndexed, IsReopened}
 use Rattle.mx_shard.specs.declared.holders.Holder.{Holder}
 use Rattle.mx_shard.specs.declared.journal_places.JournalPlace.{JournalPlace}
 use Rattle.mx_shard.proofs.Places.{IsFound}
-use Rattle.mx_shard.proofs.JournalLaws.{record_with, record-with, record-own, record-others, no-entries, entries-append, entries-own, entries-others}
+use Rattle.mx_shard.proofs.JournalLaws.{record_with, record-own, record-others, no-entries, entries-append, entries-own, entries-others}
 use Rattle.mx_shard.proofs.LegalLaws.{known-is, record-length, legal-push, all_follow-push, legal-start}
-use Rattle.mx_shard.proofs.RoomLemmas.{text-eq, text-self, room_found, room_missing, rows_found, id_found}
+use Rattle.mx_shard.proofs.RoomLemmas.{text-eq, text-self, room_found, room_missing, rows_found}
 use Rattle.mx_shard.proofs.HolderLemmas.{kept_with, now_held, holding_start, holding_push, holding_set}
 use Rattle.mx_shard.proofs.IndexLemmas.{indexed_start, IsPushed, RecordsMore, room_with, room-pushed, event-pushed}
 

@@ -1,7 +1,6 @@
-use Rattle.std.proofs.Common.{◌≡◌, Some, List, sym, ap, ◌∙◌}
+use Rattle.std.proofs.Common.{Some, List, sym, ap, ◌∙◌}
 use Rattle.mx_keeper.specs.declared.rows.ShardRow.{ShardRow}
 use Rattle.mx_shard.specs.Journal.{stored, reopened}
-use Rattle.mx_shard.specs.Inside.{journal_of}
 use Rattle.mx_shard.proofs.ReopenLemmas.{stored-reopened, all-here}
 use Rattle.mx_shard.proofs.shards.Shard.reopen.Goals as goal
 
