@@ -1,5 +1,5 @@
 -- Shards and books whose keepers have rows.
-use Rattle.std.proofs.Common.{◌≡◌, ◌⊎◌, ℕ, inl, inr, Bool, true, false, List, [], IsTrue, sym, ap, ◌∙◌, arith}
+use Rattle.std.proofs.Common.{◌≡◌, ◌⊎◌, ℕ, inl, inr, Bool, false, List, [], IsTrue, sym, ap, ◌∙◌, arith}
 use Rattle.std.specs.Prelude.{Option, Some, ◌≢◌}
 use Rattle.std.proofs.lemmas.Bool.{false≢true}
 use Rattle.mx_keeper.specs.Keeping.{Rose}
