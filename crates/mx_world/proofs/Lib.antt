@@ -13,3 +13,4 @@ pub mod NextEventLemmas
 pub mod TextLemmas
 pub mod StepRows
 mod UnfitLemmas
+pub mod ReopeningLemmas

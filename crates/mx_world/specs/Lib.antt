@@ -9,3 +9,4 @@ pub mod Parts
 pub mod Inside
 pub mod Storage
 pub mod Offers
+pub mod Reopening

@@ -8,6 +8,7 @@ mod callers;
 mod making;
 mod numbering;
 mod parts;
+mod reopening;
 mod rooms;
 mod runs;
 mod steps;

@@ -10,10 +10,12 @@ ghost use Rattle.mx_world.specs.Moves.{RecordsMove, StatusesMove, after_abandon}
 ghost use Rattle.mx_world.specs.Worlds.{shard_journals, book_journals, records_of, statuses_of, records_in, status_in, none_open, is_refused, AtTransaction, Stays, Moves, IsAfter};
 ghost use Rattle.mx_world.specs.Storage.{IsStorageFailure, ChangesOwn, OnlyAt, SomeUnfit};
 ghost use Rattle.mx_world.specs.Parts.{shard_places, book_places, ArePlaced, IsSoundShard, IsSoundBook};
+ghost use Rattle.mx_world.specs.Reopening.{AreOver, IsReopenedShard, IsReopenedBook, SomeCannotReopen, CanReopenShard, CanReopenBook};
 ghost use Rattle.mx_world.specs.Inside.{IsSound};
 
 use crate::making::{books_over, shards_over};
 use crate::parts::{books_are_sound, shards_are_sound};
+use crate::reopening::{reopened_books, reopened_shards};
 use crate::rooms::{ask_in, host_in, join_in};
 use crate::steps::{Step, StepReply};
 use crate::transacting::{abandon_in, close_in, next_in, open_in};
@@ -81,6 +83,37 @@ impl<K: Keeper<Row = ShardRow>, L: Keeper<Row = BookRow>> World<K, L> {
             books,
             going: BTreeMap::new(alloc),
         })
+    }
+
+    /// A server over keepers that may have rows: with a shard over each of the first ones, of the rooms that its rows make,
+    /// and a book over each of the others, of the replies that it has rows of. No transaction is open.
+    ///
+    /// Each event is judged again by those before it of its room; neither signatures, content hashes nor access control
+    /// lists are asked again. `Memory` where no memory is left. `Storage` where a keeper failed, where what it has does
+    /// not read as rows, or where no shard or book at its place has such rows, as with another number of keepers. A
+    /// refused call drops the keepers.
+    pub fn reopen(
+        alloc: Global,
+        shard_keepers: Vec<K>,
+        book_keepers: Vec<L>,
+    ) -> Result<World<K, L>, CallError>
+        requires some_shard { 1 ≤ length shard_keepers.items }
+        requires few_shards { length shard_keepers.items ≤ MOST_PLACES }
+        requires some_book { 1 ≤ length book_keepers.items }
+        requires few_books { length book_keepers.items ≤ MOST_PLACES }
+        ensures none_open { IfOk result (λ world. IsTrue (none_open world)) }
+        ensures shards { IfOk result (λ world. length world.shards ≡ length shard_keepers.items) }
+        ensures books { IfOk result (λ world. length world.books ≡ length book_keepers.items) }
+        // The entries of each are those of the rows of its keeper.
+        ensures shard_rows { IfOk result (λ world. AreOver (IsReopenedShard K.is_honest K.rows K.may_leave) shard_keepers.items world.shards) }
+        ensures book_rows { IfOk result (λ world. AreOver (IsReopenedBook L.is_honest L.rows L.may_leave) book_keepers.items world.books) }
+        // What became of one of the keepers tells why.
+        ensures storage { result ≡ Err CallError.Storage → SomeCannotReopen CanReopenShard K.is_honest K.is_open K.rows K.failed shard_keepers.items
+            ⊎ SomeCannotReopen CanReopenBook L.is_honest L.is_open L.rows L.failed book_keepers.items }
+    {
+        let shards = reopened_shards(alloc, shard_keepers)?;
+        let books = reopened_books(alloc, book_keepers)?;
+        Ok(World::from_parts(alloc, shards, books))
     }
 
     /// A server of these shards and books, with no transaction open. It takes no memory.

@@ -1,0 +1,71 @@
+use Rattle.std.proofs.Common.{◌≡◌, ◌+◌, ◌∙◌, ◌++◌, ◌∷◌, [], length, drop, Err, sym, ap, subst, arith}
+use Rattle.std.proofs.lemmas.List.{length_push}
+use Rattle.mx_world.proofs.MakingLemmas.{numbered-none, numbered-more, placed-all, taken_first, taken_more}
+use Rattle.mx_world.proofs.ReopeningLemmas.{over-none, over-more, over-all, all-ended, book-closed}
+use Rattle.mx_world.specs.Reopening.{IsReopenedBook, CannotReopen, CanReopenBook}
+use Rattle.mx_world.proofs.RefusalLemmas.{is-storage}
+use Rattle.mx_keeper.specs.Places.{PlaceView}
+use Rattle.mx_world.proofs.reopening.reopened_books.Goals as goal
+
+pub loop-keeper-init : goal.loop-keeper-init
+loop-keeper-init g c =
+    let none : length c.new-books.result.items ≡ 0 = ap length c.new-books.ensures.items in
+    record {
+      each = numbered-none c.new-books.result.items (λ view. view.place) c.len-count.result none;
+      over = over-none (IsReopenedBook g.L.Keeper.is_honest g.L.Keeper.rows g.L.Keeper.may_leave) c.args.keepers.items c.new-books.result.items none;
+      long = omega (arith, c.into_iter-keeper-iterator.ensures.into_iter_gives.1, c.len-count.ensures);
+      left = c.into_iter-keeper-iterator.ensures.into_iter_gives.0 ∙ ap (λ k. drop k c.args.keepers.items) (sym none);
+      all = c.len-count.ensures ∙ c.args.keepers.ok.0;
+    }
+
+pub new-place-requires-clause-within : goal.new-place-requires-clause-within
+new-place-requires-clause-within g c = omega (arith, c.in-Some.ensures.steps.1, c.loop-keeper.invariant.long, c.len.ensures, c.loop-keeper.books.ok.0)
+
+pub loop-keeper-preserved : goal.loop-keeper-preserved
+loop-keeper-preserved g c =
+    let more : c.push.new.self.items ≡ c.loop-keeper.books.items ++ c.in_ok-book.book ∷ [] = c.in_ok-push.ensures.items in
+    let number : c.len.result ≡ length c.loop-keeper.books.items = c.len.ensures ∙ c.loop-keeper.books.ok.0 in
+    let longer : length c.push.new.self.items ≡ length c.loop-keeper.books.items + 1 = ap length more ∙ length_push _ _ in
+    let taken = taken_first c.args.keepers.items _ (length c.loop-keeper.books.items) c.in-Some.keeper (sym c.loop-keeper.invariant.left ∙ c.in-Some.ensures.steps.0) in
+    record {
+      each = rw more (numbered-more c.loop-keeper.books.items (λ view. view.place) c.len-count.result c.in_ok-book.book c.loop-keeper.invariant.each
+          (c.in_ok-book.ensures.place ∙ (λ i. record { number = (c.new-place.ensures.number ∙ number) i; count = c.new-place.ensures.count i })));
+      over = rw more (over-more (IsReopenedBook g.L.Keeper.is_honest g.L.Keeper.rows g.L.Keeper.may_leave) c.args.keepers.items c.loop-keeper.books.items c.in-Some.keeper c.in_ok-book.book c.loop-keeper.invariant.over taken.1
+          (record { journal = c.in_ok-book.ensures.journal; taken = c.in_ok-book.ensures.taken; rows = c.in_ok-book.ensures.honest; crash = c.in_ok-book.ensures.crash }));
+      long = omega (arith, longer, c.in-Some.ensures.steps.1, c.loop-keeper.invariant.long);
+      left = taken_more c.args.keepers.items _ (length c.loop-keeper.books.items) (length c.push.new.self.items) c.in-Some.keeper longer (sym c.loop-keeper.invariant.left ∙ c.in-Some.ensures.steps.0);
+      all = c.loop-keeper.invariant.all;
+    }
+
+pub returns-clause-count : goal.returns-clause-count
+returns-clause-count g c = omega (arith, c.in-None.ensures.steps.0, c.loop-keeper.invariant.long, c.loop-keeper.invariant.all)
+
+pub returns-clause-placed : goal.returns-clause-placed
+returns-clause-placed g c =
+    let all : length c.loop-keeper.books.items ≡ c.len-count.result = omega (arith, c.in-None.ensures.steps.0, c.loop-keeper.invariant.long) in
+    placed-all c.loop-keeper.books.items (λ view. view.place) c.len-count.result all (omega (arith, c.loop-keeper.invariant.all)) (omega (arith, c.loop-keeper.invariant.all)) c.loop-keeper.invariant.each
+
+pub returns-clause-reopened : goal.returns-clause-reopened
+returns-clause-reopened g c =
+    let all : length c.loop-keeper.books.items ≡ length c.args.keepers.items = omega (arith, c.in-None.ensures.steps.0, c.loop-keeper.invariant.long, c.loop-keeper.invariant.all) in
+    over-all (IsReopenedBook g.L.Keeper.is_honest g.L.Keeper.rows g.L.Keeper.may_leave) c.args.keepers.items c.loop-keeper.books.items all c.loop-keeper.invariant.over
+
+pub returns-clause-ended : goal.returns-clause-ended
+returns-clause-ended g c =
+    let all : length c.loop-keeper.books.items ≡ length c.args.keepers.items = omega (arith, c.in-None.ensures.steps.0, c.loop-keeper.invariant.long, c.loop-keeper.invariant.all) in
+    all-ended g.L.Keeper.is_honest g.L.Keeper.rows g.L.Keeper.may_leave c.args.keepers.items c.loop-keeper.books.items c.requires.some all
+    (over-all (IsReopenedBook g.L.Keeper.is_honest g.L.Keeper.rows g.L.Keeper.may_leave) c.args.keepers.items c.loop-keeper.books.items all c.loop-keeper.invariant.over)
+
+pub returns-in_err-book-clause-storage : goal.returns-in_err-book-clause-storage
+returns-in_err-book-clause-storage g c = λ is.
+    let taken = taken_first c.args.keepers.items _ (length c.loop-keeper.books.items) c.in-Some.keeper (sym c.loop-keeper.invariant.left ∙ c.in-Some.ensures.steps.0) in
+    let number : c.len.result ≡ length c.loop-keeper.books.items = c.len.ensures ∙ c.loop-keeper.books.ok.0 in
+    let place : c.new-place.result ≡ record { number = length c.loop-keeper.books.items; count = length c.args.keepers.items }
+    = (λ i. record { number = (c.new-place.ensures.number ∙ number) i; count = (c.new-place.ensures.count ∙ c.loop-keeper.invariant.all) i }) in (
+      length c.loop-keeper.books.items,
+      taken.0,
+      λ d. subst (CannotReopen (CanReopenBook (record { number = length c.loop-keeper.books.items; count = length c.args.keepers.items })) g.L.Keeper.is_honest g.L.Keeper.is_open g.L.Keeper.rows g.L.Keeper.failed) (sym (taken.1 d))
+          (subst (λ (p : PlaceView). CannotReopen (CanReopenBook p) g.L.Keeper.is_honest g.L.Keeper.is_open g.L.Keeper.rows g.L.Keeper.failed c.in-Some.keeper) place
+          (book-closed g.L.Keeper.is_honest g.L.Keeper.is_open g.L.Keeper.rows g.L.Keeper.failed c.in-Some.keeper c.new-place.result
+          (c.in_err-book.ensures.storage (ap (λ e. Err e) (is-storage c.from_residual.result c.in_err-book.field-0.0 c.from_residual.ensures.1 is))))),
+    )

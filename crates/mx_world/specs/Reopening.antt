@@ -1,0 +1,51 @@
+-- Servers that are opened again over the rows that are left (our own).
+use Rattle.std.specs.Prelude.{ℕ, ◌≡◌, ◌<◌, ◌⊎◌, false, List, length, get_or, Option, Some, IsTrue}
+use Rattle.mx_keeper.specs.Keeping.{Rose}
+use Rattle.mx_keeper.specs.Places.{PlaceView}
+use Rattle.mx_keeper.specs.declared.rows.ShardRow.{ShardRow}
+use Rattle.mx_keeper.specs.declared.rows.BookRow.{BookRow}
+use Rattle.mx_shard.specs.Journal.{CanReopen, stored as stored_events, reopened as reopened_events}
+use Rattle.mx_shard.specs.View.{ShardView}
+use Rattle.mx_book.specs.Journal.{can_reopen, stored as stored_replies, reopened as reopened_replies}
+use Rattle.mx_book.specs.View.{BookView}
+
+-- ---- what is opened, by what its keeper tells
+
+-- the shard has the entries of its rows, and these are the rows that its keeper had
+pub record IsReopenedShard {K : Type 0} (honest : K → Type 0) (read : K → Option (List ShardRow)) (may_leave : K → Option (List ShardRow) → Type 0) (keeper : K) (shard : ShardView K) : Type 0 where
+  pub journal : shard.journal ≡ reopened_events (stored_events shard.journal)
+  pub taken : shard.is_refused ≡ false
+  pub rows : honest shard.keeper → honest keeper × (read keeper ≡ Some (stored_events shard.journal))
+  pub crash : honest shard.keeper → (left : Option (List ShardRow)) → may_leave shard.keeper left → may_leave keeper left
+
+-- the book has the entries of its rows, and these are the rows that its keeper had
+pub record IsReopenedBook {L : Type 0} (honest : L → Type 0) (read : L → Option (List BookRow)) (may_leave : L → Option (List BookRow) → Type 0) (keeper : L) (book : BookView L) : Type 0 where
+  pub journal : book.journal ≡ reopened_replies (stored_replies book.journal)
+  pub taken : book.is_refused ≡ false
+  pub rows : honest book.keeper → honest keeper × (read keeper ≡ Some (stored_replies book.journal))
+  pub crash : honest book.keeper → (left : Option (List BookRow)) → may_leave book.keeper left → may_leave keeper left
+
+-- each is, over the keeper with its number
+abbrev pub AreOver : {K V : Type 0} → (K → V → Type 0) → List K → List V → Type 0
+AreOver {K = K} {V = V} is keepers views = (n : ℕ) (k : K) (v : V) → n < length keepers → is (get_or keepers n k) (get_or views n v)
+
+-- ---- what is refused
+
+-- why nothing can be opened over a keeper, by what became of it: it failed, or what it has are no rows or not these
+abbrev pub CannotReopen : {K Row : Type 0} → (List Row → Type 0) → (K → Type 0) → (K → Type 0) → (K → Option (List Row)) → (K → ℕ) → K → Type 0
+CannotReopen {K = K} {Row = Row} can honest open_ read failed keeper =
+    (after : K) × (honest after → honest keeper)
+    × (Rose (failed keeper) (failed after) ⊎ (honest after → open_ keeper → (rows : List Row) → read keeper ≡ Some rows → ¬ (can rows)))
+
+-- over some keeper of these nothing can be opened at the place with its number
+abbrev pub SomeCannotReopen : {K Row : Type 0} → (PlaceView → List Row → Type 0) → (K → Type 0) → (K → Type 0) → (K → Option (List Row)) → (K → ℕ) → List K → Type 0
+SomeCannotReopen {K = K} can honest open_ read failed keepers =
+    (n : ℕ) × (n < length keepers) × ((d : K) → CannotReopen (can (record { number = n; count = length keepers })) honest open_ read failed (get_or keepers n d))
+
+-- a book at this place can have these rows
+abbrev pub CanReopenBook : PlaceView → List BookRow → Type 0
+CanReopenBook place rows = IsTrue (can_reopen place rows)
+
+-- a shard at this place can have these rows
+abbrev pub CanReopenShard : PlaceView → List ShardRow → Type 0
+CanReopenShard place rows = CanReopen place rows
