@@ -1,0 +1,318 @@
+// Callers of an engine in threads of their own, for the tests.
+ghost use Rattle.std.specs.Prelude.{◌≡◌, ◌+◌, ◌<◌, ◌≤◌, ℕ, All, IfOk, length, get_or, map};
+ghost use Rattle.mx_engine.specs.Seats.{IsSeatOf, seat_number, seats_made};
+
+use crate::room_events::{RoomEvents, event, events, key_of, message, refused};
+use mx_book::{Book, TransactionKey};
+use mx_engine::{Engine, Gate, Seat, TransactionReply};
+use mx_keeper::{BookRow, Keeper, MemoryKeeper, ShardRow, Storable};
+use mx_pdu::{Pdu, PresenceVerifier};
+use mx_shard::Shard;
+use mx_world::World;
+use std::alloc::{AllocError, Global};
+use std::sync::atomic::{AtomicBool, Ordering};
+use std::sync::{Arc, Wait};
+use std::thread::Threads;
+use std::{mem, thread};
+
+pub type Rooms = MemoryKeeper<ShardRow>;
+
+pub type Replies = MemoryKeeper<BookRow>;
+
+pub type SharedEngine = Engine<Rooms, Replies, PresenceVerifier, MeetingGate>;
+
+pub type OneThread = World<Rooms, Replies>;
+
+// How long a caller is held: so many turns of the other threads.
+const MOST_TURNS: u32 = 100_000;
+
+// ---- the gate
+
+// Two callers that meet in the engine, where they are asked to: the first one is held inside the first shard until the
+// second one is answered, and the second one sends nothing before the first one is held. Whether one waited for too long.
+#[derive(Drop)]
+pub struct Meeting {
+    is_asked: AtomicBool,
+    is_held: AtomicBool,
+    is_answered: AtomicBool,
+    is_given_up: AtomicBool,
+}
+
+impl Meeting {
+    pub fn new() -> Meeting {
+        Meeting {
+            is_asked: AtomicBool::new(false),
+            is_held: AtomicBool::new(false),
+            is_answered: AtomicBool::new(false),
+            is_given_up: AtomicBool::new(false),
+        }
+    }
+
+    // From now on they are to meet.
+    pub fn ask(&self) {
+        self.is_asked.store(true, Ordering::SeqCst);
+    }
+
+    pub fn is_given_up(&self) -> bool {
+        self.is_given_up.load(Ordering::SeqCst)
+    }
+
+    // The first caller is inside the first shard.
+    fn hold(&self) {
+        if self.is_asked.load(Ordering::SeqCst) {
+            self.is_held.store(true, Ordering::SeqCst);
+            self.wait_for(&self.is_answered);
+        }
+    }
+
+    // The caller with this number is about to send.
+    fn before(&self, number: usize) {
+        if number != 0 && self.is_asked.load(Ordering::SeqCst) {
+            self.wait_for(&self.is_held);
+        }
+    }
+
+    // The caller with this number is answered.
+    fn after(&self, number: usize) {
+        if number != 0 {
+            self.is_answered.store(true, Ordering::SeqCst);
+        }
+    }
+
+    // Waits until it is so, or for too long.
+    fn wait_for(&self, is_so: &AtomicBool) {
+        for _ in 0..MOST_TURNS {
+            if is_so.load(Ordering::SeqCst) {
+                return;
+            }
+            thread::yield_now();
+        }
+        self.is_given_up.store(true, Ordering::SeqCst);
+    }
+}
+
+// A gate that holds who is inside the first shard.
+#[derive(Drop)]
+pub struct MeetingGate {
+    pub meeting: Arc<Meeting>,
+}
+
+impl Gate for MeetingGate {
+    fn inside<R: Wait>(&self, _rt: &R, shard: usize) {
+        if shard == 0 {
+            self.meeting.hold();
+        }
+    }
+}
+
+// ---- callers
+
+// A seat, and the transaction that is sent through it.
+#[derive(Drop)]
+pub struct Caller {
+    pub seat: Seat<Rooms, Replies>,
+    pub key: TransactionKey,
+    pub events: Vec<Pdu>,
+    pub reply: Option<TransactionReply>,
+}
+
+fn keepers<R: Storable>(alloc: Global) -> Result<Vec<MemoryKeeper<R>>, AllocError>
+    ensures { IfOk result (λ keepers. length keepers.items ≡ 2) }
+{
+    let mut keepers = Vec::with_capacity(alloc, 2)?;
+    keepers.push(MemoryKeeper::new(alloc))?;
+    keepers.push(MemoryKeeper::new(alloc))?;
+    Ok(keepers)
+}
+
+// An engine of two shards that host nothing, and its seats.
+pub fn opened<R: Wait>(
+    rt: &R,
+    alloc: Global,
+    gate: MeetingGate,
+    seats: u32,
+) -> Result<(SharedEngine, Vec<Seat<Rooms, Replies>>), AllocError>
+    requires some { 1 ≤ seats }
+    requires few { seats ≤ 64 }
+    ensures mine { IfOk result (λ made. All (IsSeatOf made.0) made.1.items) }
+    ensures count { IfOk result (λ made. seats_made made.0 ≡ seats) }
+    ensures length { IfOk result (λ made. length made.1.items ≡ seats) }
+    ensures numbers { IfOk result (λ made. (n : ℕ) (d : _) → n < seats → seat_number (get_or made.1.items n d) ≡ n + 1) }
+{
+    let world = World::new(alloc, keepers(alloc)?, keepers(alloc)?).map_err(refused)?;
+    Engine::open(rt, alloc, world, PresenceVerifier, gate, seats)
+}
+
+// Hosts a room through a seat, with the events of its beginning.
+pub fn host_room<R: Wait>(
+    rt: &R,
+    alloc: Global,
+    engine: &SharedEngine,
+    seat: &mut Seat<Rooms, Replies>,
+    room: &RoomEvents,
+) -> Result<(), AllocError>
+    requires { IsSeatOf engine.now seat.old }
+    ensures mine { IsSeatOf engine.now seat.new }
+    ensures number { seat_number seat.new ≡ seat_number seat.old }
+{
+    let create = event(alloc, room.create)?;
+    let others = events(alloc, &room.others)?;
+    let key = key_of(alloc, room.room)?;
+    engine.host(rt, alloc, seat, create).map_err(refused)?;
+    engine
+        .transaction(rt, alloc, seat, &key, others)
+        .map_err(refused)?;
+    Ok(())
+}
+
+// Sends a caller's transaction.
+pub fn send<R: Wait>(rt: &R, alloc: Global, engine: &SharedEngine, caller: &mut Caller)
+    requires { IsSeatOf engine.now caller.old.seat }
+    ensures mine { IsSeatOf engine.now caller.new.seat }
+    ensures number { seat_number caller.new.seat ≡ seat_number caller.old.seat }
+{
+    let events = mem::replace(&mut caller.events, Vec::new(alloc));
+    let replied = engine.transaction(rt, alloc, &mut caller.seat, &caller.key, events);
+    caller.reply = replied.ok();
+}
+
+// Sends each caller's transaction in a thread of its own.
+pub fn send_in_threads<R: Threads + Wait + Sync>(
+    rt: &R,
+    alloc: Global,
+    engine: &SharedEngine,
+    callers: &mut [Caller],
+    meeting: &Meeting,
+)
+    requires { All (λ c. IsSeatOf engine.now c.seat) callers.old }
+    ensures count { length callers.new ≡ length callers.old }
+    ensures mine { All (λ c. IsSeatOf engine.now c.seat) callers.new }
+    ensures numbers { (n : ℕ) (d : Caller) → n < length callers.old → seat_number (get_or callers.new n d).seat ≡ seat_number (get_or callers.old n d).seat }
+{
+    thread::for_each_mut(
+        rt,
+        callers,
+        4,
+        &|index, caller|
+            requires { IsSeatOf engine.now caller.old.seat }
+            ensures { IsSeatOf engine.entry.now caller.new.seat × (seat_number caller.new.seat ≡ seat_number caller.old.seat) }
+        {
+            meeting.before(index);
+            send(rt, alloc, engine, caller);
+            meeting.after(index);
+        },
+    );
+}
+
+// What a caller is to send: so many messages to a room, in a transaction with this number.
+#[derive(Drop)]
+pub struct Plan {
+    pub room: RoomEvents,
+    pub txn: &'static str,
+    pub messages: u32,
+}
+
+fn messages(alloc: Global, plan: &Plan) -> Result<Vec<Pdu>, AllocError> {
+    let mut all = Vec::new(alloc);
+    for number in 0..plan.messages {
+        let body = format!(in alloc; "{} {number}", plan.txn)?;
+        all.push(message(alloc, &plan.room, &body)?)?;
+    }
+    Ok(all)
+}
+
+// A caller at the seat, with what it is to send.
+fn caller_of(alloc: Global, seat: Seat<Rooms, Replies>, plan: &Plan) -> Result<Caller, AllocError>
+    ensures { IfOk result (λ caller. caller.seat ≡ seat) }
+{
+    let key = key_of(alloc, plan.txn)?;
+    let events = messages(alloc, plan)?;
+    Ok(Caller {
+        seat,
+        key,
+        events,
+        reply: None,
+    })
+}
+
+// A caller at each seat, with what it is to send.
+pub fn callers_of(
+    alloc: Global,
+    seats: Vec<Seat<Rooms, Replies>>,
+    plans: &[Plan],
+) -> Result<Vec<Caller>, AllocError>
+    ensures { IfOk result (λ callers. map (λ c. c.seat) callers.items ≡ seats.items) }
+{
+    let mut callers = Vec::new(alloc);
+    for (number, seat) in seats.into_iter().enumerate() {
+        let plan = plans.get(number).ok_or(AllocError)?;
+        callers.push(caller_of(alloc, seat, plan)?)?;
+    }
+    Ok(callers)
+}
+
+fn seat_of(caller: Caller) -> Seat<Rooms, Replies>
+    ensures { result ≡ caller.seat }
+{
+    caller.seat
+}
+
+// The seats of the callers.
+fn seats_of(alloc: Global, callers: Vec<Caller>) -> Result<Vec<Seat<Rooms, Replies>>, AllocError>
+    ensures { IfOk result (λ seats. seats.items ≡ map (λ c. c.seat) callers.items) }
+{
+    let mut seats = Vec::new(alloc);
+    for caller in callers {
+        seats.push(seat_of(caller))?;
+    }
+    Ok(seats)
+}
+
+// The server on one thread, once all callers have come back.
+pub fn closed<R: Wait>(
+    rt: &R,
+    alloc: Global,
+    engine: SharedEngine,
+    callers: Vec<Caller>,
+) -> Result<OneThread, AllocError>
+    requires mine { All (λ c. IsSeatOf engine c.seat) callers.items }
+    requires some { 1 ≤ length callers.items }
+    requires all { seats_made engine ≡ length callers.items }
+    requires numbers { (n : ℕ) (d : Caller) → n < length callers.items → seat_number (get_or callers.items n d).seat ≡ n + 1 }
+{
+    let seats = seats_of(alloc, callers)?;
+    Ok(engine.close(rt, alloc, seats))
+}
+
+// The rows of each shard and of each book of a server.
+pub fn kept(
+    alloc: Global,
+    world: OneThread,
+) -> Result<(Vec<Vec<ShardRow>>, Vec<Vec<BookRow>>), AllocError> {
+    let (shards, books) = world.into_parts();
+    Ok((kept_by_shards(alloc, shards)?, kept_by_books(alloc, books)?))
+}
+
+fn kept_by_shards(
+    alloc: Global,
+    shards: Vec<Shard<Rooms>>,
+) -> Result<Vec<Vec<ShardRow>>, AllocError> {
+    let mut kept = Vec::new(alloc);
+    for shard in shards {
+        let mut keeper = shard.into_keeper();
+        kept.push(keeper.rows().map_err(refused)?)?;
+    }
+    Ok(kept)
+}
+
+fn kept_by_books(
+    alloc: Global,
+    books: Vec<Book<Replies>>,
+) -> Result<Vec<Vec<BookRow>>, AllocError> {
+    let mut kept = Vec::new(alloc);
+    for book in books {
+        let mut keeper = book.into_keeper();
+        kept.push(keeper.rows().map_err(refused)?)?;
+    }
+    Ok(kept)
+}
