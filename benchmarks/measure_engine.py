@@ -1,0 +1,117 @@
+#!/usr/bin/env python3
+"""Measures an engine by 1, 2 and 4 seats, each in a thread of its own, beside a world on one thread, and prints tables.
+
+    measure_engine.py [--program PATH] [--events 100000] [--shards 4] [--runs 5] [--cases world,engine 1,engine 2,engine 4]
+                      [--instructions COUNT] [--log FILE]
+
+The program is built from the text engine_speed.txt, which says how. Its input are messages of four rooms of 50 members,
+one room a shard where there are four, fifty to a transaction, the rooms in turn. With several seats each has rooms of its
+own. The runs of the cases take turns. A run's seconds are those of the calls alone, and beside them stands the share of
+the processors' time that other machines took meanwhile (steal). With `--instructions` the calls of so many messages are
+also counted under callgrind (of valgrind), less a run without them. `--log` keeps the input in this file."""
+
+import argparse
+import json
+import re
+import statistics
+import subprocess
+import sys
+import tempfile
+from pathlib import Path
+
+HERE = Path(__file__).resolve().parent
+PROGRAM = HERE.parent / "crates/engine_speed/out/engine_speed"
+ROOMS = 4
+
+
+def room_lines(number, events):
+    """The create event of a room, and its transactions, one a line."""
+    words = ["--room", f"!r{number}:s0.example", "--events", str(events // ROOMS), "--seed", str(number + 1)]
+    made = subprocess.run([sys.executable, HERE / "make_log.py", *words], stdout=subprocess.PIPE, check=True)
+    lines = [json.loads(line) for line in made.stdout.splitlines()]
+    found = [line.get("event", line.get("pdus")) for line in lines if line["step"] in ("host", "open")]
+    return [json.dumps(value, separators=(",", ":"), ensure_ascii=False) for value in found]
+
+
+def jobs(events):
+    rooms = [room_lines(number, events) for number in range(ROOMS)]
+    return "".join(line + "\n" for turn in zip(*rooms) for line in turn).encode()
+
+
+def processor_times():
+    return list(map(int, Path("/proc/stat").read_text().split("\n", 1)[0].split()[1:9]))
+
+
+def words_of(program, case, shards):
+    mode, _, seats = case.partition(" ")
+    return [str(program), mode, str(shards), seats or "1"]
+
+
+def seconds_and_steal(words, source):
+    """The seconds of the calls, the bytes of the replies, and the share of steal in per cent."""
+    source.seek(0)
+    before = processor_times()
+    ran = subprocess.run(words, stdin=source, stdout=subprocess.PIPE, check=True)
+    spent = [after - earlier for earlier, after in zip(before, processor_times())]
+    milliseconds, replied = ran.stdout.split()
+    return int(milliseconds) / 1000, int(replied), 100 * spent[7] / max(1, sum(spent))
+
+
+def instructions(words, source):
+    source.seek(0)
+    valgrind = ["valgrind", "--tool=callgrind", "--callgrind-out-file=/dev/null", *words]
+    ran = subprocess.run(valgrind, stdin=source, stdout=subprocess.DEVNULL, stderr=subprocess.PIPE, check=True)
+    return int(re.search(rb"refs:\s+([\d,]+)", ran.stderr)[1].replace(b",", b""))
+
+
+def print_seconds(options, cases, source):
+    found = {case: [] for case in cases}
+    for _ in range(options.runs):
+        for case in cases:
+            found[case].append(seconds_and_steal(words_of(options.program, case, options.shards), source))
+    if len({replied for runs in found.values() for _, replied, _ in runs}) != 1:
+        sys.exit("the cases do not answer alike")
+    print("| case | best | median | steal | all runs |")
+    print("|---|---|---|---|---|")
+    for case, runs in found.items():
+        seconds = [run[0] for run in runs]
+        steal = f"{statistics.median(run[2] for run in runs):.0f}%"
+        each = ", ".join(f"{run[0]:.2f} ({run[2]:.0f}%)" for run in runs)
+        print(f"| {case} | {min(seconds):.2f} | {statistics.median(seconds):.2f} | {steal} | {each} |", flush=True)
+
+
+def print_instructions(options, source):
+    start = instructions(words_of(options.program, "read", options.shards), source)
+    print(f"| case | instructions an event, of {options.instructions:,} |")
+    print("|---|---|")
+    for case in ("world", "engine 1"):
+        ran = instructions(words_of(options.program, case, options.shards), source)
+        print(f"| {case} | {(ran - start) // options.instructions:,} |", flush=True)
+
+
+def main():
+    parser = argparse.ArgumentParser(description=__doc__, formatter_class=argparse.RawDescriptionHelpFormatter)
+    parser.add_argument("--program", type=Path, default=PROGRAM)
+    parser.add_argument("--events", type=int, default=100000)
+    parser.add_argument("--shards", type=int, default=4)
+    parser.add_argument("--runs", type=int, default=5)
+    parser.add_argument("--cases", default="world,engine 1,engine 2,engine 4")
+    parser.add_argument("--instructions", type=int, default=0)
+    parser.add_argument("--log", type=Path)
+    options = parser.parse_args()
+    with tempfile.TemporaryFile() as source:
+        source.write(jobs(options.events))
+        if options.log:
+            source.seek(0)
+            options.log.write_bytes(source.read())
+        if options.runs:
+            print_seconds(options, options.cases.split(","), source)
+    if options.instructions:
+        with tempfile.TemporaryFile() as source:
+            source.write(jobs(options.instructions))
+            print()
+            print_instructions(options, source)
+
+
+if __name__ == "__main__":
+    main()
