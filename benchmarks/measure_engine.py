@@ -6,12 +6,14 @@
 
 The program is built from the text engine_speed.txt, which says how. Its input are messages of four rooms of 50 members,
 one room a shard where there are four, fifty to a transaction, the rooms in turn. With several seats each has rooms of its
-own. The runs of the cases take turns. A run's seconds are those of the calls alone, and beside them stands the share of
-the processors' time that other machines took meanwhile (steal). With `--instructions` the calls of so many messages are
+own. The runs of the cases take turns. A run's seconds are those of the calls alone, by the program's clock. Its processor
+seconds are those of the whole run, less the median run without calls. Beside them stand the shares of all processors' time
+that other programs took meanwhile, and other machines (steal). With `--instructions` the calls of so many messages are
 also counted under callgrind (of valgrind), less a run without them. `--log` keeps the input in this file."""
 
 import argparse
 import json
+import os
 import re
 import statistics
 import subprocess
@@ -22,6 +24,8 @@ from pathlib import Path
 HERE = Path(__file__).resolve().parent
 PROGRAM = HERE.parent / "crates/engine_speed/out/engine_speed"
 ROOMS = 4
+# Places in the line of all processors of /proc/stat.
+IDLE, WAITING, STEAL = 3, 4, 7
 
 
 def room_lines(number, events):
@@ -47,14 +51,27 @@ def words_of(program, case, shards):
     return [str(program), mode, str(shards), seats or "1"]
 
 
-def seconds_and_steal(words, source):
-    """The seconds of the calls, the bytes of the replies, and the share of steal in per cent."""
-    source.seek(0)
-    before = processor_times()
-    ran = subprocess.run(words, stdin=source, stdout=subprocess.PIPE, check=True)
-    spent = [after - earlier for earlier, after in zip(before, processor_times())]
-    milliseconds, replied = ran.stdout.split()
-    return int(milliseconds) / 1000, int(replied), 100 * spent[7] / max(1, sum(spent))
+class Run:
+    """One run: the seconds of the calls, and the bytes of the replies; for the whole run the processor seconds, and the
+    shares in per cent that other programs and other machines had of the processors' time."""
+
+    def __init__(self, words, source):
+        source.seek(0)
+        before = processor_times()
+        ran = subprocess.Popen(words, stdin=source, stdout=subprocess.PIPE)
+        answer = ran.stdout.read()
+        _, status, usage = os.wait4(ran.pid, 0)
+        ran.returncode = os.waitstatus_to_exitcode(status)
+        spent = [after - earlier for earlier, after in zip(before, processor_times())]
+        if ran.returncode:
+            sys.exit(f"the program ended with status {ran.returncode}")
+        milliseconds, self.replied = map(int, answer.split())
+        self.seconds = milliseconds / 1000
+        self.processor = usage.ru_utime + usage.ru_stime
+        busy = (sum(spent) - spent[IDLE] - spent[WAITING] - spent[STEAL]) / os.sysconf("SC_CLK_TCK")
+        every = sum(spent) / os.sysconf("SC_CLK_TCK")
+        self.others = 100 * max(0, busy - self.processor) / every
+        self.steal = 100 * spent[STEAL] / sum(spent)
 
 
 def instructions(words, source):
@@ -64,20 +81,25 @@ def instructions(words, source):
     return int(re.search(rb"refs:\s+([\d,]+)", ran.stderr)[1].replace(b",", b""))
 
 
+def median(runs, name):
+    return statistics.median(getattr(run, name) for run in runs)
+
+
 def print_seconds(options, cases, source):
-    found = {case: [] for case in cases}
+    found = {case: [] for case in ["read", *cases]}
     for _ in range(options.runs):
-        for case in cases:
-            found[case].append(seconds_and_steal(words_of(options.program, case, options.shards), source))
-    if len({replied for runs in found.values() for _, replied, _ in runs}) != 1:
+        for case, runs in found.items():
+            runs.append(Run(words_of(options.program, case, options.shards), source))
+    start = median(found.pop("read"), "processor")
+    if len({run.replied for runs in found.values() for run in runs}) != 1:
         sys.exit("the cases do not answer alike")
-    print("| case | best | median | steal | all runs |")
-    print("|---|---|---|---|---|")
+    print("| case | best | median | processor seconds | other programs | steal |")
+    print("|---|---|---|---|---|---|")
     for case, runs in found.items():
-        seconds = [run[0] for run in runs]
-        steal = f"{statistics.median(run[2] for run in runs):.0f}%"
-        each = ", ".join(f"{run[0]:.2f} ({run[2]:.0f}%)" for run in runs)
-        print(f"| {case} | {min(seconds):.2f} | {statistics.median(seconds):.2f} | {steal} | {each} |", flush=True)
+        best = min(run.seconds for run in runs)
+        shares = f"{median(runs, 'others'):.0f}% | {median(runs, 'steal'):.0f}%"
+        processor = median(runs, "processor") - start
+        print(f"| {case} | {best:.2f} | {median(runs, 'seconds'):.2f} | {processor:.2f} | {shares} |", flush=True)
 
 
 def print_instructions(options, source):
