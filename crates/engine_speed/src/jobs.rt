@@ -1,4 +1,6 @@
 // What is called: one line of the input each.
+ghost use Rattle.std.specs.Prelude.{◌≤◌};
+
 use crate::failures::Failure;
 use mx_book::TransactionKey;
 use mx_ident::ServerName;

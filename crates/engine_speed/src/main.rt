@@ -3,6 +3,8 @@
 //! the bytes of all replies.
 #![tactic(auto)]
 
+ghost use Rattle.std.specs.Prelude.{◌≤◌, IfOk};
+
 mod engine_calls;
 mod failures;
 mod jobs;
