@@ -1,7 +1,7 @@
 -- Seats and engines may cross threads wherever their keepers may.
 use denote.RattleType.{RattleType}
 use denote.Param.Send.{IsSend, IsSync, param_send, sendable}
-use denote.Param.SendFields.{declared_send, declared_sync}
+use denote.Param.SendFields.{declared_send, declared_sync, variants_send}
 use Rattle.std.proofs.Crossing.{crosses, Vec-send, Vec-sync}
 use Rattle.std.proofs.MapsCrossing as maps
 use Rattle.mx_keeper.specs.declared.keepers.Keeper.{Ghosts}
@@ -25,6 +25,17 @@ use Rattle.mx_engine.specs.contracts.docked.DockedShardJournaled.TheImpl as shar
 use Rattle.mx_engine.specs.contracts.docked.DockedBookJournaled.TheImpl as book_journaled
 use Rattle.mx_engine.specs.contracts.seats.Seat as seat
 use Rattle.mx_engine.specs.contracts.engines.Engine as engine
+use Rattle.mx_keeper.specs.contracts.memory.MemoryKeeperKeeper.TheImpl as keeping
+use Rattle.mx_keeper.specs.contracts.rows.ShardRowStorable.TheImpl as shard_storable
+use Rattle.mx_keeper.specs.contracts.rows.BookRowStorable.TheImpl as book_storable
+use Rattle.mx_pdu.specs.contracts.verifiers.PresenceVerifier as presence_verifier
+use Rattle.mx_pdu.proofs.verifiers.PresenceVerifier.TheSendSync as presence
+use Rattle.mx_book.proofs.transaction_keys.TransactionKey.TheSendSync as key
+use Rattle.mx_engine.specs.contracts.gates.OpenGate as open_gate
+use Rattle.mx_engine.proofs.gates.OpenGate.TheSendSync as gate
+use Rattle.engine_speed.specs.contracts.jobs.Job as job
+use Rattle.engine_speed.specs.contracts.engine_calls.Worker as worker
+use Rattle.engine_speed.specs.contracts.engine_calls.Server as server
 use Rattle.mx_engine.proofs.Sending.{pdu_send, shard_send, book_send}
 
 pub docked_shard_send : (K : RattleType) (g : Ghosts K.Denot ShardRow) → IsSend K → IsSend (docked_shard.the_row K g)
@@ -34,16 +45,25 @@ pub docked_book_send : (L : RattleType) (g : Ghosts L.Denot BookRow) → IsSend 
 docked_book_send L g l = declared_send (docked_book.the_type L g) (book_send L g l, tt)
 
 pub seat_send : (K L : RattleType) (g : Ghosts K.Denot ShardRow) (h : Ghosts L.Denot BookRow) → IsSend K → IsSend L → IsSend (seat.the_row K L g h)
-seat_send K L g h k l = declared_send (seat.the_type K L g h)
-    (caller.the_send, (Vec-send _ (berth.the_send (docked_shard.the_row K g) shard_entry.the_row (docked_shard_send K g k)),
-    (Vec-send _ (berth.the_send (docked_book.the_row L h) book_entry.the_row (docked_book_send L h l)),
-    (Vec-send _ (shard_send K g k), (Vec-send _ (book_send L h l), tt)))))
+seat_send K L g h k l = declared_send (seat.the_type K L g h) (
+  caller.the_send,
+  (
+    Vec-send _ (berth.the_send (docked_shard.the_row K g) shard_entry.the_row (docked_shard_send K g k)),
+    (
+      Vec-send _ (berth.the_send (docked_book.the_row L h) book_entry.the_row (docked_book_send L h l)),
+      (Vec-send _ (shard_send K g k), (Vec-send _ (book_send L h l), tt)),
+    ),
+  ),
+)
 
 pub engine_sync : (K L V G : RattleType) (g : Ghosts K.Denot ShardRow) (h : Ghosts L.Denot BookRow) → IsSend K → IsSend L → IsSync V → IsSync G → IsSync (engine.the_row K L V G g h)
-engine_sync K L V G g h k l v w = declared_sync (engine.the_type K L V G g h)
-    (Vec-sync _ (padded.the_sync _ (dock.the_sync (docked_shard.the_row K g) shard_entry.the_row (shard_journaled.ghosts K g _ _) (docked_shard_send K g k))),
-    (Vec-sync _ (padded.the_sync _ (dock.the_sync (docked_book.the_row L h) book_entry.the_row (book_journaled.ghosts L h _ _) (docked_book_send L h l))),
-    (search (v, sendable) depth 20, (search (w, sendable) depth 20, (search sendable depth 20, tt)))))
+engine_sync K L V G g h k l v w = declared_sync (engine.the_type K L V G g h) (
+  Vec-sync _ (padded.the_sync _ (dock.the_sync (docked_shard.the_row K g) shard_entry.the_row (shard_journaled.ghosts K g shard_journaled.no_dict shard_journaled.no_dict) (docked_shard_send K g k))),
+  (
+    Vec-sync _ (padded.the_sync _ (dock.the_sync (docked_book.the_row L h) book_entry.the_row (book_journaled.ghosts L h book_journaled.no_dict book_journaled.no_dict) (docked_book_send L h l))),
+    (search (v, sendable) depth 20, (search (w, sendable) depth 20, (search sendable depth 20, tt))),
+  ),
+)
 
 abbrev pub rooms : RattleType
 rooms = memory_keeper.the_row shard_row.the_row
@@ -51,7 +71,7 @@ rooms = memory_keeper.the_row shard_row.the_row
 abbrev pub books : RattleType
 books = memory_keeper.the_row book_row.the_row
 
-shard_row_send : IsSend shard_row.the_row
+pub shard_row_send : IsSend shard_row.the_row
 shard_row_send = search (room_id.the_send, pdu_send, caller.the_send, sendable) depth 20 fits 20000
 
 rooms_send : IsSend rooms
@@ -62,3 +82,21 @@ books_send = memory.the_send book_row.the_row rows.the_send
 
 pub caller_send : (g : Ghosts rooms.Denot ShardRow) (h : Ghosts books.Denot BookRow) → IsSend (seat.the_row rooms books g h)
 caller_send g h = seat_send rooms books g h rooms_send books_send
+
+abbrev pub room_ghosts : Ghosts rooms.Denot ShardRow
+room_ghosts = keeping.ghosts shard_row.the_row shard_storable.ghosts keeping.no_dict keeping.no_dict
+
+abbrev pub book_ghosts : Ghosts books.Denot BookRow
+book_ghosts = keeping.ghosts book_row.the_row book_storable.ghosts keeping.no_dict keeping.no_dict
+
+engine_here : IsSync (engine.the_row rooms books presence_verifier.the_row open_gate.the_row room_ghosts book_ghosts)
+engine_here = engine_sync rooms books presence_verifier.the_row open_gate.the_row room_ghosts book_ghosts rooms_send books_send presence.the_sync gate.the_sync
+
+pub server_sync : IsSync server.the_row
+server_sync = declared_sync server.the_type (engine_here, tt)
+
+job_send : IsSend job.the_row
+job_send = variants_send job.enum ((pdu_send, tt), ((key.the_send, (Vec-send _ pdu_send, tt)), tt))
+
+pub worker_send : IsSend worker.the_row
+worker_send = declared_send worker.the_type (caller_send room_ghosts book_ghosts, (Vec-send _ job_send, (search (crosses, sendable) depth 20, tt)))

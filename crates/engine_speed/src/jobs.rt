@@ -22,7 +22,8 @@ pub enum Job {
 pub fn read_jobs<R: Input>(rt: &R, alloc: Global) -> Result<Vec<Job>, Failure> {
     let mut jobs = Vec::new(alloc);
     for (number, line) in rt.lines(alloc).enumerate() {
-        jobs.push(job_of(alloc, number, &line?)?).map_err(AllocError::from)?;
+        jobs.push(job_of(alloc, number, &line?)?)
+            .map_err(AllocError::from)?;
     }
     Ok(jobs)
 }
@@ -47,7 +48,9 @@ fn value_of(alloc: Global, line: &str) -> Result<Value, Failure> {
 fn events_of(alloc: Global, entries: Vec<Value>) -> Result<Vec<Pdu>, Failure> {
     let mut events = Vec::with_capacity(alloc, entries.len())?;
     for entry in entries {
-        events.push(Pdu::from_value(alloc, entry)?).map_err(AllocError::from)?;
+        events
+            .push(Pdu::from_value(alloc, entry)?)
+            .map_err(AllocError::from)?;
     }
     Ok(events)
 }

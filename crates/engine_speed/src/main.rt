@@ -10,37 +10,70 @@ mod failures;
 mod jobs;
 mod world_calls;
 
-use engine_calls::run_engine;
+use engine_calls::measure_engine;
 use failures::Failure;
 use jobs::read_jobs;
 use mx_keeper::{BookRow, MemoryKeeper, ShardRow};
 use std::env;
-use std::time::Instant;
-use world_calls::{new_world, run_world};
+use world_calls::{measure_world, new_world};
 
 /// Rows of rooms in memory.
 pub type Rooms = MemoryKeeper<ShardRow>;
 /// Rows of transactions in memory.
 pub type Transactions = MemoryKeeper<BookRow>;
 
+// Who is given the transactions.
+#[derive(Clone, Copy, Debug)]
+enum Mode {
+    Read,
+    World,
+    Engine,
+}
+
+#[derive(Clone, Copy, Debug)]
+struct Words {
+    mode: Mode,
+    shards: usize,
+    seats: usize,
+}
+
 fn main(rt: HostRuntime) -> Result<(), Failure> {
     let alloc = rt.alloc();
-    let mut words = env::args(&rt)?;
-    let _program = words.next();
-    let mode = words.next().ok_or(Failure::Misused)?;
-    let shards = number(words.next())?;
-    let seats = number(words.next())?;
+    let words = words_of(&rt)?;
     let jobs = read_jobs(&rt, alloc)?;
-    let mut world = new_world(alloc, shards)?;
-    let start = Instant::now(&rt)?;
-    let replied = match mode.as_str() {
-        "world" => run_world(alloc, &mut world, jobs)?,
-        "engine" => run_engine(&rt, alloc, world, jobs, seats)?,
-        _ => 0,
+    let world = new_world(alloc, words.shards)?;
+    let (elapsed, replied) = match words.mode {
+        Mode::Read => (0, 0),
+        Mode::World => measure_world(&rt, alloc, world, jobs)?,
+        Mode::Engine => measure_engine(&rt, alloc, world, jobs, words.seats)?,
     };
-    let elapsed = start.elapsed(&rt)?.as_millis();
     println!(rt; "{elapsed} {replied}")?;
     Ok(())
+}
+
+fn words_of(rt: &HostRuntime) -> Result<Words, Failure>
+    ensures { IfOk result (λ words. (1 ≤ words.shards) × (words.shards ≤ 64) × (1 ≤ words.seats) × (words.seats ≤ 64)) }
+{
+    let mut words = env::args(rt)?;
+    let _program = words.next();
+    let mode = mode_of(words.next())?;
+    let shards = number(words.next())?;
+    let seats = number(words.next())?;
+    Ok(Words {
+        mode,
+        shards,
+        seats,
+    })
+}
+
+fn mode_of(word: Option<String>) -> Result<Mode, Failure> {
+    let word = word.ok_or(Failure::Misused)?;
+    match word.as_str() {
+        "read" => Ok(Mode::Read),
+        "world" => Ok(Mode::World),
+        "engine" => Ok(Mode::Engine),
+        _ => Err(Failure::Misused),
+    }
 }
 
 // A number from 1 to 64.

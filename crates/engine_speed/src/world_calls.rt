@@ -10,6 +10,7 @@ use mx_keeper::{MemoryKeeper, Storable};
 use mx_pdu::{Offered, Pdu, PresenceVerifier};
 use mx_world::{Step, StepReply, World};
 use std::alloc::{AllocError, Global};
+use std::time::{Clock, Instant};
 
 /// A server with so many shards, and as many books.
 pub fn new_world(alloc: Global, shards: usize) -> Result<World<Rooms, Transactions>, Failure>
@@ -33,8 +34,21 @@ fn keepers<R: Storable>(alloc: Global, count: usize) -> Result<Vec<MemoryKeeper<
     Ok(keepers)
 }
 
-/// Does each job in turn, and gives the bytes of all replies.
-pub fn run_world(
+/// Does each job in turn, and gives the milliseconds, and the bytes of all replies.
+pub fn measure_world<R: Clock>(
+    rt: &R,
+    alloc: Global,
+    world: World<Rooms, Transactions>,
+    jobs: Vec<Job>,
+) -> Result<(u128, usize), Failure> {
+    let mut world = world;
+    let start = Instant::now(rt)?;
+    let replied = run_all(alloc, &mut world, jobs)?;
+    let elapsed = start.elapsed(rt)?;
+    Ok((elapsed.as_millis(), replied))
+}
+
+fn run_all(
     alloc: Global,
     world: &mut World<Rooms, Transactions>,
     jobs: Vec<Job>,
@@ -52,21 +66,44 @@ fn run_job(
     job: Job,
 ) -> Result<usize, Failure> {
     match job {
-        Job::Host(event) => {
-            let offered = Offered::of(alloc, event, &PresenceVerifier)?;
-            let _reply = world.step(alloc, &Step::Host(offered))?;
-            Ok(0)
-        }
-        Job::Transaction(key, events) => {
-            let count = events.len();
-            let next = key.clone()?;
-            let close = key.clone()?;
-            let offers = offers_of(alloc, events)?;
-            let _reply = world.step(alloc, &Step::Open(key, offers))?;
-            offer_each(alloc, world, next, count)?;
-            closed(alloc, world, close)
-        }
+        Job::Host(event) => host(alloc, world, event),
+        Job::Transaction(key, events) => transact(alloc, world, key, events),
     }
+}
+
+fn host(
+    alloc: Global,
+    world: &mut World<Rooms, Transactions>,
+    event: Pdu,
+) -> Result<usize, Failure> {
+    let offered = Offered::of(alloc, event, &PresenceVerifier)?;
+    let _reply = world.step(alloc, &Step::Host(offered))?;
+    Ok(0)
+}
+
+fn transact(
+    alloc: Global,
+    world: &mut World<Rooms, Transactions>,
+    key: TransactionKey,
+    events: Vec<Pdu>,
+) -> Result<usize, Failure> {
+    let count = events.len();
+    let next = key.clone()?;
+    let close = key.clone()?;
+    open(alloc, world, key, events)?;
+    offer_each(alloc, world, next, count)?;
+    closed(alloc, world, close)
+}
+
+fn open(
+    alloc: Global,
+    world: &mut World<Rooms, Transactions>,
+    key: TransactionKey,
+    events: Vec<Pdu>,
+) -> Result<(), Failure> {
+    let offers = offers_of(alloc, events)?;
+    let _reply = world.step(alloc, &Step::Open(key, offers))?;
+    Ok(())
 }
 
 fn offers_of(alloc: Global, events: Vec<Pdu>) -> Result<Vec<Offered>, AllocError> {
