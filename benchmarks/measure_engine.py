@@ -1,8 +1,9 @@
 #!/usr/bin/env python3
 """Measures an engine by 1, 2 and 4 seats, each in a thread of its own, beside a world on one thread, and prints tables.
 
-    measure_engine.py [--program PATH] [--events 100000] [--shards 4] [--runs 5] [--cases world,engine 1,engine 2,engine 4]
-                      [--instructions COUNT] [--log FILE]
+    measure_engine.py [--program PATH] [--events 100000] [--shards 4] [--runs 5] [--instructions COUNT] [--log FILE]
+                      [--cases world,engine 1,engine 2,engine 4]
+    measure_engine.py --unpack
 
 The program is built from the text engine_speed.txt, which says how. Its input are messages of four rooms of 50 members,
 one room a shard where there are four, fifty to a transaction, the rooms in turn. With several seats each has rooms of its
@@ -22,10 +23,24 @@ import tempfile
 from pathlib import Path
 
 HERE = Path(__file__).resolve().parent
-PROGRAM = HERE.parent / "crates/engine_speed/out/engine_speed"
+TOP = HERE.parent
+PROGRAM = TOP / "crates/engine_speed/out/engine_speed"
 ROOMS = 4
 # Places in the line of all processors of /proc/stat.
 IDLE, WAITING, STEAL = 3, 4, 7
+
+
+def unpack():
+    """Writes the files that the text holds, and the crate's line into crates.txt."""
+    for part in ("\n" + (HERE / "engine_speed.txt").read_text()).split("\n=== ")[1:]:
+        name, _, text = part.removesuffix("\n").partition("\n")
+        file = TOP / name
+        if name == "crates.txt":
+            lines = file.read_text()
+            file.write_text(lines if text in lines else f"{lines}{text}\n")
+            continue
+        file.parent.mkdir(parents=True, exist_ok=True)
+        file.write_text(text + "\n")
 
 
 def room_lines(number, events):
@@ -120,7 +135,11 @@ def main():
     parser.add_argument("--cases", default="world,engine 1,engine 2,engine 4")
     parser.add_argument("--instructions", type=int, default=0)
     parser.add_argument("--log", type=Path)
+    parser.add_argument("--unpack", action="store_true")
     options = parser.parse_args()
+    if options.unpack:
+        unpack()
+        return
     with tempfile.TemporaryFile() as source:
         source.write(jobs(options.events))
         if options.log:
