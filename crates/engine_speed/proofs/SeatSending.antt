@@ -1,9 +1,8 @@
 -- Seats and engines may cross threads wherever their keepers may.
 use denote.RattleType.{RattleType}
-use denote.Param.Send.{IsSend, IsSync, param_send, sendable}
+use denote.Param.Send.{IsSend, IsSync, sendable}
 use denote.Param.SendFields.{declared_send, declared_sync, variants_send}
 use Rattle.std.proofs.Crossing.{crosses, Vec-send, Vec-sync}
-use Rattle.std.proofs.MapsCrossing as maps
 use Rattle.mx_keeper.specs.declared.keepers.Keeper.{Ghosts}
 use Rattle.mx_keeper.specs.declared.rows.ShardRow.{ShardRow}
 use Rattle.mx_keeper.specs.declared.rows.BookRow.{BookRow}
