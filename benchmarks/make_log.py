@@ -2,7 +2,7 @@
 """Makes logs for `mx_federd replay`, for measuring, with true ids and hashes, and signatures of the presence form.
 
     make_log.py --shape linear|fork|conflict|joins|wide|soft --events N [--members 50] [--batch 50]
-                 [--form step|call] [--ask COUNT] [--seed 1] [--body BYTES] > log
+                 [--form step|call] [--ask COUNT] [--seed 1] [--body BYTES] [--room ID] > log
     make_log.py --check-power BYTES > event       (one power levels event for `check`)
 
 linear    a base room, then N messages, each after the one before.
@@ -98,7 +98,7 @@ class Room:
             "origin": sender.partition(":")[2],
             "origin_server_ts": self.now,
             "prev_events": prev,
-            "room_id": ROOM,
+            "room_id": self.options.room,
             "sender": sender,
             "type": kind,
         }
@@ -204,7 +204,7 @@ class Room:
 
     def query(self, kind):
         """A query of this kind about the last event, by a server in the room."""
-        room, origin, ids = quoted(ROOM), "s1.example", list(self.depths)[:len(self.events)]
+        room, origin, ids = quoted(self.options.room), "s1.example", list(self.depths)[:len(self.events)]
         last = quoted(ids[-1])
         if kind == "get_missing_events":
             body = {"earliest_events": [ids[-30]], "latest_events": [ids[-1]], "limit": 20}
@@ -250,6 +250,7 @@ def main():
     parser.add_argument("--kind", default="event")
     parser.add_argument("--seed", type=int, default=1)
     parser.add_argument("--body", type=int, default=60)
+    parser.add_argument("--room", default=ROOM)
     parser.add_argument("--check-power", type=int)
     options = parser.parse_args()
     if options.check_power:
