@@ -1,1 +1,2 @@
 pub mod SeatSending
+pub mod CallerLemmas

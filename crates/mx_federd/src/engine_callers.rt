@@ -1,8 +1,11 @@
 // Callers of an engine in threads of their own, for the tests.
-ghost use Rattle.std.specs.Prelude.{◌≡◌, ◌+◌, ◌<◌, ◌≤◌, ℕ, All, IfOk, length, get_or, map};
-ghost use Rattle.mx_engine.specs.Seats.{IsSeatOf, seat_number, seats_made};
+ghost use Rattle.std.specs.Prelude.{◌≡◌, ◌<◌, ◌≤◌, ℕ, All, IfOk, IsTrue, length, get_or, map};
+ghost use Rattle.mx_engine.specs.Seats.{IsSeatOf, seat_number};
+ghost use Rattle.mx_world.specs.Worlds.{none_open};
+ghost use Rattle.mx_federd.specs.Callers.{AreTheSeats};
 
-use crate::room_events::{RoomEvents, event, events, key_of, message, refused};
+use crate::room_events::{RoomEvents, key_of, message, refused};
+use crate::server_steps;
 use mx_book::{Book, TransactionKey};
 use mx_engine::{Engine, Gate, Seat, TransactionReply};
 use mx_keeper::{BookRow, Keeper, MemoryKeeper, ShardRow, Storable};
@@ -125,44 +128,37 @@ fn keepers<R: Storable>(alloc: Global) -> Result<Vec<MemoryKeeper<R>>, AllocErro
     Ok(keepers)
 }
 
-// An engine of two shards that host nothing, and its seats.
+// A server of two shards that hosts these rooms.
+fn hosted(alloc: Global, rooms: &[RoomEvents]) -> Result<OneThread, AllocError>
+    ensures { IfOk result (λ world. IsTrue (none_open world)) }
+{
+    let mut world = World::new(alloc, keepers(alloc)?, keepers(alloc)?).map_err(refused)?;
+    for of in rooms {
+        server_steps::host(alloc, &mut world, of.create).map_err(refused)?;
+        server_steps::send(alloc, &mut world, of.room, &of.others).map_err(refused)?;
+    }
+    if !world.none_open() {
+        return Err(AllocError);
+    }
+    Ok(world)
+}
+
+// An engine of two shards that host these rooms, and its seats.
 pub fn opened<R: Wait>(
     rt: &R,
     alloc: Global,
     gate: MeetingGate,
     seats: u32,
+    rooms: &[RoomEvents],
 ) -> Result<(SharedEngine, Vec<Seat<Rooms, Replies>>), AllocError>
     requires some { 1 ≤ seats }
     requires few { seats ≤ 64 }
-    ensures mine { IfOk result (λ made. All (IsSeatOf made.0) made.1.items) }
-    ensures count { IfOk result (λ made. seats_made made.0 ≡ seats) }
+    ensures seated { IfOk result (λ made. AreTheSeats made.0 made.1.items) }
     ensures length { IfOk result (λ made. length made.1.items ≡ seats) }
-    ensures numbers { IfOk result (λ made. (n : ℕ) (d : _) → n < seats → seat_number (get_or made.1.items n d) ≡ n + 1) }
 {
-    let world = World::new(alloc, keepers(alloc)?, keepers(alloc)?).map_err(refused)?;
-    Engine::open(rt, alloc, world, PresenceVerifier, gate, seats)
-}
-
-// Hosts a room through a seat, with the events of its beginning.
-pub fn host_room<R: Wait>(
-    rt: &R,
-    alloc: Global,
-    engine: &SharedEngine,
-    seat: &mut Seat<Rooms, Replies>,
-    room: &RoomEvents,
-) -> Result<(), AllocError>
-    requires { IsSeatOf engine.now seat.old }
-    ensures mine { IsSeatOf engine.now seat.new }
-    ensures number { seat_number seat.new ≡ seat_number seat.old }
-{
-    let create = event(alloc, room.create)?;
-    let others = events(alloc, &room.others)?;
-    let key = key_of(alloc, room.room)?;
-    engine.host(rt, alloc, seat, create).map_err(refused)?;
-    engine
-        .transaction(rt, alloc, seat, &key, others)
-        .map_err(refused)?;
-    Ok(())
+    let world = hosted(alloc, rooms)?;
+    let made = Engine::open(rt, alloc, world, PresenceVerifier, gate, seats)?;
+    Ok(made)
 }
 
 // Sends a caller's transaction.
@@ -204,6 +200,23 @@ pub fn send_in_threads<R: Threads + Wait + Sync>(
     );
 }
 
+// The callers after each has sent its transaction, in a thread of its own.
+pub fn sent<R: Threads + Wait + Sync>(
+    rt: &R,
+    alloc: Global,
+    engine: &SharedEngine,
+    callers: Vec<Caller>,
+    meeting: &Meeting,
+) -> Vec<Caller>
+    requires { AreTheSeats engine.now (map (λ c. c.seat) callers.items) }
+    ensures seated { AreTheSeats engine.now (map (λ c. c.seat) result.items) }
+    ensures count { length result.items ≡ length callers.items }
+{
+    let mut callers = callers;
+    send_in_threads(rt, alloc, engine, &mut callers, meeting);
+    callers
+}
+
 // What a caller is to send: so many messages to a room, in a transaction with this number.
 #[derive(Drop)]
 pub struct Plan {
@@ -238,15 +251,19 @@ fn caller_of(alloc: Global, seat: Seat<Rooms, Replies>, plan: &Plan) -> Result<C
 // A caller at each seat, with what it is to send.
 pub fn callers_of(
     alloc: Global,
+    _engine: &SharedEngine,
     seats: Vec<Seat<Rooms, Replies>>,
     plans: &[Plan],
 ) -> Result<Vec<Caller>, AllocError>
-    ensures { IfOk result (λ callers. map (λ c. c.seat) callers.items ≡ seats.items) }
+    requires { AreTheSeats _engine.now seats.items }
+    ensures seated { IfOk result (λ callers. AreTheSeats _engine.now (map (λ c. c.seat) callers.items)) }
+    ensures count { IfOk result (λ callers. length callers.items ≡ length seats.items) }
 {
     let mut callers = Vec::new(alloc);
-    for (number, seat) in seats.into_iter().enumerate() {
-        let plan = plans.get(number).ok_or(AllocError)?;
-        callers.push(caller_of(alloc, seat, plan)?)?;
+    for seat in seats {
+        let plan = plans.get(callers.len()).ok_or(AllocError)?;
+        let caller = caller_of(alloc, seat, plan)?;
+        callers.push(caller)?;
     }
     Ok(callers)
 }
@@ -258,8 +275,12 @@ fn seat_of(caller: Caller) -> Seat<Rooms, Replies>
 }
 
 // The seats of the callers.
-fn seats_of(alloc: Global, callers: Vec<Caller>) -> Result<Vec<Seat<Rooms, Replies>>, AllocError>
-    ensures { IfOk result (λ seats. seats.items ≡ map (λ c. c.seat) callers.items) }
+pub fn seats_of(
+    alloc: Global,
+    callers: Vec<Caller>,
+) -> Result<Vec<Seat<Rooms, Replies>>, AllocError>
+    ensures items { IfOk result (λ seats. seats.items ≡ map (λ c. c.seat) callers.items) }
+    ensures count { IfOk result (λ seats. length seats.items ≡ length callers.items) }
 {
     let mut seats = Vec::new(alloc);
     for caller in callers {
@@ -275,10 +296,7 @@ pub fn closed<R: Wait>(
     engine: SharedEngine,
     callers: Vec<Caller>,
 ) -> Result<OneThread, AllocError>
-    requires mine { All (λ c. IsSeatOf engine c.seat) callers.items }
-    requires some { 1 ≤ length callers.items }
-    requires all { seats_made engine ≡ length callers.items }
-    requires numbers { (n : ℕ) (d : Caller) → n < length callers.items → seat_number (get_or callers.items n d).seat ≡ n + 1 }
+    requires { AreTheSeats engine (map (λ c. c.seat) callers.items) }
 {
     let seats = seats_of(alloc, callers)?;
     Ok(engine.close(rt, alloc, seats))

@@ -1,6 +1,5 @@
 use crate::engine_callers::{
-    Caller, Meeting, MeetingGate, Plan, callers_of, closed, host_room, kept, opened,
-    send_in_threads,
+    Caller, Meeting, MeetingGate, Plan, callers_of, closed, kept, opened, seats_of, sent,
 };
 use crate::room_events::{
     FIRST_ROOM, ID_OF_JOIN_OF_D, JOIN_OF_D, REPLY_TO_FIRST_ROOM, SECOND_ROOM, event, event_id,
@@ -48,9 +47,8 @@ fn body_of(row: &ShardRow) -> &str {
 #[test]
 fn four_seats(rt: HostRuntime) -> Result<(), Fail> {
     let alloc = rt.alloc();
-    let (engine, mut seats) = opened(&rt, alloc, open_gate(alloc)?, 4)?;
-    host_room(&rt, alloc, &engine, &mut seats[0], &FIRST_ROOM)?;
-    host_room(&rt, alloc, &engine, &mut seats[0], &SECOND_ROOM)?;
+    let rooms = [FIRST_ROOM, SECOND_ROOM];
+    let (engine, seats) = opened(&rt, alloc, open_gate(alloc)?, 4, &rooms)?;
     let plans = [
         Plan {
             room: FIRST_ROOM,
@@ -73,8 +71,8 @@ fn four_seats(rt: HostRuntime) -> Result<(), Fail> {
             messages: 25,
         },
     ];
-    let mut callers = callers_of(alloc, seats, &plans)?;
-    send_in_threads(&rt, alloc, &engine, &mut callers, &Meeting::new());
+    let callers = callers_of(alloc, &engine, seats, &plans)?;
+    let callers = sent(&rt, alloc, &engine, callers, &Meeting::new());
     for caller in &callers {
         assert!(rt; matches!(caller.reply, Some(TransactionReply::Closed(_))));
     }
@@ -102,9 +100,8 @@ fn two_shards_at_once(rt: HostRuntime) -> Result<(), Fail> {
     let gate = MeetingGate {
         meeting: Arc::clone(&meeting)?,
     };
-    let (engine, mut seats) = opened(&rt, alloc, gate, 2)?;
-    host_room(&rt, alloc, &engine, &mut seats[0], &FIRST_ROOM)?;
-    host_room(&rt, alloc, &engine, &mut seats[0], &SECOND_ROOM)?;
+    let rooms = [FIRST_ROOM, SECOND_ROOM];
+    let (engine, seats) = opened(&rt, alloc, gate, 2, &rooms)?;
     let plans = [
         Plan {
             room: FIRST_ROOM,
@@ -117,9 +114,9 @@ fn two_shards_at_once(rt: HostRuntime) -> Result<(), Fail> {
             messages: 1,
         },
     ];
-    let mut callers = callers_of(alloc, seats, &plans)?;
+    let callers = callers_of(alloc, &engine, seats, &plans)?;
     meeting.ask();
-    send_in_threads(&rt, alloc, &engine, &mut callers, &meeting);
+    let callers = sent(&rt, alloc, &engine, callers, &meeting);
     for caller in &callers {
         assert!(rt; matches!(caller.reply, Some(TransactionReply::Closed(_))));
     }
@@ -131,7 +128,7 @@ fn two_shards_at_once(rt: HostRuntime) -> Result<(), Fail> {
 #[test]
 fn seat_to_seat(rt: HostRuntime) -> Result<(), Fail> {
     let alloc = rt.alloc();
-    let (engine, mut seats) = opened(&rt, alloc, open_gate(alloc)?, 2)?;
+    let (engine, mut seats) = opened(&rt, alloc, open_gate(alloc)?, 2, &[])?;
     let mut other = seats.remove(0);
     let mut seat = seats.remove(0);
     let create = event(alloc, FIRST_ROOM.create)?;
@@ -174,16 +171,23 @@ fn seat_to_seat(rt: HostRuntime) -> Result<(), Fail> {
 #[test]
 fn seen_later(rt: HostRuntime) -> Result<(), Fail> {
     let alloc = rt.alloc();
-    let (engine, mut seats) = opened(&rt, alloc, open_gate(alloc)?, 2)?;
-    host_room(&rt, alloc, &engine, &mut seats[0], &FIRST_ROOM)?;
+    let (engine, seats) = opened(&rt, alloc, open_gate(alloc)?, 2, &[FIRST_ROOM])?;
+    let plans = [
+        Plan {
+            room: FIRST_ROOM,
+            txn: "1",
+            messages: 1,
+        },
+        Plan {
+            room: FIRST_ROOM,
+            txn: "2",
+            messages: 0,
+        },
+    ];
+    let callers = callers_of(alloc, &engine, seats, &plans)?;
+    let callers = sent(&rt, alloc, &engine, callers, &Meeting::new());
+    let mut seats = seats_of(alloc, callers)?;
     let mut other = seats.remove(1);
-    let plans = [Plan {
-        room: FIRST_ROOM,
-        txn: "1",
-        messages: 1,
-    }];
-    let mut callers = callers_of(alloc, seats, &plans)?;
-    send_in_threads(&rt, alloc, &engine, &mut callers, &Meeting::new());
     let id = message(alloc, &FIRST_ROOM, "1 0")?.event_id(alloc)?;
     let origin = server(alloc, "a.example")?;
     let now = Moment::at(1).ok_or(AllocError)?;
@@ -199,8 +203,7 @@ fn seen_later(rt: HostRuntime) -> Result<(), Fail> {
 #[test]
 fn one_reply(rt: HostRuntime) -> Result<(), Fail> {
     let alloc = rt.alloc();
-    let (engine, mut seats) = opened(&rt, alloc, open_gate(alloc)?, 2)?;
-    host_room(&rt, alloc, &engine, &mut seats[0], &FIRST_ROOM)?;
+    let (engine, seats) = opened(&rt, alloc, open_gate(alloc)?, 2, &[FIRST_ROOM])?;
     let plans = [
         Plan {
             room: FIRST_ROOM,
@@ -213,8 +216,8 @@ fn one_reply(rt: HostRuntime) -> Result<(), Fail> {
             messages: 5,
         },
     ];
-    let mut callers = callers_of(alloc, seats, &plans)?;
-    send_in_threads(&rt, alloc, &engine, &mut callers, &Meeting::new());
+    let callers = callers_of(alloc, &engine, seats, &plans)?;
+    let callers = sent(&rt, alloc, &engine, callers, &Meeting::new());
     let closings = callers.iter().filter(|caller| is_closed(caller)).count();
     assert_eq!(rt; closings, 1);
     let reply = reply_of(alloc, &callers)?;

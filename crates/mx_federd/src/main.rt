@@ -25,6 +25,8 @@ mod engine_tests;
 #[cfg(test)]
 mod room_events;
 #[cfg(test)]
+mod server_steps;
+#[cfg(test)]
 mod stored_servers;
 #[cfg(test)]
 mod stored_tests;

@@ -1,10 +1,8 @@
 // Servers of one shard and one book whose rows are in SQLite, for the tests.
 ghost use Rattle.std.specs.Prelude.{◌≡◌, IfOk, length};
 
-use crate::room_events::{event, key_of};
 use mx_keeper::{BookRow, KeeperFault, NotAdopted, ShardRow, SqliteKeeper, TableRow};
-use mx_pdu::{Offered, PresenceVerifier};
-use mx_world::{CallError, Step, StepReply, World};
+use mx_world::{CallError, World};
 use sqlite::{Alter, Connection};
 use std::alloc::{AllocError, Global};
 
@@ -54,49 +52,4 @@ pub fn stopped<S: Alter + Drop>(
         shard.into_keeper().into_connection(),
         book.into_keeper().into_connection(),
     ))
-}
-
-fn offered(alloc: Global, text: &str) -> Result<Offered, AllocError> {
-    Offered::of(alloc, event(alloc, text)?, &PresenceVerifier)
-}
-
-// Hosts the room of an event.
-pub fn host<S: Alter + Drop>(
-    alloc: Global,
-    server: &mut StoredServer<S>,
-    create: &str,
-) -> Result<StepReply, CallError> {
-    server.step(alloc, &Step::Host(offered(alloc, create)?))
-}
-
-// Opens a transaction with these events.
-pub fn open<S: Alter + Drop>(
-    alloc: Global,
-    server: &mut StoredServer<S>,
-    txn: &str,
-    texts: &[&str],
-) -> Result<StepReply, CallError> {
-    let mut events = Vec::new(alloc);
-    for text in texts {
-        events.push(offered(alloc, text)?)?;
-    }
-    server.step(alloc, &Step::Open(key_of(alloc, txn)?, events))
-}
-
-// The reply to the next event of a transaction.
-pub fn next<S: Alter + Drop>(
-    alloc: Global,
-    server: &mut StoredServer<S>,
-    txn: &str,
-) -> Result<StepReply, CallError> {
-    server.step(alloc, &Step::Next(key_of(alloc, txn)?))
-}
-
-// The reply to a transaction whose events all went to their rooms.
-pub fn close<S: Alter + Drop>(
-    alloc: Global,
-    server: &mut StoredServer<S>,
-    txn: &str,
-) -> Result<StepReply, CallError> {
-    server.step(alloc, &Step::Close(key_of(alloc, txn)?))
 }

@@ -2,7 +2,8 @@ use crate::room_events::{
     FIRST_ROOM, ID_OF_LAST_MESSAGE, ID_OF_LOWERED_LEVELS, ID_OF_TOPIC_OF_A, LAST_MESSAGE,
     LOWERED_LEVELS, TOPIC_OF_A, TOPIC_OF_B, event_id, refused, server,
 };
-use crate::stored_servers::{StoredServer, close, host, next, open, opened, stopped};
+use crate::server_steps::{host, next, open, other, send};
+use crate::stored_servers::{StoredServer, opened, stopped};
 use mx_auth::Rule;
 use mx_ident::{RoomId, UserId};
 use mx_receipt::Verdict;
@@ -15,28 +16,6 @@ use std::fs;
 use std::test::Fail;
 
 const BEHIND_FIRST_ROOM: [&str; 3] = [TOPIC_OF_A, LOWERED_LEVELS, TOPIC_OF_B];
-
-// Every step of these tests has another reply only where something is wrong.
-fn other<E: Drop>(_reply: E) -> AllocError {
-    AllocError
-}
-
-// Sends a transaction whole and gives its reply.
-fn send<S: Alter + Drop>(
-    alloc: Global,
-    server: &mut StoredServer<S>,
-    txn: &str,
-    texts: &[&str],
-) -> Result<String, CallError> {
-    open(alloc, server, txn, texts)?;
-    for _text in texts {
-        next(alloc, server, txn)?;
-    }
-    match close(alloc, server, txn)? {
-        StepReply::Closed(reply) => Ok(reply.into_string()),
-        reply => Err(CallError::from(other(reply))),
-    }
-}
 
 // The room with its topics and power levels: the reply to the transaction `t1` that brought these.
 fn fill<S: Alter + Drop>(alloc: Global, server: &mut StoredServer<S>) -> Result<String, CallError> {
