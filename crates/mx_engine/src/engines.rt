@@ -99,6 +99,13 @@ impl<
         Ok((engine, all))
     }
 
+    /// What judges the signatures of the events that the engine is given.
+    pub fn verifier(&self) -> &V
+        ensures { result.now ≡ verifier_of self.now }
+    {
+        &self.verifier
+    }
+
     /// Hosts the room of the event, where it is not hosted and the event makes one.
     ///
     /// `Memory` where no memory is left, `Storage` where what keeps the rows of the room's shard failed, now or before.
@@ -159,6 +166,31 @@ impl<
             (shard_views seat.old) (book_views seat.old) (shard_views seat.new) (book_views seat.new)) }
     {
         let offers = offers_of(alloc, events, &self.verifier)?;
+        self.transaction_offered(rt, alloc, seat, key, &offers)
+    }
+
+    /// The reply to a transaction of a server, as of [`transaction`](Engine::transaction), with these events as they are
+    /// offered to their rooms.
+    ///
+    /// Source: the Matrix specification, Server-Server API, "Transactions".
+    pub fn transaction_offered<R: Wait>(
+        &self,
+        rt: &R,
+        alloc: Global,
+        seat: &mut Seat<K, L>,
+        key: &TransactionKey,
+        events: &[Offered],
+    ) -> Result<TransactionReply, CallError>
+        requires seat { IsSeatOf self.now seat.old }
+        ensures seat { IsSeatOf self.now seat.new }
+        ensures number { seat_number seat.new ≡ seat_number seat.old }
+        ensures same_shards { AreSameViews (shard_views seat.old) (shard_views seat.new) }
+        ensures same_books { AreSameViews (book_views seat.old) (book_views seat.new) }
+        ensures ok { IfOk result (IsReplied (seat_number seat.old) key.now events.now
+            (shard_views seat.old) (book_views seat.old) (shard_views seat.new) (book_views seat.new)) }
+        ensures err { OnErr result (IsRefused (seat_number seat.old) key.now events.now
+            (shard_views seat.old) (book_views seat.old) (shard_views seat.new) (book_views seat.new)) }
+    {
         transact(
             rt,
             alloc,
@@ -167,7 +199,7 @@ impl<
             &self.books,
             seat,
             key,
-            &offers,
+            events,
         )
     }
 
@@ -193,6 +225,28 @@ impl<
         ensures books { book_views seat.new ≡ book_views seat.old }
     {
         let offered = Offered::of(alloc, event, &self.verifier)?;
+        self.join_offered(rt, seat, origin, &offered)
+    }
+
+    /// Sends the join of a user of a server, as of [`join`](Engine::join), by the event as it is offered to its room.
+    ///
+    /// Source: the Matrix specification, Server-Server API, "Joining Rooms".
+    pub fn join_offered<R: Wait>(
+        &self,
+        rt: &R,
+        seat: &mut Seat<K, L>,
+        origin: &ServerName,
+        event: &Offered,
+    ) -> Result<Answer, CallError>
+        requires seat { IsSeatOf self.now seat.old }
+        ensures seat { IsSeatOf self.now seat.new }
+        ensures number { seat_number seat.new ≡ seat_number seat.old }
+        ensures same { AreSameViews (shard_views seat.old) (shard_views seat.new) }
+        ensures ok { IfOk result (IsAnswered (seat_number seat.old) (to_join origin.now event.now) (room_of event.now.pdu)
+            (shard_views seat.old) (shard_views seat.new)) }
+        ensures err { OnErr result (AddsNothing (shard_views seat.old) (shard_views seat.new)) }
+        ensures books { book_views seat.new ≡ book_views seat.old }
+    {
         let caller = seat.number;
         send_in(
             rt,
@@ -202,7 +256,7 @@ impl<
             caller,
             Sending::Join,
             origin,
-            &offered,
+            event,
         )
     }
 

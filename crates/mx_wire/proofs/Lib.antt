@@ -25,3 +25,4 @@ pub mod LogLemmas
 pub mod TextMemberLemmas
 pub mod LineRows
 pub mod AnswerLemmas
+pub mod ResponseLemmas

@@ -18,3 +18,4 @@ pub mod LinesShown
 pub mod LineRuns
 pub mod TextMembers
 pub mod LineErrors
+pub mod Responses

@@ -24,6 +24,7 @@ mod query_parameters;
 mod query_replies;
 mod reply_pieces;
 mod requests;
+mod responses;
 mod routes;
 mod shard_counts;
 mod step_lines;
@@ -46,6 +47,7 @@ pub use query_parameters::{
 };
 pub use query_replies::{WireReply, denied_fault, fault_reply, query_reply};
 pub use requests::{LARGEST_BODY, WireRequest, read_request};
+pub use responses::respond;
 pub use routes::{Route, Routes};
 pub use shard_counts::ShardCount;
 pub use step_replies::write_reply;

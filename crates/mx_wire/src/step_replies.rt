@@ -48,7 +48,8 @@ pub fn write_reply(
     }
 }
 
-fn asked_reply(
+/// The reply to a query, by the reply to its step.
+pub(crate) fn asked_reply(
     alloc: Global,
     name: &ServerName,
     now: Moment,
@@ -66,7 +67,12 @@ fn asked_reply(
     }
 }
 
-fn joined_reply(alloc: Global, name: &ServerName, last: StepReply) -> Result<WireReply, AllocError>
+/// The reply to a join, by the reply to its step.
+pub(crate) fn joined_reply(
+    alloc: Global,
+    name: &ServerName,
+    last: StepReply,
+) -> Result<WireReply, AllocError>
     ensures { IfOk result (λ made. (origin : List ℕ) (event : AnyOffered)
         → reply_shown made ≡ definition.reply_to name.now (join_step origin event) last) }
 {
@@ -76,7 +82,8 @@ fn joined_reply(alloc: Global, name: &ServerName, last: StepReply) -> Result<Wir
     }
 }
 
-fn sent_reply(alloc: Global, last: StepReply) -> Result<WireReply, AllocError>
+/// The reply to a transaction, by the reply to its last step.
+pub(crate) fn sent_reply(alloc: Global, last: StepReply) -> Result<WireReply, AllocError>
     ensures { IfOk result (λ made. (server : List ℕ) (key : AnyKey) (events : List AnyOffered)
         → reply_shown made ≡ definition.reply_to server (open_step key events) last) }
 {

@@ -14,3 +14,4 @@ pub mod TextLemmas
 pub mod StepRows
 mod UnfitLemmas
 pub mod ReopeningLemmas
+pub mod CrashLemmas

@@ -10,3 +10,4 @@ pub mod Inside
 pub mod Storage
 pub mod Offers
 pub mod Reopening
+pub mod Crashes

@@ -1,8 +1,10 @@
 // Calls of books, each at the book of its transaction's server.
-ghost use Rattle.std.specs.Prelude.{◌≡◌, Some, IfOk, OnOk, OnErr, map};
+ghost use Rattle.std.specs.Prelude.{◌≡◌, None, Some, IfOk, OnOk, OnErr, map};
 ghost use Rattle.mx_book.specs.Journal.{begun, free, kept, opening_of};
+ghost use Rattle.mx_book.specs.declared.entries.BookEntry.TheVariants.{Kept};
 ghost use Rattle.mx_world.specs.Worlds.{book_journals, holds_of, AtTransaction};
 ghost use Rattle.mx_world.specs.Storage.{BookFails, BooksLast, OnlyAt};
+ghost use Rattle.mx_world.specs.Crashes.{BooksLeave, at_error};
 ghost use Rattle.mx_world.specs.Parts.{book_places, ArePlaced};
 ghost use Rattle.mx_world.specs.Inside.{opened};
 
@@ -24,6 +26,7 @@ pub(crate) fn begin_in<L: Keeper<Row = BookRow>>(
     ensures storage { result ≡ Err CallError.Storage → BookFails L.failed books.old books.new key.now.origin }
     ensures only { OnlyAt (Some key.now.origin) books.old books.new }
     ensures last { BooksLast L.failed books.old books.new }
+    ensures crash { BooksLeave L.is_honest L.may_leave None books.old books.new }
 {
     let number = number_for(key.origin.as_str(), books.len());
     let book = &mut books[number];
@@ -45,6 +48,7 @@ pub(crate) fn keep_in<L: Keeper<Row = BookRow>>(
     ensures storage { result ≡ Err CallError.Storage → BookFails L.failed books.old books.new key.now.origin }
     ensures only { OnlyAt (Some key.now.origin) books.old books.new }
     ensures last { BooksLast L.failed books.old books.new }
+    ensures crash { BooksLeave L.is_honest L.may_leave (at_error result (Some (Kept key.now SOLE_CALLER reply))) books.old books.new }
 {
     let number = number_for(key.origin.as_str(), books.len());
     let book = &mut books[number];

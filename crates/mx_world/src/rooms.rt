@@ -9,6 +9,7 @@ ghost use Rattle.mx_world.specs.Replies.{outcome_in};
 ghost use Rattle.mx_world.specs.Calls.{if_put_to};
 ghost use Rattle.mx_world.specs.Worlds.{shard_journals, records_of};
 ghost use Rattle.mx_world.specs.Storage.{AskFails, ShardFails, SomeShardFails, ShardsLast, OnlyAt};
+ghost use Rattle.mx_world.specs.Crashes.{ShardsLeave, at_error};
 ghost use Rattle.mx_world.specs.Parts.{shard_places, ArePlaced};
 
 use crate::answers::outcome_of;
@@ -34,6 +35,7 @@ pub(crate) fn host_in<K: Keeper<Row = ShardRow>>(
     ensures storage { result ≡ Err CallError.Storage → ShardFails K.failed shards.old shards.new (room_of offered.now.pdu) }
     ensures only { OnlyAt (Some (room_of offered.now.pdu)) shards.old shards.new }
     ensures last { ShardsLast K.failed shards.old shards.new }
+    ensures crash { ShardsLeave K.is_honest K.may_leave (at_error result (Some (to_host offered.now))) shards.old shards.new }
 {
     let number = number_for(offered.pdu.room_id().as_str(), shards.len());
     let shard = &mut shards[number];
@@ -56,6 +58,7 @@ pub(crate) fn offer_in<K: Keeper<Row = ShardRow>>(
     ensures storage { result ≡ Err CallError.Storage → ShardFails K.failed shards.old shards.new (room_of offered.now.pdu) }
     ensures only { OnlyAt (Some (room_of offered.now.pdu)) shards.old shards.new }
     ensures last { ShardsLast K.failed shards.old shards.new }
+    ensures crash { ShardsLeave K.is_honest K.may_leave (at_error result (Some (to_offer origin.now offered.now))) shards.old shards.new }
 {
     let number = number_for(offered.pdu.room_id().as_str(), shards.len());
     let shard = &mut shards[number];
@@ -78,6 +81,7 @@ pub(crate) fn join_in<K: Keeper<Row = ShardRow>>(
     ensures storage { result ≡ Err CallError.Storage → ShardFails K.failed shards.old shards.new (room_of offered.now.pdu) }
     ensures only { OnlyAt (Some (room_of offered.now.pdu)) shards.old shards.new }
     ensures last { ShardsLast K.failed shards.old shards.new }
+    ensures crash { ShardsLeave K.is_honest K.may_leave (at_error result (Some (to_join origin.now offered.now))) shards.old shards.new }
 {
     let number = number_for(offered.pdu.room_id().as_str(), shards.len());
     let shard = &mut shards[number];

@@ -1,11 +1,12 @@
 // Lists of steps.
-ghost use Rattle.std.specs.Prelude.{◌≡◌, ◌<◌, ℕ, List, [], take, length, get_or, IsTrue, IfOk, OnOk, IfErr};
+ghost use Rattle.std.specs.Prelude.{◌≡◌, ◌<◌, ℕ, List, [], take, length, get_or, None, Some, IsTrue, IfOk, OnOk, IfErr};
 ghost use Rattle.mx_shard.specs.LoneRoom.{answers_alone};
 ghost use Rattle.mx_world.specs.Calls.{Start, calls, record_after};
 ghost use Rattle.mx_world.specs.Replies.{status_after, AreReplies};
 ghost use Rattle.mx_world.specs.Agree.{heard, told_about, StayApart, IsRun, Agree, AlikeAbout};
-ghost use Rattle.mx_world.specs.Worlds.{none_open, is_refused, records_in, start, IsAfter};
+ghost use Rattle.mx_world.specs.Worlds.{none_open, is_refused, records_in, status_in, start, IsAfter};
 ghost use Rattle.mx_world.specs.Storage.{IsStorageFailure};
+ghost use Rattle.mx_world.specs.Crashes.{CrashLeaves};
 
 use crate::steps::{Step, StepReply};
 use crate::worlds::World;
@@ -48,6 +49,11 @@ pub fn run<K: Keeper<Row = ShardRow>, L: Keeper<Row = BookRow>>(
     ensures storage { IfErr result (λ error. error.cause ≡ CallError.Storage → (step : Step)
         → IsStorageFailure K.failed L.failed (status_after (start world.old) (take error.done steps.now)) world.old world.new (get_or steps.now error.done step)) }
     ensures refused { IfErr result (λ error. error.cause ≡ CallError.Storage → IsTrue (is_refused world.new)) }
+    // A crash leaves the rows of each journal, or, of what no row came to, what it might have left at the start.
+    ensures durable { OnOk result (CrashLeaves K.is_honest K.may_leave L.is_honest L.may_leave (status_in world.old) None world.old world.new) }
+    // Where a step was refused, it may also leave the rows with the one that this step tried to add.
+    ensures crash { IfErr result (λ error. (step : Step) → CrashLeaves K.is_honest K.may_leave L.is_honest L.may_leave
+        (status_after (start world.old) (take error.done steps.now)) (Some (get_or steps.now error.done step)) world.old world.new) }
 {
     if steps.is_empty() {
         return Ok(Vec::new(alloc));

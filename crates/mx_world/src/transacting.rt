@@ -1,5 +1,5 @@
 // Transactions: their openings, their events in turn, and their ends.
-ghost use Rattle.std.specs.Prelude.{◌≡◌, ℕ, List, [], Some, IfOk, OnOk, OnErr, map};
+ghost use Rattle.std.specs.Prelude.{◌≡◌, ℕ, List, [], None, Some, IfOk, OnOk, OnErr, map};
 ghost use Rattle.mx_shard.specs.LoneRoom.{record_alone};
 ghost use Rattle.mx_book.specs.Journal.{free};
 ghost use Rattle.mx_book.specs.declared.transaction_keys.TransactionKey.{TransactionKey};
@@ -8,6 +8,7 @@ ghost use Rattle.mx_world.specs.Replies.{open_reply, next_reply, close_reply};
 ghost use Rattle.mx_world.specs.Moves.{rest_of, after_abandon, after_open, after_close};
 ghost use Rattle.mx_world.specs.Worlds.{shard_journals, records_of, book_journals, found, status_found, statuses_of, AtTransaction};
 ghost use Rattle.mx_world.specs.Storage.{BookFails, BooksLast, NextFails, ShardsLast, OnlyAt, next_room};
+ghost use Rattle.mx_world.specs.Crashes.{ShardsLeave, BooksLeave, at_error, next_call, close_entry};
 ghost use Rattle.mx_world.specs.Parts.{shard_places, book_places, ArePlaced};
 ghost use Rattle.mx_world.specs.Inside.{advanced, AllAgree};
 
@@ -42,6 +43,7 @@ pub(crate) fn open_in<L: Keeper<Row = BookRow>>(
     ensures storage { result ≡ Err CallError.Storage → BookFails L.failed books.old books.new key.now.origin }
     ensures only { OnlyAt (Some key.now.origin) books.old books.new }
     ensures last { BooksLast L.failed books.old books.new }
+    ensures crash { BooksLeave L.is_honest L.may_leave None books.old books.new }
 {
     if going.contains_key(key) {
         return Ok(StepReply::Busy);
@@ -97,6 +99,7 @@ pub(crate) fn next_in<K: Keeper<Row = ShardRow>>(
     ensures storage { result ≡ Err CallError.Storage → NextFails K.failed shards.old shards.new (rest_of (status_found (found going.old.entries key.now) free)) }
     ensures only { OnlyAt (next_room (rest_of (status_found (found going.old.entries key.now) free))) shards.old shards.new }
     ensures last { ShardsLast K.failed shards.old shards.new }
+    ensures crash { ShardsLeave K.is_honest K.may_leave (at_error result (next_call key.now.origin (rest_of (status_found (found going.old.entries key.now) free)))) shards.old shards.new }
 {
     match going.get_mut(key) {
         Some(transaction) => transaction.advance(shards, &key.origin),
@@ -122,6 +125,7 @@ pub(crate) fn close_in<L: Keeper<Row = BookRow>>(
     ensures storage { result ≡ Err CallError.Storage → BookFails L.failed books.old books.new key.now.origin }
     ensures only { OnlyAt (Some key.now.origin) books.old books.new }
     ensures last { BooksLast L.failed books.old books.new }
+    ensures crash { BooksLeave L.is_honest L.may_leave (at_error result (close_entry key.now (statuses_of going.old.entries (book_journals books.old) key.now))) books.old books.new }
 {
     let Some(transaction) = going.get(key) else {
         return Ok(StepReply::NotOpen);

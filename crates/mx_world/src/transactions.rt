@@ -5,6 +5,7 @@ ghost use Rattle.mx_world.specs.Calls.{offers};
 ghost use Rattle.mx_world.specs.Replies.{waiting, next_reply};
 ghost use Rattle.mx_world.specs.Worlds.{shard_journals, records_of};
 ghost use Rattle.mx_world.specs.Storage.{NextFails, ShardsLast, OnlyAt, next_room};
+ghost use Rattle.mx_world.specs.Crashes.{ShardsLeave, at_error, next_call};
 ghost use Rattle.mx_world.specs.Parts.{shard_places, ArePlaced};
 ghost use Rattle.mx_world.specs.Inside.{progress_after};
 
@@ -80,6 +81,7 @@ impl Transaction {
         ensures storage { result ≡ Err CallError.Storage → NextFails K.failed shards.old shards.new self.old.rest }
         ensures only { OnlyAt (next_room self.old.rest) shards.old shards.new }
         ensures last { ShardsLast K.failed shards.old shards.new }
+        ensures crash { ShardsLeave K.is_honest K.may_leave (at_error result (next_call origin.now self.old.rest)) shards.old shards.new }
     {
         take_next(&self.events, &mut self.told, shards, origin)
     }
@@ -125,6 +127,7 @@ fn take_next<K: Keeper<Row = ShardRow>>(
     ensures storage { result ≡ Err CallError.Storage → NextFails K.failed shards.old shards.new (drop (length told.old.items) events.now) }
     ensures only { OnlyAt (next_room (drop (length told.old.items) events.now)) shards.old shards.new }
     ensures last { ShardsLast K.failed shards.old shards.new }
+    ensures crash { ShardsLeave K.is_honest K.may_leave (at_error result (next_call origin.now (drop (length told.old.items) events.now))) shards.old shards.new }
 {
     let Some(offered) = events.get(told.len()) else {
         return Ok(StepReply::NoMore);

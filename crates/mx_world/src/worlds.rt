@@ -9,6 +9,7 @@ ghost use Rattle.mx_world.specs.Replies.{unopened, status_after, IsReply};
 ghost use Rattle.mx_world.specs.Moves.{RecordsMove, StatusesMove, after_abandon};
 ghost use Rattle.mx_world.specs.Worlds.{shard_journals, book_journals, records_of, statuses_of, records_in, status_in, none_open, is_refused, AtTransaction, Stays, Moves, IsAfter};
 ghost use Rattle.mx_world.specs.Storage.{IsStorageFailure, ChangesOwn, OnlyAt, SomeUnfit};
+ghost use Rattle.mx_world.specs.Crashes.{CrashLeaves, at_error};
 ghost use Rattle.mx_world.specs.Parts.{shard_places, book_places, ArePlaced, IsSoundShard, IsSoundBook};
 ghost use Rattle.mx_world.specs.Reopening.{AreOver, IsReopenedShard, IsReopenedBook, SomeCannotReopen, CanReopenShard, CanReopenBook};
 ghost use Rattle.mx_world.specs.Inside.{IsSound};
@@ -174,6 +175,9 @@ impl<K: Keeper<Row = ShardRow>, L: Keeper<Row = BookRow>> World<K, L> {
         ensures refused { result ≡ Err CallError.Storage → IsTrue (is_refused self.new) }
         // It changes no other, and what is refused stays so.
         ensures own { ChangesOwn K.failed L.failed (status_in self.old) self.old self.new step.now }
+        // A crash leaves the rows of each journal, or, of what no row came to, what it might have left before. Of the shard
+        // or the book of a step that is refused it may also leave the rows with the one that the step tried to add.
+        ensures crash { CrashLeaves K.is_honest K.may_leave L.is_honest L.may_leave (status_in self.old) (at_error result (Some step.now)) self.old self.new }
     {
         self.advance(alloc, step)
     }
@@ -201,6 +205,7 @@ impl<K: Keeper<Row = ShardRow>, L: Keeper<Row = BookRow>> World<K, L> {
         ensures storage { result ≡ Err CallError.Storage → IsStorageFailure K.failed L.failed (status_in self.old) self.old self.new step.now }
         ensures refused { result ≡ Err CallError.Storage → IsTrue (is_refused self.new) }
         ensures own { ChangesOwn K.failed L.failed (status_in self.old) self.old self.new step.now }
+        ensures crash { CrashLeaves K.is_honest K.may_leave L.is_honest L.may_leave (status_in self.old) (at_error result (Some step.now)) self.old self.new }
     {
         step_in(
             alloc,
@@ -231,6 +236,8 @@ fn step_in<K: Keeper<Row = ShardRow>, L: Keeper<Row = BookRow>>(
         (record { shards = shards.old; books = books.old; going = going.old.entries }) (record { shards = shards.new; books = books.new; going = going.new.entries }) step.now }
     ensures own { ChangesOwn K.failed L.failed (statuses_of going.old.entries (book_journals books.old))
         (record { shards = shards.old; books = books.old; going = going.old.entries }) (record { shards = shards.new; books = books.new; going = going.new.entries }) step.now }
+    ensures crash { CrashLeaves K.is_honest K.may_leave L.is_honest L.may_leave (statuses_of going.old.entries (book_journals books.old)) (at_error result (Some step.now))
+        (record { shards = shards.old; books = books.old; going = going.old.entries }) (record { shards = shards.new; books = books.new; going = going.new.entries }) }
 {
     match step {
         Step::Host(offered) => {

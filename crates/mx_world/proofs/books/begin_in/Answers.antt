@@ -1,10 +1,11 @@
 use Rattle.std.proofs.Common.{◌∙◌, ◌++◌, ap, length, get_or, Err}
 use Rattle.mx_keeper.specs.Places.{place_number}
-use Rattle.mx_book.specs.Journal.{begins, hold_of}
+use Rattle.mx_book.specs.Journal.{begins, hold_of, stored}
 use Rattle.mx_world.proofs.PlaceLemmas.{placed-is_at, places-set, journals-set}
 use Rattle.mx_world.proofs.StorageLemmas.{lasts-same, all-set, only-set, fails-set}
 use Rattle.mx_world.proofs.StatusLemmas.{book-begun}
 use Rattle.mx_world.proofs.RefusalLemmas.{is-storage, on_err}
+use Rattle.mx_world.proofs.CrashLemmas.{book-same, stored-begins}
 use Rattle.mx_world.proofs.books.begin_in.Goals as goal
 
 pub returns-in_err-opening-clause-err : goal.returns-in_err-opening-clause-err
@@ -52,3 +53,11 @@ pub returns-clause-last : goal.returns-clause-last
 returns-clause-last g c =
     all-set (λ book. book.is_refused) (λ book. g.L.Keeper.failed book.keeper) c.args.books.now c.number_for-number.result c.index-books-number.result c.open.new.self c.number_for-number.ensures.within
     (lasts-same (λ book. book.is_refused) (λ book. g.L.Keeper.failed book.keeper) (get_or c.args.books.now c.number_for-number.result c.index-books-number.result) c.open.new.self c.open.ensures.refused (ap g.L.Keeper.failed c.open.ensures.keeper))
+
+pub returns-in_err-opening-clause-crash : goal.returns-in_err-opening-clause-crash
+returns-in_err-opening-clause-crash g c = book-same g.L.Keeper.is_honest g.L.Keeper.may_leave c.args.books.now c.number_for-number.result c.index-books-number.result c.open.new.self c.number_for-number.ensures.within c.open.ensures.keeper (ap stored c.in_err-opening.ensures.err)
+
+pub returns-clause-crash : goal.returns-clause-crash
+returns-clause-crash g c =
+    book-same g.L.Keeper.is_honest g.L.Keeper.may_leave c.args.books.now c.number_for-number.result c.index-books-number.result c.open.new.self c.number_for-number.ensures.within c.open.ensures.keeper
+    (stored-begins (get_or c.args.books.now c.number_for-number.result c.index-books-number.result).journal c.open.new.self.journal c.args.key.now c.new.result (hold_of (get_or c.args.books.now c.number_for-number.result c.index-books-number.result).journal c.args.key.now) c.in_ok-opening.ensures.journal)

@@ -6,6 +6,7 @@ use Rattle.mx_shard.specs.Journal.{journal_after}
 use Rattle.mx_world.proofs.PlaceLemmas.{placed-is_at, places-set, journals-set, room-called}
 use Rattle.mx_world.proofs.StorageLemmas.{lasts-called, all-set, only-set, fails-set}
 use Rattle.mx_world.proofs.RefusalLemmas.{is-storage, on_err}
+use Rattle.mx_world.proofs.CrashLemmas.{shard-stored, shard-tried}
 use Rattle.mx_world.proofs.rooms.host_in.Goals as goal
 
 pub host-requires : goal.host-requires
@@ -60,3 +61,15 @@ pub returns-clause-last : goal.returns-clause-last
 returns-clause-last g c =
     all-set (λ shard. shard.is_refused) (λ shard. g.K.Keeper.failed shard.keeper) c.args.shards.now c.number_for-number.result c.index-shards-number.result c.host.new.self c.number_for-number.ensures.within
     (lasts-called (λ shard. shard.is_refused) (λ shard. g.K.Keeper.failed shard.keeper) (get_or c.args.shards.now c.number_for-number.result c.index-shards-number.result) c.host.new.self c.in_ok-answer.ensures.storage c.in_ok-answer.ensures.refused c.in_ok-answer.ensures.stays_refused c.host.ensures.counted)
+
+pub returns-in_err-answer-clause-crash : goal.returns-in_err-answer-clause-crash
+returns-in_err-answer-clause-crash g c =
+    let own : c.as_str.result.now ≡ room_of c.args.offered.now.pdu = c.as_str.ensures.text ∙ c.room_id.ensures in
+    shard-tried g.K.Keeper.is_honest g.K.Keeper.may_leave c.args.shards.now c.number_for-number.result c.index-shards-number.result c.host.new.self c.number_for-number.ensures.within c.host.ensures.honest
+    c.from_residual.result c.in_err-answer.field-0.0 c.new.result (room_of c.args.offered.now.pdu) (to_host c.args.offered.now) c.from_residual.ensures.1 refl c.new.ensures.value
+    (placed-is_at c.args.shards.now (λ shard. shard.place) c.number_for-number.result c.index-shards-number.result (room_of c.args.offered.now.pdu) c.requires
+    (c.number_for-number.ensures.number ∙ ap (place_number (length c.args.shards.now)) own) c.number_for-number.ensures.within)
+    c.host.ensures.place c.in_err-answer.ensures.err c.host.ensures.crash
+
+pub returns-clause-crash : goal.returns-clause-crash
+returns-clause-crash g c = shard-stored g.K.Keeper.is_honest g.K.Keeper.may_leave c.args.shards.now c.number_for-number.result c.index-shards-number.result c.host.new.self c.number_for-number.ensures.within c.host.ensures.honest c.in_ok-answer.ensures.durable

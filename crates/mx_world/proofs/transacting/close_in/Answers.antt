@@ -1,8 +1,10 @@
-use Rattle.std.proofs.Common.{◌≡◌, ◌∙◌, sym, ap, refl, arith, None}
+use Rattle.std.proofs.Common.{◌≡◌, ◌∙◌, sym, ap, subst, refl, arith, None}
 use Rattle.mx_world.specs.Replies.{close_reply, body_of}
 use Rattle.mx_world.specs.Moves.{after_close}
 use Rattle.mx_world.specs.Worlds.{book_journals, holds_of, found, status_found, statuses_of}
 use Rattle.mx_world.proofs.StatusLemmas.{at_same, agrees-begun, close-none, after-close-none, close-more, after-close-more, close-all, closed-all, found-update}
+use Rattle.mx_world.specs.Crashes.{BooksLeave, close_entry}
+use Rattle.mx_world.proofs.CrashLemmas.{books-refused, close-entry}
 use Rattle.mx_world.proofs.transacting.close_in.Goals as goal
 
 pub returns-in_default-clause-reply : goal.returns-in_default-clause-reply
@@ -45,3 +47,13 @@ returns-clause-agree g c =
     (closed-all c.args.going.now.entries c.remove.new.self.entries (book_journals c.args.books.now) (book_journals c.keep_in.new.books) c.args.key.now c.in-Some.transaction.now c.left-left.result c.in_ok-kept.kept (sym c.in-Some.ensures.value) c.left-left.ensures
     (let none : c.left-left.result ≡ 0 = omega arith in none) (c.in_ok-kept.ensures.cases ∙ c.in_ok-reply.ensures ∙ ap body_of c.told.ensures)
     (found-update c.args.going.now c.remove.new.self c.args.key.now c.args.key.now None refl c.remove.ensures.updates) c.in_ok-keep_in.ensures.states c.requires.agree).1
+
+pub returns-in_err-keep_in-clause-crash : goal.returns-in_err-keep_in-clause-crash
+returns-in_err-keep_in-clause-crash g c =
+    books-refused g.L.Keeper.is_honest g.L.Keeper.may_leave c.from_residual-in_err-keep_in.result c.in_err-keep_in.field-0.0 (close_entry c.args.key.now (statuses_of c.args.going.now.entries (book_journals c.args.books.now) c.args.key.now))
+    c.args.books.now c.keep_in.new.books c.from_residual-in_err-keep_in.ensures.1
+    (subst (λ tried. BooksLeave g.L.Keeper.is_honest g.L.Keeper.may_leave tried c.args.books.now c.keep_in.new.books)
+    (close-entry c.args.key.now c.in-Some.transaction.now.rest c.in-Some.transaction.now.told c.left-left.result c.in_ok-kept.kept c.left-left.ensures
+    (let none : c.left-left.result ≡ 0 = omega arith in none) (c.in_ok-kept.ensures.cases ∙ c.in_ok-reply.ensures ∙ ap body_of c.told.ensures)
+    ∙ ap (λ f. close_entry c.args.key.now (status_found f (holds_of (book_journals c.args.books.now) c.args.key.now))) c.in-Some.ensures.value)
+    c.in_err-keep_in.ensures.crash)

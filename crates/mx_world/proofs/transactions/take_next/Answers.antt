@@ -1,9 +1,11 @@
-use Rattle.std.proofs.Common.{◌≡◌, ◌∙◌, ◌+◌, ◌<◌, ◌++◌, ◌∷◌, ℕ, List, [], length, drop, get_or, Err, sym, ap}
+use Rattle.std.proofs.Common.{◌≡◌, ◌∙◌, ◌+◌, ◌<◌, ◌++◌, ◌∷◌, ℕ, List, [], length, drop, get_or, Err, Some, sym, ap}
 use Rattle.std.proofs.lemmas.List.{drop_more, length_push}
 use Rattle.mx_room.specs.Offer.{Offered}
 use Rattle.mx_world.specs.declared.answers.Told.{Told}
 use Rattle.mx_world.specs.declared.steps.StepReply.TheVariants.{OfEvent}
 use Rattle.mx_world.proofs.RefusalLemmas.{is-storage}
+use Rattle.mx_shard.specs.LoneRoom.{to_offer}
+use Rattle.mx_world.proofs.CrashLemmas.{shards-refused}
 use Rattle.mx_world.proofs.transactions.take_next.Goals as goal
 
 -- the first event that is left, and those after it
@@ -52,3 +54,11 @@ returns-clause-only g c =
     let left : drop (length c.args.told.now.items) c.args.events.now ≡ c.in-Some.offered.now ∷ drop (length c.args.told.now.items + 1) c.args.events.now =
     next_left c.args.events.now c.len.result (length c.args.told.now.items) c.in-Some.offered.now (c.len.ensures ∙ c.args.told.now.ok.0) c.in-Some.ensures.lookup.3.0 c.in-Some.ensures.lookup.1 in
     rw left c.offer_in.ensures.only
+
+pub returns-in_err-outcome-clause-crash : goal.returns-in_err-outcome-clause-crash
+returns-in_err-outcome-clause-crash g c =
+    let left : drop (length c.args.told.now.items) c.args.events.now ≡ c.in-Some.offered.now ∷ drop (length c.args.told.now.items + 1) c.args.events.now =
+    next_left c.args.events.now c.len.result (length c.args.told.now.items) c.in-Some.offered.now (c.len.ensures ∙ c.args.told.now.ok.0) c.in-Some.ensures.lookup.3.0 c.in-Some.ensures.lookup.1 in
+    rw left
+    (shards-refused g.K.Keeper.is_honest g.K.Keeper.may_leave c.from_residual-in_err-outcome.result c.in_err-outcome.field-0.0 (Some (to_offer c.args.origin.now c.in-Some.offered.now)) c.args.shards.now c.offer_in.new.shards
+    c.from_residual-in_err-outcome.ensures.1 c.in_err-outcome.ensures.crash)

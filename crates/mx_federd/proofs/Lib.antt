@@ -1,0 +1,2 @@
+pub mod SeatSending
+pub mod CallerLemmas

@@ -1,0 +1,45 @@
+-- What a request is answered by an engine, and what a refused one leaves.
+use Rattle.std.proofs.Common.{◌≡◌, ℕ, List, refl, sym, subst, inl}
+use Rattle.std.specs.Prelude.{Ok, Err}
+use Rattle.mx_world.specs.Offers.{Judge}
+use Rattle.mx_engine.specs.Views.{BerthView, AreSameViews}
+use Rattle.mx_engine.proofs.TurnLemmas.{nothing_refl}
+use Rattle.mx_engine.proofs.OfferingLemmas.{same_refl}
+use Rattle.mx_wire.specs.Calls.{Call, Request, sends, asks, joins, call_of}
+use Rattle.mx_wire.specs.ReplyBodies.{Response, failure}
+use Rattle.mx_wire.specs.Requests.{Read}
+use Rattle.mx_wire.specs.Responses.{ShardViews, BookViews, IsCallAnswered, IsCallRefused, IsReadAnswered, IsReadRefused, IsResponse, IsUnanswered}
+use Rattle.mx_wire.specs.declared.faults.Fault.{Fault}
+
+-- a request that makes a call is answered as the call
+pub call_answered : (judges : Judge) (server : List ℕ) (now caller : ℕ) (shards : ShardViews) (books : BookViews) (shards' : ShardViews) (books' : BookViews) (r : Request) (call : Call) (response : Response) → call_of judges server r ≡ Ok call → IsCallAnswered server now caller call shards books shards' books' response → IsResponse judges server now caller shards books shards' books' r response
+call_answered judges server now caller shards books shards' books' r call response is told =
+    subst (λ read. IsReadAnswered server now caller read shards books shards' books' response) (sym is) told
+
+-- and it leaves what the call leaves
+pub call_refused : (judges : Judge) (server : List ℕ) (caller : ℕ) (shards : ShardViews) (books : BookViews) (shards' : ShardViews) (books' : BookViews) (r : Request) (call : Call) → call_of judges server r ≡ Ok call → IsCallRefused caller call shards books shards' books' → IsUnanswered judges server caller shards books shards' books' r
+call_refused judges server caller shards books shards' books' r call is left =
+    subst (λ read. IsReadRefused caller read shards books shards' books') (sym is) left
+
+-- a request with a fault is told it
+pub fault_answered : (judges : Judge) (server : List ℕ) (now caller : ℕ) (shards : ShardViews) (books : BookViews) (r : Request) (fault : Fault) (response : Response) → call_of judges server r ≡ Err fault → response ≡ failure fault → IsResponse judges server now caller shards books shards books r response
+fault_answered judges server now caller shards books r fault response is told =
+    subst (λ read. IsReadAnswered server now caller read shards books shards books response) (sym is) (told, refl, refl)
+
+-- where nothing was asked, whatever the request asks for
+none_called : (caller : ℕ) (call : Call) (shards : ShardViews) (books : BookViews) → IsCallRefused caller call shards books shards books
+none_called caller (sends origin txn events) shards books = inl (inl (nothing_refl books, refl))
+none_called caller (asks origin q) shards books = (nothing_refl shards, refl)
+none_called caller (joins origin o) shards books = (inl (nothing_refl shards), refl)
+
+none_read : (caller : ℕ) (read : Read Call) (shards : ShardViews) (books : BookViews) → IsReadRefused caller read shards books shards books
+none_read caller (Ok call) shards books = none_called caller call shards books
+none_read caller (Err fault) shards books = (refl, refl)
+
+pub none_asked : (judges : Judge) (server : List ℕ) (caller : ℕ) (shards : ShardViews) (books : BookViews) (r : Request) → IsUnanswered judges server caller shards books shards books r
+none_asked judges server caller shards books r = none_read caller (call_of judges server r) shards books
+
+-- ---- views
+
+pub same_when : {E : Type 0} (old new : List (BerthView E)) → new ≡ old → AreSameViews old new
+same_when old new is = subst (λ views. AreSameViews old views) (sym is) (same_refl old)

@@ -1,0 +1,81 @@
+-- The reply to a request by an engine that callers share, told by what its caller knows before and afterwards (our own):
+-- of shards and of books.
+use Rattle.std.specs.Prelude.{◌≡◌, ◌⊎◌, ℕ, List, Ok, Err}
+use Rattle.mx_pdu.specs.Event.{room_of}
+use Rattle.mx_room.specs.Queries.{room_named}
+use Rattle.mx_shard.specs.LoneRoom.{to_ask, to_join}
+use Rattle.mx_shard.specs.Journal.{Entry}
+use Rattle.mx_shard.specs.declared.answers.Answer.{Answer}
+use Rattle.mx_book.specs.declared.entries.BookEntry.{BookEntry}
+use Rattle.mx_world.specs.Offers.{Judge}
+use Rattle.mx_world.specs.declared.steps.StepReply.{StepReply}
+use Rattle.mx_world.specs.declared.steps.StepReply.TheVariants as step
+use Rattle.mx_engine.specs.Views.{BerthView, AddsNothing}
+use Rattle.mx_engine.specs.Calls.{IsAnswered, IsAsked}
+use Rattle.mx_engine.specs.Transactions.{IsRefused, IsReplied}
+use Rattle.mx_engine.specs.declared.replies.TransactionReply.{TransactionReply}
+use Rattle.mx_engine.specs.declared.replies.TransactionReply.TheVariants as reply
+use Rattle.mx_wire.specs.Calls.{Call, Request, sends, asks, joins, call_of}
+use Rattle.mx_wire.specs.LineSteps.{first_step, reply_to}
+use Rattle.mx_wire.specs.ReplyBodies.{Response, failure}
+use Rattle.mx_wire.specs.Requests.{Read}
+
+abbrev pub ShardViews : Type 0
+ShardViews = List (BerthView Entry)
+
+abbrev pub BookViews : Type 0
+BookViews = List (BerthView BookEntry)
+
+-- the reply to a transaction, as that to its last step
+abbrev pub last_step_reply : TransactionReply → StepReply
+last_step_reply (reply.Replayed body) = step.Replayed body
+last_step_reply reply.Busy = step.Busy
+last_step_reply (reply.Closed body) = step.Closed body
+
+-- ---- calls
+
+-- The call was answered as the engine may answer it, and the response is the one by that answer. A query adds nothing,
+-- and neither it nor a join touches a book.
+abbrev pub IsCallAnswered : (server : List ℕ) → (now caller : ℕ) → Call → (shards : ShardViews) → (books : BookViews) → (shards' : ShardViews) → (books' : BookViews) → Response → Type 0
+IsCallAnswered server now caller (asks origin q) shards books shards' books' response =
+    (told : Answer) × IsAsked caller (to_ask origin now q) (room_named q) shards shards' told
+    × (response ≡ reply_to server (first_step now (asks origin q)) (step.OfRoom told)) × AddsNothing shards shards' × (books' ≡ books)
+IsCallAnswered server now caller (joins origin o) shards books shards' books' response =
+    (told : Answer) × IsAnswered caller (to_join origin o) (room_of o.pdu) shards shards' told
+    × (response ≡ reply_to server (first_step now (joins origin o)) (step.OfRoom told)) × (books' ≡ books)
+IsCallAnswered server now caller (sends origin txn events) shards books shards' books' response =
+    (told : TransactionReply) × IsReplied caller (record { origin = origin; txn = txn }) events shards books shards' books' told
+    × (response ≡ reply_to server (first_step now (sends origin txn events)) (last_step_reply told))
+
+-- What a call leaves that was refused for memory or storage. A query adds nothing. A join or a transaction was refused
+-- by the engine, or it was answered, and only the bytes of its reply were refused.
+abbrev pub IsCallRefused : (caller : ℕ) → Call → (shards : ShardViews) → (books : BookViews) → (shards' : ShardViews) → (books' : BookViews) → Type 0
+IsCallRefused caller (asks origin q) shards books shards' books' = AddsNothing shards shards' × (books' ≡ books)
+IsCallRefused caller (joins origin o) shards books shards' books' =
+    (AddsNothing shards shards' ⊎ ((told : Answer) × IsAnswered caller (to_join origin o) (room_of o.pdu) shards shards' told))
+    × (books' ≡ books)
+IsCallRefused caller (sends origin txn events) shards books shards' books' =
+    IsRefused caller (record { origin = origin; txn = txn }) events shards books shards' books'
+    ⊎ ((told : TransactionReply) × IsReplied caller (record { origin = origin; txn = txn }) events shards books shards' books' told)
+
+-- ---- requests, by what they ask for or their first fault; at a fault nothing is asked
+
+abbrev pub IsReadAnswered : (server : List ℕ) → (now caller : ℕ) → Read Call → (shards : ShardViews) → (books : BookViews) → (shards' : ShardViews) → (books' : BookViews) → Response → Type 0
+IsReadAnswered server now caller (Ok call) shards books shards' books' response =
+    IsCallAnswered server now caller call shards books shards' books' response
+IsReadAnswered server now caller (Err fault) shards books shards' books' response =
+    (response ≡ failure fault) × (shards' ≡ shards) × (books' ≡ books)
+
+abbrev pub IsReadRefused : (caller : ℕ) → Read Call → (shards : ShardViews) → (books : BookViews) → (shards' : ShardViews) → (books' : BookViews) → Type 0
+IsReadRefused caller (Ok call) shards books shards' books' = IsCallRefused caller call shards books shards' books'
+IsReadRefused caller (Err fault) shards books shards' books' = (shards' ≡ shards) × (books' ≡ books)
+
+-- the response to a request to this server
+abbrev pub IsResponse : Judge → (server : List ℕ) → (now caller : ℕ) → (shards : ShardViews) → (books : BookViews) → (shards' : ShardViews) → (books' : BookViews) → Request → Response → Type 0
+IsResponse judges server now caller shards books shards' books' r response =
+    IsReadAnswered server now caller (call_of judges server r) shards books shards' books' response
+
+-- what a request to this server leaves that was refused for memory or storage
+abbrev pub IsUnanswered : Judge → (server : List ℕ) → (caller : ℕ) → (shards : ShardViews) → (books : BookViews) → (shards' : ShardViews) → (books' : BookViews) → Request → Type 0
+IsUnanswered judges server caller shards books shards' books' r =
+    IsReadRefused caller (call_of judges server r) shards books shards' books'

@@ -1,0 +1,242 @@
+// The replies to requests, by an engine that callers share.
+ghost use Rattle.std.specs.Prelude.{◌≡◌, ◌≢◌, ℕ, IfOk, OnErr};
+ghost use Rattle.mx_engine.specs.Seats.{IsSeatOf, book_views, seat_number, shard_views, verifier_of};
+ghost use Rattle.mx_engine.specs.Views.{AreSameViews};
+ghost use Rattle.mx_wire.specs.Calls.{asks, joins, sends};
+ghost use Rattle.mx_wire.specs.CallsShown.{call_shown, request_shown};
+ghost use Rattle.mx_wire.specs.RepliesShown.{reply_shown};
+ghost use Rattle.mx_wire.specs.ReplyBodies.{failure};
+ghost use Rattle.mx_wire.specs.Responses.{IsCallAnswered, IsCallRefused, IsResponse, IsUnanswered, last_step_reply};
+
+use crate::calls::WireCall;
+use crate::faults::Fault;
+use crate::query_replies::{WireReply, fault_reply};
+use crate::requests::{WireRequest, read_request};
+use crate::routes::Routes;
+use crate::step_replies::{asked_reply, joined_reply, sent_reply};
+use mx_engine::{Engine, Gate, Seat, TransactionReply};
+use mx_ident::ServerName;
+use mx_keeper::{BookRow, CallError, Keeper, ShardRow, TransactionId};
+use mx_pdu::{Offered, Verifier};
+use mx_room::{Moment, Query};
+use mx_world::{StepReply, TransactionKey};
+use std::alloc::Global;
+use std::sync::Wait;
+
+/// The reply of the server of this name to a request at this moment, by an engine that callers share.
+///
+/// A request with a fault is told it, and the engine is not called. Else the engine is called once, and the reply is the
+/// one by its answer. `Memory` where no memory is left, `Storage` where what keeps rows failed, now or before. Then a
+/// query has added nothing; a join or a transaction was refused by the engine, or it was answered, and no memory was
+/// left for the bytes of its reply.
+///
+/// It waits where the engine does. Source: the Server-Server API of the Matrix specification: "Request Authentication",
+/// "Transactions", "Retrieving events", "Backfilling and retrieving missing events" and "Joining Rooms".
+pub fn respond<
+    K: Keeper<Row = ShardRow>,
+    L: Keeper<Row = BookRow>,
+    V: Verifier + Drop,
+    G: Gate + Drop,
+    R: Wait,
+>(
+    rt: &R,
+    alloc: Global,
+    routes: &Routes,
+    engine: &Engine<K, L, V, G>,
+    seat: &mut Seat<K, L>,
+    name: &ServerName,
+    now: Moment,
+    request: &WireRequest,
+) -> Result<WireReply, CallError>
+    requires { IsSeatOf engine.now seat.old }
+    ensures seat { IsSeatOf engine.now seat.new }
+    ensures number { seat_number seat.new ≡ seat_number seat.old }
+    ensures same_shards { AreSameViews (shard_views seat.old) (shard_views seat.new) }
+    ensures same_books { AreSameViews (book_views seat.old) (book_views seat.new) }
+    ensures reply { IfOk result (λ reply. IsResponse (V.judges (verifier_of engine.now)) name.now now (seat_number seat.old)
+        (shard_views seat.old) (book_views seat.old) (shard_views seat.new) (book_views seat.new) (request_shown request.now) (reply_shown reply)) }
+    ensures err { OnErr result (IsUnanswered (V.judges (verifier_of engine.now)) name.now (seat_number seat.old)
+        (shard_views seat.old) (book_views seat.old) (shard_views seat.new) (book_views seat.new) (request_shown request.now)) }
+{
+    let verifier = engine.verifier();
+    match read_request(alloc, routes, name, verifier, request) {
+        Ok(call) => {
+            let reply = answer_call(rt, alloc, engine, seat, name, now, call)?;
+            Ok(reply)
+        }
+        Err(fault) => {
+            let reply = told_fault(alloc, fault)?;
+            Ok(reply)
+        }
+    }
+}
+
+// The reply that tells a fault, unless it is want of memory.
+fn told_fault(alloc: Global, fault: Fault) -> Result<WireReply, CallError>
+    ensures other { IfOk result (λ _. fault ≢ Fault.Memory) }
+    ensures reply { IfOk result (λ reply. reply_shown reply ≡ failure fault) }
+{
+    match fault {
+        Fault::Memory => Err(CallError::Memory),
+        fault => {
+            let reply = fault_reply(alloc, fault)?;
+            Ok(reply)
+        }
+    }
+}
+
+// The reply to a call.
+fn answer_call<
+    K: Keeper<Row = ShardRow>,
+    L: Keeper<Row = BookRow>,
+    V: Verifier + Drop,
+    G: Gate + Drop,
+    R: Wait,
+>(
+    rt: &R,
+    alloc: Global,
+    engine: &Engine<K, L, V, G>,
+    seat: &mut Seat<K, L>,
+    name: &ServerName,
+    now: Moment,
+    call: WireCall,
+) -> Result<WireReply, CallError>
+    requires { IsSeatOf engine.now seat.old }
+    ensures seat { IsSeatOf engine.now seat.new }
+    ensures number { seat_number seat.new ≡ seat_number seat.old }
+    ensures same_shards { AreSameViews (shard_views seat.old) (shard_views seat.new) }
+    ensures same_books { AreSameViews (book_views seat.old) (book_views seat.new) }
+    ensures reply { IfOk result (λ reply. IsCallAnswered name.now now (seat_number seat.old) (call_shown call)
+        (shard_views seat.old) (book_views seat.old) (shard_views seat.new) (book_views seat.new) (reply_shown reply)) }
+    ensures err { OnErr result (IsCallRefused (seat_number seat.old) (call_shown call)
+        (shard_views seat.old) (book_views seat.old) (shard_views seat.new) (book_views seat.new)) }
+{
+    match call {
+        WireCall::Sends {
+            origin,
+            transaction,
+            events,
+        } => {
+            let txn = TransactionId::new(transaction);
+            let key = TransactionKey { origin, txn };
+            let reply = answer_transaction(rt, alloc, engine, seat, name, &key, &events)?;
+            Ok(reply)
+        }
+        WireCall::Asks { origin, query } => {
+            let reply = answer_query(rt, alloc, engine, seat, name, &origin, now, &query)?;
+            Ok(reply)
+        }
+        WireCall::Joins { origin, event } => {
+            let reply = answer_join(rt, alloc, engine, seat, name, &origin, &event)?;
+            Ok(reply)
+        }
+    }
+}
+
+// The reply to a query.
+fn answer_query<
+    K: Keeper<Row = ShardRow>,
+    L: Keeper<Row = BookRow>,
+    V: Verifier + Drop,
+    G: Gate + Drop,
+    R: Wait,
+>(
+    rt: &R,
+    alloc: Global,
+    engine: &Engine<K, L, V, G>,
+    seat: &mut Seat<K, L>,
+    name: &ServerName,
+    origin: &ServerName,
+    now: Moment,
+    query: &Query,
+) -> Result<WireReply, CallError>
+    requires { IsSeatOf engine.now seat.old }
+    ensures seat { IsSeatOf engine.now seat.new }
+    ensures number { seat_number seat.new ≡ seat_number seat.old }
+    ensures same_shards { AreSameViews (shard_views seat.old) (shard_views seat.new) }
+    ensures same_books { AreSameViews (book_views seat.old) (book_views seat.new) }
+    ensures reply { IfOk result (λ reply. IsCallAnswered name.now now (seat_number seat.old) (asks origin.now query.now)
+        (shard_views seat.old) (book_views seat.old) (shard_views seat.new) (book_views seat.new) (reply_shown reply)) }
+    ensures err { OnErr result (IsCallRefused (seat_number seat.old) (asks origin.now query.now)
+        (shard_views seat.old) (book_views seat.old) (shard_views seat.new) (book_views seat.new)) }
+{
+    let told = engine.ask(rt, seat, origin, now, query)?;
+    let last = StepReply::OfRoom(told);
+    let reply = asked_reply(alloc, name, now, query, last)?;
+    Ok(reply)
+}
+
+// The reply to a join.
+fn answer_join<
+    K: Keeper<Row = ShardRow>,
+    L: Keeper<Row = BookRow>,
+    V: Verifier + Drop,
+    G: Gate + Drop,
+    R: Wait,
+>(
+    rt: &R,
+    alloc: Global,
+    engine: &Engine<K, L, V, G>,
+    seat: &mut Seat<K, L>,
+    name: &ServerName,
+    origin: &ServerName,
+    event: &Offered,
+) -> Result<WireReply, CallError>
+    requires { IsSeatOf engine.now seat.old }
+    ensures seat { IsSeatOf engine.now seat.new }
+    ensures number { seat_number seat.new ≡ seat_number seat.old }
+    ensures same_shards { AreSameViews (shard_views seat.old) (shard_views seat.new) }
+    ensures same_books { AreSameViews (book_views seat.old) (book_views seat.new) }
+    ensures reply { IfOk result (λ reply. (now : ℕ) → IsCallAnswered name.now now (seat_number seat.old) (joins origin.now event.now)
+        (shard_views seat.old) (book_views seat.old) (shard_views seat.new) (book_views seat.new) (reply_shown reply)) }
+    ensures err { OnErr result (IsCallRefused (seat_number seat.old) (joins origin.now event.now)
+        (shard_views seat.old) (book_views seat.old) (shard_views seat.new) (book_views seat.new)) }
+{
+    let told = engine.join_offered(rt, seat, origin, event)?;
+    let last = StepReply::OfRoom(told);
+    let reply = joined_reply(alloc, name, last)?;
+    Ok(reply)
+}
+
+// The reply to a transaction.
+fn answer_transaction<
+    K: Keeper<Row = ShardRow>,
+    L: Keeper<Row = BookRow>,
+    V: Verifier + Drop,
+    G: Gate + Drop,
+    R: Wait,
+>(
+    rt: &R,
+    alloc: Global,
+    engine: &Engine<K, L, V, G>,
+    seat: &mut Seat<K, L>,
+    name: &ServerName,
+    key: &TransactionKey,
+    events: &[Offered],
+) -> Result<WireReply, CallError>
+    requires { IsSeatOf engine.now seat.old }
+    ensures seat { IsSeatOf engine.now seat.new }
+    ensures number { seat_number seat.new ≡ seat_number seat.old }
+    ensures same_shards { AreSameViews (shard_views seat.old) (shard_views seat.new) }
+    ensures same_books { AreSameViews (book_views seat.old) (book_views seat.new) }
+    ensures reply { IfOk result (λ reply. (now : ℕ) → IsCallAnswered name.now now (seat_number seat.old) (sends key.now.origin key.now.txn events.now)
+        (shard_views seat.old) (book_views seat.old) (shard_views seat.new) (book_views seat.new) (reply_shown reply)) }
+    ensures err { OnErr result (IsCallRefused (seat_number seat.old) (sends key.now.origin key.now.txn events.now)
+        (shard_views seat.old) (book_views seat.old) (shard_views seat.new) (book_views seat.new)) }
+{
+    let told = engine.transaction_offered(rt, alloc, seat, key, events)?;
+    let last = to_step_reply(told);
+    let reply = sent_reply(alloc, last)?;
+    Ok(reply)
+}
+
+// The reply to a transaction, as that to its last step.
+fn to_step_reply(reply: TransactionReply) -> StepReply
+    ensures { result ≡ last_step_reply reply }
+{
+    match reply {
+        TransactionReply::Replayed(body) => StepReply::Replayed(body),
+        TransactionReply::Busy => StepReply::Busy,
+        TransactionReply::Closed(body) => StepReply::Closed(body),
+    }
+}
