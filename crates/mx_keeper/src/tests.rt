@@ -22,25 +22,13 @@ fn refused<E: Drop>(_error: E) -> AllocError {
 }
 
 // The calls under test, with no clauses of their own: a test then carries no more than what they answer.
-fn adopt<S: Alter + Drop, R: TableRow>(
-    alloc: Global,
-    connection: Connection<S>,
-) -> Result<SqliteKeeper<S, R>, NotAdopted<S>> {
-    SqliteKeeper::adopt(alloc, connection)
-}
-
 fn take_in<S: Alter + Drop, R: TableRow>(
     alloc: Global,
     connection: Connection<S>,
 ) -> Result<SqliteKeeper<S, R>, KeeperFault> {
-    match adopt(alloc, connection) {
+    match SqliteKeeper::adopt(alloc, connection) {
         Ok(keeper) => Ok(keeper),
-        Err(
-            NotAdopted {
-                fault,
-                connection: _,
-            },
-        ) => Err(fault),
+        Err(NotAdopted { fault, .. }) => Err(fault),
     }
 }
 
