@@ -1,13 +1,16 @@
 // Callers of an engine in threads of their own, for the tests.
-ghost use Rattle.std.specs.Prelude.{◌≡◌, ◌<◌, ◌≤◌, ℕ, All, IfOk, length, get_or, map};
+ghost use Rattle.std.specs.Prelude.{◌≡◌, ◌<◌, ◌≤◌, ℕ, All, IfOk, IsTrue, length, get_or, map};
 ghost use Rattle.mx_engine.specs.Seats.{IsSeatOf, seat_number};
+ghost use Rattle.mx_world.specs.Worlds.{none_open};
 ghost use Rattle.mx_federd.specs.Callers.{AreTheSeats};
 
 use crate::room_events::{RoomEvents, key_of, message, refused};
-use mx_book::TransactionKey;
+use crate::server_steps;
+use mx_book::{Book, TransactionKey};
 use mx_engine::{Engine, Gate, Seat, TransactionReply};
-use mx_keeper::{BookRow, MemoryKeeper, ShardRow, Storable};
+use mx_keeper::{BookRow, Keeper, MemoryKeeper, ShardRow, Storable};
 use mx_pdu::{Pdu, PresenceVerifier};
+use mx_shard::Shard;
 use mx_world::World;
 use std::alloc::{AllocError, Global};
 use std::sync::atomic::{AtomicBool, Ordering};
@@ -125,19 +128,35 @@ fn keepers<R: Storable>(alloc: Global) -> Result<Vec<MemoryKeeper<R>>, AllocErro
     Ok(keepers)
 }
 
-// An engine of two shards that host no room, and its seats.
+// A server of two shards that hosts these rooms.
+fn hosted(alloc: Global, rooms: &[RoomEvents]) -> Result<OneThread, AllocError>
+    ensures { IfOk result (λ world. IsTrue (none_open world)) }
+{
+    let mut world = World::new(alloc, keepers(alloc)?, keepers(alloc)?).map_err(refused)?;
+    for of in rooms {
+        server_steps::host(alloc, &mut world, of.create).map_err(refused)?;
+        server_steps::send(alloc, &mut world, of.room, &of.others).map_err(refused)?;
+    }
+    if !world.none_open() {
+        return Err(AllocError);
+    }
+    Ok(world)
+}
+
+// An engine of two shards that host these rooms, and its seats.
 pub fn opened<R: Wait>(
     rt: &R,
     alloc: Global,
     gate: MeetingGate,
     seats: u32,
+    rooms: &[RoomEvents],
 ) -> Result<(SharedEngine, Vec<Seat<Rooms, Replies>>), AllocError>
     requires some { 1 ≤ seats }
     requires few { seats ≤ 64 }
     ensures seated { IfOk result (λ made. AreTheSeats made.0 made.1.items) }
     ensures length { IfOk result (λ made. length made.1.items ≡ seats) }
 {
-    let world = World::new(alloc, keepers(alloc)?, keepers(alloc)?).map_err(refused)?;
+    let world = hosted(alloc, rooms)?;
     let made = Engine::open(rt, alloc, world, PresenceVerifier, gate, seats)?;
     Ok(made)
 }
@@ -281,4 +300,37 @@ pub fn closed<R: Wait>(
 {
     let seats = seats_of(alloc, callers)?;
     Ok(engine.close(rt, alloc, seats))
+}
+
+// The rows of each shard and of each book of a server.
+pub fn kept(
+    alloc: Global,
+    world: OneThread,
+) -> Result<(Vec<Vec<ShardRow>>, Vec<Vec<BookRow>>), AllocError> {
+    let (shards, books) = world.into_parts();
+    Ok((kept_by_shards(alloc, shards)?, kept_by_books(alloc, books)?))
+}
+
+fn kept_by_shards(
+    alloc: Global,
+    shards: Vec<Shard<Rooms>>,
+) -> Result<Vec<Vec<ShardRow>>, AllocError> {
+    let mut kept = Vec::new(alloc);
+    for shard in shards {
+        let mut keeper = shard.into_keeper();
+        kept.push(keeper.rows().map_err(refused)?)?;
+    }
+    Ok(kept)
+}
+
+fn kept_by_books(
+    alloc: Global,
+    books: Vec<Book<Replies>>,
+) -> Result<Vec<Vec<BookRow>>, AllocError> {
+    let mut kept = Vec::new(alloc);
+    for book in books {
+        let mut keeper = book.into_keeper();
+        kept.push(keeper.rows().map_err(refused)?)?;
+    }
+    Ok(kept)
 }

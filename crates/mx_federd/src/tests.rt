@@ -1,5 +1,4 @@
-use crate::serving::ServeOptions;
-use crate::{Serve, main_with};
+use crate::main_with;
 use std::alloc::{AllocError, Global};
 use std::io::{self, Read, Write};
 use std::test::Fail;
@@ -11,16 +10,6 @@ const SPELLED_OTHERWISE: &str =
     " { \"unsigned\":{\"age\":5},\"type\" : \"m.room.power_levels\",\"state_key\":\"\",\n\"signatures\":{\"a.example\":{\"ed25519:1\":\"s\"}},\"sender\":\"@a:a.example\",\"room_id\":\"!r:a.example\",\"prev_events\":[ ],\"origin_server_ts\":40,\"hashes\":{\"sha256\":\"x\"},\"depth\":4,\"content\":{\"users\":{\"@a:a.example\":100},\"notifications\":{\"room\":50},\"invite\":50,\"ban\":50},\"auth_events\":[]}\r\n";
 
 const HEAD: &str = "id $T88qUID58cSwgtjrzS_C35dNVOdZei7Dk6AJtTNbu9U\nhash bad\ncanonical ";
-
-// No test of the words serves.
-#[derive(Drop)]
-struct NoServer;
-
-impl Serve for NoServer {
-    fn serve<W: Write, E: Write>(&self, _options: ServeOptions, _out: &mut W, _err: &mut E) -> u8 {
-        9
-    }
-}
 
 // What a run of the program leaves.
 #[derive(Drop)]
@@ -38,7 +27,7 @@ fn run_words(alloc: Global, words: &[&str], input: &[u8]) -> Result<Outcome, All
     let mut out = Vec::new(alloc);
     let mut err = Vec::new(alloc);
     let mut reader = input;
-    let status = main_with(alloc, &NoServer, &all, &mut reader, &mut out, &mut err);
+    let status = main_with(alloc, &all, &mut reader, &mut out, &mut err);
     Ok(Outcome { status, out, err })
 }
 
@@ -138,29 +127,6 @@ fn words_of_replay(rt: HostRuntime) -> Result<(), Fail> {
     Ok(())
 }
 
-#[test]
-fn words_of_serve(rt: HostRuntime) -> Result<(), Fail> {
-    let alloc = rt.alloc();
-    for (word, value, status) in [
-        ("--port", "0", 9),
-        ("--port", "65535", 9),
-        ("--port", "65536", 2),
-        ("--threads", "64", 9),
-        ("--threads", "0", 2),
-        ("--threads", "65", 2),
-        ("--connections", "256", 9),
-        ("--connections", "257", 2),
-        ("--host", "rooms.jsonl", 9),
-        ("--name", "", 2),
-    ] {
-        let words = ["mx_federd", "serve", "--name=a", "--data", "d", word, value];
-        let ran = run_words(alloc, &words, b"")?;
-        assert_eq!(rt; ran.status, status, "at {word} {value}");
-        assert!(rt; ran.out.is_empty());
-    }
-    Ok(())
-}
-
 // Fails at once, as a reader and as a writer.
 #[derive(Drop)]
 struct Broken;
@@ -191,13 +157,13 @@ fn failed_reads_of_a_log_and_writes_of_answers(rt: HostRuntime) -> Result<(), Fa
     ]?;
     let mut out = Vec::new(alloc);
     let mut err = Vec::new(alloc);
-    let status = main_with(alloc, &NoServer, &words, &mut Broken, &mut out, &mut err);
+    let status = main_with(alloc, &words, &mut Broken, &mut out, &mut err);
     assert_eq!(rt; err.as_slice(), b"failed read or write\n".as_slice());
     assert_eq!(rt; status, 1);
     assert!(rt; out.is_empty());
     let mut reader = b"{}\n".as_slice();
     let mut err = Vec::new(alloc);
-    let status = main_with(alloc, &NoServer, &words, &mut reader, &mut Broken, &mut err);
+    let status = main_with(alloc, &words, &mut reader, &mut Broken, &mut err);
     assert_eq!(rt; err.as_slice(), b"failed read or write\n".as_slice());
     assert_eq!(rt; status, 1);
     Ok(())
@@ -212,12 +178,12 @@ fn failed_reads_and_writes(rt: HostRuntime) -> Result<(), Fail> {
     ]?;
     let mut out = Vec::new(alloc);
     let mut err = Vec::new(alloc);
-    let status = main_with(alloc, &NoServer, &words, &mut Broken, &mut out, &mut err);
+    let status = main_with(alloc, &words, &mut Broken, &mut out, &mut err);
     assert_eq!(rt; err.as_slice(), b"failed read or write\n".as_slice());
     assert_eq!(rt; status, 1);
     let mut reader = POWER_LEVELS.as_bytes();
     let mut err = Vec::new(alloc);
-    let status = main_with(alloc, &NoServer, &words, &mut reader, &mut Broken, &mut err);
+    let status = main_with(alloc, &words, &mut reader, &mut Broken, &mut err);
     assert_eq!(rt; err.as_slice(), b"failed read or write\n".as_slice());
     assert_eq!(rt; status, 1);
     Ok(())
