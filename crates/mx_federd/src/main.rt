@@ -27,10 +27,6 @@ mod room_events;
 #[cfg(test)]
 mod server_steps;
 #[cfg(test)]
-mod stored_servers;
-#[cfg(test)]
-mod stored_tests;
-#[cfg(test)]
 mod tests;
 
 /// Runs the program on the words of its command line, the first of which is its name, and gives its exit status:

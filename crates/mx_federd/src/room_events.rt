@@ -67,30 +67,6 @@ pub const SECOND_ROOM: RoomEvents = RoomEvents {
     ],
 };
 
-// A sets the first room's topic.
-pub const TOPIC_OF_A: &str =
-    "{\"auth_events\":[\"$qLRaZ6LK0EzM7N0QAK7zbj4nIEs8YGhE5HTIHgR9EG8\",\"$w5oFWCoXM5r12liOySpumqFyyCcft_HlBTfvR4_TmJ0\",\"$1LEN92gsYmlzXoE_cqCPy5a5VjO2c1gh7MBh-DVPZI4\"],\"content\":{\"topic\":\"a\"},\"depth\":7,\"hashes\":{\"sha256\":\"tP6hbcVUdaJD4jUeHGX2L99IN8obGZLoEyYITSH7P40\"},\"origin_server_ts\":70,\"prev_events\":[\"$1brV-WBZindaj3lrhUS0tumu0XX2Q2ivUCaLElTbItE\"],\"room_id\":\"!r:a.example\",\"sender\":\"@a:a.example\",\"signatures\":{\"a.example\":{\"ed25519:1\":\"s\"}},\"state_key\":\"\",\"type\":\"m.room.topic\"}";
-
-pub const ID_OF_TOPIC_OF_A: &str = "$GQHX2uF7upk8V11vVzmRkgsTBvmSttN0riN2CeuII1c";
-
-// Behind that A takes B's power away.
-pub const LOWERED_LEVELS: &str =
-    "{\"auth_events\":[\"$qLRaZ6LK0EzM7N0QAK7zbj4nIEs8YGhE5HTIHgR9EG8\",\"$w5oFWCoXM5r12liOySpumqFyyCcft_HlBTfvR4_TmJ0\",\"$1LEN92gsYmlzXoE_cqCPy5a5VjO2c1gh7MBh-DVPZI4\"],\"content\":{\"users\":{\"@a:a.example\":100,\"@b:b.example\":0,\"@c:c.example\":50}},\"depth\":8,\"hashes\":{\"sha256\":\"pCaeBpy07zMj/w/XgzgXqONuzMbub5a2Vg2zDMb0xWY\"},\"origin_server_ts\":80,\"prev_events\":[\"$GQHX2uF7upk8V11vVzmRkgsTBvmSttN0riN2CeuII1c\"],\"room_id\":\"!r:a.example\",\"sender\":\"@a:a.example\",\"signatures\":{\"a.example\":{\"ed25519:1\":\"s\"}},\"state_key\":\"\",\"type\":\"m.room.power_levels\"}";
-
-pub const ID_OF_LOWERED_LEVELS: &str = "$lSfvrP_PMcVdIaPB7Aog6HZlWic_EjVV5ImB03yihWE";
-
-// Beside that B sets the topic.
-pub const TOPIC_OF_B: &str =
-    "{\"auth_events\":[\"$qLRaZ6LK0EzM7N0QAK7zbj4nIEs8YGhE5HTIHgR9EG8\",\"$1LEN92gsYmlzXoE_cqCPy5a5VjO2c1gh7MBh-DVPZI4\",\"$cPPf7czzvsc2bvSrh_bbY6SEK6SZBvb9QUYtQrHHtr0\"],\"content\":{\"topic\":\"b\"},\"depth\":8,\"hashes\":{\"sha256\":\"4YkwBwk00KsUP2KsEkzhCk6h4dJmaUST7DlbxaXQFoA\"},\"origin_server_ts\":80,\"prev_events\":[\"$GQHX2uF7upk8V11vVzmRkgsTBvmSttN0riN2CeuII1c\"],\"room_id\":\"!r:a.example\",\"sender\":\"@b:b.example\",\"signatures\":{\"b.example\":{\"ed25519:1\":\"s\"}},\"state_key\":\"\",\"type\":\"m.room.topic\"}";
-
-pub const ID_OF_TOPIC_OF_B: &str = "$9KYrh8023eo1KzT_XSSNCMT937OsZo3N6CQ6u1e5FYY";
-
-// Behind the power levels A sends a message.
-pub const LAST_MESSAGE: &str =
-    "{\"auth_events\":[\"$qLRaZ6LK0EzM7N0QAK7zbj4nIEs8YGhE5HTIHgR9EG8\",\"$w5oFWCoXM5r12liOySpumqFyyCcft_HlBTfvR4_TmJ0\",\"$lSfvrP_PMcVdIaPB7Aog6HZlWic_EjVV5ImB03yihWE\"],\"content\":{\"body\":\"m\"},\"depth\":9,\"hashes\":{\"sha256\":\"+5yAEw4BnNtbW08Ic063sPs4yNl12PdFGRcAQRAtHOk\"},\"origin_server_ts\":90,\"prev_events\":[\"$lSfvrP_PMcVdIaPB7Aog6HZlWic_EjVV5ImB03yihWE\"],\"room_id\":\"!r:a.example\",\"sender\":\"@a:a.example\",\"signatures\":{\"a.example\":{\"ed25519:1\":\"s\"}},\"type\":\"m.room.message\"}";
-
-pub const ID_OF_LAST_MESSAGE: &str = "$vJP72EMKftPaJ_vUL1UI_jIQlvp_2TJzIL-_L0oE1MM";
-
 // Every other refusal would be seen in a test where memory is ample.
 pub fn refused<E: Drop>(_error: E) -> AllocError {
     AllocError

@@ -7,9 +7,13 @@ use mx_pdu::Pdu;
 use serde_json::Value;
 use sqlite::{Alter, Connection, Error, MemStore};
 use std::alloc::{AllocError, Global};
+use std::fs;
 use std::test::Fail;
 
-// The table as SQLite is told to make it.
+// The tables as SQLite is told to make them.
+const KEPT: &str =
+    "CREATE TABLE kept (place INTEGER PRIMARY KEY, room TEXT NOT NULL, event TEXT NOT NULL, caller INTEGER NOT NULL)";
+
 const REPLIES: &str =
     "CREATE TABLE replies (place INTEGER PRIMARY KEY, origin TEXT NOT NULL, txn TEXT NOT NULL, reply TEXT NOT NULL, UNIQUE (origin, txn))";
 
@@ -22,13 +26,25 @@ fn refused<E: Drop>(_error: E) -> AllocError {
 }
 
 // The calls under test, with no clauses of their own: a test then carries no more than what they answer.
+fn adopt<S: Alter + Drop, R: TableRow>(
+    alloc: Global,
+    connection: Connection<S>,
+) -> Result<SqliteKeeper<S, R>, NotAdopted<S>> {
+    SqliteKeeper::adopt(alloc, connection)
+}
+
 fn take_in<S: Alter + Drop, R: TableRow>(
     alloc: Global,
     connection: Connection<S>,
 ) -> Result<SqliteKeeper<S, R>, KeeperFault> {
-    match SqliteKeeper::adopt(alloc, connection) {
+    match adopt(alloc, connection) {
         Ok(keeper) => Ok(keeper),
-        Err(NotAdopted { fault, .. }) => Err(fault),
+        Err(
+            NotAdopted {
+                fault,
+                connection: _,
+            },
+        ) => Err(fault),
     }
 }
 
@@ -68,8 +84,32 @@ fn after_a_refusal<S: Alter + Drop, R: TableRow>(
     Ok((is_refused, rows, keeper.failures()))
 }
 
+// Whether a connection is given back with this fault, and still counts what the file lists.
+fn is_refused<S: Alter + Drop, R: TableRow>(
+    alloc: Global,
+    connection: Connection<S>,
+    wanted: KeeperFault,
+    listed: i64,
+) -> Result<bool, Error> {
+    match adopt::<S, R>(alloc, connection) {
+        Ok(_keeper) => Ok(false),
+        Err(
+            NotAdopted {
+                fault,
+                mut connection,
+            },
+        ) => Ok(fault == wanted && count(&mut connection)? == listed),
+    }
+}
+
 fn run<S: Alter>(connection: &mut Connection<S>, statements: &str) -> Result<(), Error> {
     connection.execute_batch(statements)
+}
+
+fn count<S: Alter>(connection: &mut Connection<S>) -> Result<i64, Error> {
+    connection
+        .query_row("SELECT count(*) FROM sqlite_schema", &[])?
+        .get(0)
 }
 
 fn book_row(alloc: Global, origin: &str, txn: &str, reply: &str) -> Result<BookRow, AllocError> {
@@ -134,5 +174,86 @@ fn a_second_reply_is_refused(rt: HostRuntime) -> Result<(), Fail> {
     let connection = keep(alloc, opened(alloc, "")?, &first, &second)?;
     let told = after_a_refusal(alloc, connection, &first, &third)?;
     assert_eq!(rt; told, (true, 3, 1));
+    Ok(())
+}
+
+#[test]
+fn a_file_with_something_else_is_refused(rt: HostRuntime) -> Result<(), Fail> {
+    let alloc = rt.alloc();
+    for (statements, wanted, listed) in [
+        ("CREATE TABLE kept (place INTEGER)", KeeperFault::Table, 1),
+        (REPLIES, KeeperFault::Table, 2),
+        ("BEGIN", KeeperFault::Store, 0),
+    ] {
+        let connection = opened(alloc, statements)?;
+        assert!(rt; is_refused::<MemStore, ShardRow>(alloc, connection, wanted, listed)?);
+    }
+    Ok(())
+}
+
+// The table with one row, whose event has this text before it.
+fn one_row(
+    alloc: Global,
+    place: i64,
+    room: &str,
+    before: &str,
+    caller: i64,
+) -> Result<String, AllocError> {
+    format!(in alloc;
+        "{KEPT}; INSERT INTO kept VALUES ({place}, '{room}', '{before}{EVENT}', {caller})"
+    )
+}
+
+#[test]
+fn rows_that_do_not_read_are_refused(rt: HostRuntime) -> Result<(), Fail> {
+    let alloc = rt.alloc();
+    for (place, room, before, caller) in [
+        (1, "!r:a.example", "", 4294967296),
+        (1, "!r:a.example", "", -1),
+        (2, "!r:a.example", "", 0),
+        (1, "!r:a.example", " ", 0),
+        (1, "r", "", 0),
+    ] {
+        let statements = one_row(alloc, place, room, before, caller)?;
+        let connection = opened(alloc, statements.as_str())?;
+        assert!(rt; is_refused::<MemStore, ShardRow>(alloc, connection, KeeperFault::Table, 1)?);
+    }
+    Ok(())
+}
+
+#[test]
+fn places_have_no_gap(rt: HostRuntime) -> Result<(), Fail> {
+    let alloc = rt.alloc();
+    let first = one_row(alloc, 1, "!r:a.example", "", 4294967295)?;
+    let found = rows_in::<MemStore, ShardRow>(alloc, opened(alloc, first.as_str())?)?;
+    assert_eq!(rt; found.len(), 1);
+    let gap = format!(in alloc;
+        "{first}; INSERT INTO kept SELECT 3, room, event, caller FROM kept"
+    )?;
+    let connection = opened(alloc, gap.as_str())?;
+    assert!(rt; is_refused::<MemStore, ShardRow>(alloc, connection, KeeperFault::Table, 1)?);
+    Ok(())
+}
+
+fn keep_in_file(rt: &HostRuntime, path: &str) -> Result<(), Fail> {
+    let alloc = rt.alloc();
+    let first = shard_row(alloc, "!r:a.example", 1)?;
+    let second = shard_row(alloc, "!s:a.example", 2)?;
+    let connection = keep(alloc, Connection::open(rt, path)?, &first, &second)?;
+    connection.close()?;
+    Ok(())
+}
+
+#[test]
+fn the_next_keeper_of_a_file_finds_its_rows(rt: HostRuntime) -> Result<(), Fail> {
+    let _ = fs::remove_dir_all(&rt, "mx_keeper_test");
+    fs::create_dir(&rt, "mx_keeper_test")?;
+    keep_in_file(&rt, "mx_keeper_test/shard.db")?;
+    let connection = Connection::open(&rt, "mx_keeper_test/shard.db")?;
+    let kept: Vec<ShardRow> = rows_in(rt.alloc(), connection)?;
+    assert_eq!(rt; kept.len(), 2);
+    assert_eq!(rt; kept[0].room.as_str(), "!r:a.example");
+    assert_eq!(rt; kept[1].caller.number(), 2);
+    fs::remove_dir_all(&rt, "mx_keeper_test")?;
     Ok(())
 }
