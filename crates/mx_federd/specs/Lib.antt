@@ -1,4 +1,3 @@
 pub mod CheckErrors
 pub mod Failures
 pub mod Lines
-pub mod Callers

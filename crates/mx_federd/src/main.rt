@@ -19,14 +19,6 @@ use std::io::{self, Read, Write};
 use std::process::ExitCode;
 
 #[cfg(test)]
-mod engine_callers;
-#[cfg(test)]
-mod engine_tests;
-#[cfg(test)]
-mod room_events;
-#[cfg(test)]
-mod server_steps;
-#[cfg(test)]
 mod tests;
 
 /// Runs the program on the words of its command line, the first of which is its name, and gives its exit status:

@@ -1,2 +1,0 @@
-pub mod SeatSending
-pub mod CallerLemmas
