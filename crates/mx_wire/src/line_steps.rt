@@ -57,8 +57,8 @@ pub(crate) fn answer_line<K: Keeper<Row = ShardRow>, L: Keeper<Row = BookRow>, V
     }
 }
 
-/// The step of a line.
-pub(crate) fn taken<K: Keeper<Row = ShardRow>, L: Keeper<Row = BookRow>>(
+// The step of a line.
+fn taken<K: Keeper<Row = ShardRow>, L: Keeper<Row = BookRow>>(
     alloc: Global,
     world: &mut World<K, L>,
     step: &Step,
