@@ -42,6 +42,11 @@ pub enum Unanswered {
 }
 
 impl From<AllocError> for Unanswered {
+    ghost use Rattle.std.specs.Prelude.{◌≡◌};
+    ghost use Rattle.mx_http.specs.declared.connections.Unanswered.TheVariants.{Memory};
+
+    ghost from_gives = { λ _ error. error ≡ Memory };
+
     fn from(_refused: AllocError) -> Unanswered {
         Unanswered::Memory
     }
