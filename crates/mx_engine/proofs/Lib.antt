@@ -12,3 +12,4 @@ pub mod EndedLemmas
 pub mod TransactionLemmas
 pub mod OfferingLemmas
 pub mod Sending
+pub mod SeatSending

@@ -1,0 +1,48 @@
+-- Seats and engines may cross threads wherever their keepers may.
+use denote.RattleType.{RattleType}
+use denote.Param.Send.{IsSend, IsSync, sendable}
+use denote.Param.SendFields.{declared_send, declared_sync}
+use Rattle.std.proofs.Crossing.{Vec-send, Vec-sync}
+use Rattle.mx_keeper.specs.declared.keepers.Keeper.{Ghosts}
+use Rattle.mx_keeper.specs.declared.rows.ShardRow.{ShardRow}
+use Rattle.mx_keeper.specs.declared.rows.BookRow.{BookRow}
+use Rattle.mx_keeper.proofs.caller.Caller.TheSendSync as caller
+use Rattle.mx_dock.proofs.berths.Berth.TheSendSync as berth
+use Rattle.mx_dock.proofs.docks.Dock.TheSendSync as dock
+use Rattle.crossbeam_utils.proofs.cache_padded.CachePadded.TheSendSync as padded
+use Rattle.mx_shard.specs.contracts.entries.ShardEntry as shard_entry
+use Rattle.mx_book.specs.contracts.entries.BookEntry as book_entry
+use Rattle.mx_engine.specs.contracts.docked.DockedShard as docked_shard
+use Rattle.mx_engine.specs.contracts.docked.DockedBook as docked_book
+use Rattle.mx_engine.specs.contracts.docked.DockedShardJournaled.TheImpl as shard_journaled
+use Rattle.mx_engine.specs.contracts.docked.DockedBookJournaled.TheImpl as book_journaled
+use Rattle.mx_engine.specs.contracts.seats.Seat as seat
+use Rattle.mx_engine.specs.contracts.engines.Engine as engine
+use Rattle.mx_engine.proofs.Sending.{shard_send, book_send}
+
+docked_shard_send : (K : RattleType) (g : Ghosts K.Denot ShardRow) → IsSend K → IsSend (docked_shard.the_row K g)
+docked_shard_send K g k = declared_send (docked_shard.the_type K g) (shard_send K g k, tt)
+
+docked_book_send : (L : RattleType) (g : Ghosts L.Denot BookRow) → IsSend L → IsSend (docked_book.the_row L g)
+docked_book_send L g l = declared_send (docked_book.the_type L g) (book_send L g l, tt)
+
+pub seat_send : (K L : RattleType) (g : Ghosts K.Denot ShardRow) (h : Ghosts L.Denot BookRow) → IsSend K → IsSend L → IsSend (seat.the_row K L g h)
+seat_send K L g h k l = declared_send (seat.the_type K L g h) (
+  caller.the_send,
+  (
+    Vec-send _ (berth.the_send (docked_shard.the_row K g) shard_entry.the_row (docked_shard_send K g k)),
+    (
+      Vec-send _ (berth.the_send (docked_book.the_row L h) book_entry.the_row (docked_book_send L h l)),
+      (Vec-send _ (shard_send K g k), (Vec-send _ (book_send L h l), tt)),
+    ),
+  ),
+)
+
+pub engine_sync : (K L V G : RattleType) (g : Ghosts K.Denot ShardRow) (h : Ghosts L.Denot BookRow) → IsSend K → IsSend L → IsSync V → IsSync G → IsSync (engine.the_row K L V G g h)
+engine_sync K L V G g h k l v w = declared_sync (engine.the_type K L V G g h) (
+  Vec-sync _ (padded.the_sync _ (dock.the_sync (docked_shard.the_row K g) shard_entry.the_row (shard_journaled.ghosts K g shard_journaled.no_dict shard_journaled.no_dict) (docked_shard_send K g k))),
+  (
+    Vec-sync _ (padded.the_sync _ (dock.the_sync (docked_book.the_row L h) book_entry.the_row (book_journaled.ghosts L h book_journaled.no_dict book_journaled.no_dict) (docked_book_send L h l))),
+    (search (v, sendable) depth 20, (search (w, sendable) depth 20, (search sendable depth 20, tt))),
+  ),
+)
