@@ -25,4 +25,5 @@ pub mod LogLemmas
 pub mod TextMemberLemmas
 pub mod LineRows
 pub mod AnswerLemmas
+pub mod HostLineLemmas
 pub mod ResponseLemmas

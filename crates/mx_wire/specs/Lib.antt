@@ -18,4 +18,6 @@ pub mod LinesShown
 pub mod LineRuns
 pub mod TextMembers
 pub mod LineErrors
+pub mod HostLines
+pub mod HostAnswers
 pub mod Responses

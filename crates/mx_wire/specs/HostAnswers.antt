@@ -1,0 +1,21 @@
+-- For proofs and private clauses alone.
+-- What a line of a file of rooms is answered.
+use Rattle.std.specs.Prelude.{ℕ, ◌≡◌, ◌⊎◌, Bool, false, List}
+use Rattle.mx_redact.specs.Fields.{Event}
+use Rattle.mx_world.specs.Offers.{Offered}
+use Rattle.mx_world.specs.View.{WorldView}
+use Rattle.mx_world.specs.Worlds.{Stays}
+use Rattle.mx_world.specs.declared.steps.StepReply.{StepReply}
+use Rattle.mx_wire.specs.HostLines.{IsHosting, tells_hosted}
+use Rattle.mx_wire.specs.declared.line_answers.LineAnswer.{LineAnswer}
+use Rattle.mx_wire.specs.declared.line_answers.LineAnswer.TheVariants.{Step}
+
+abbrev pub answer_hosts : LineAnswer → Bool
+answer_hosts (Step reply) = tells_hosted reply
+answer_hosts _ = false
+
+-- the answer is the reply to a hosting, or nothing is done
+abbrev pub IsHostAnswer : {K L : Type 0} → (Event → Offered) → (text : List ℕ) → LineAnswer → (old new : WorldView K L) → Type 0
+IsHostAnswer offer text answer old new =
+    ((reply : StepReply) × ((answer ≡ Step reply) × IsHosting offer text reply old new))
+    ⊎ ((answer_hosts answer ≡ false) × Stays old new)
