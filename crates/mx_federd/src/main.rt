@@ -1,82 +1,41 @@
 //! `mx_federd`: a Matrix federation room server. `check` reads one event from standard input and prints its id,
 //! whether its content hash holds, and its canonical text. `replay` reads a log of steps and of other servers' requests
-//! from standard input and prints what a server answers to each. `serve` answers such requests on loopback, and keeps its
-//! rows in files.
+//! from standard input and prints what a server answers to each.
 #![tactic(auto)]
 
 mod checking;
 mod command_line;
-mod directories;
 mod output;
 mod replaying;
-mod serving;
-mod workers;
 
 use checking::check_event;
 use command_line::{Command, CommandLineError};
 use mx_wire::read_all;
 use output::{Failure, MISUSED, SUCCESS, lines_of, report, write_to};
 use replaying::replay;
-use serving::{ServeOptions, serve};
-use std::alloc::{AllocError, AllocGlobal, Global};
+use std::alloc::{AllocError, Global};
 use std::env;
 use std::io::{self, Read, Write};
-use std::net::{Net, TcpListener, TcpStream};
 use std::process::ExitCode;
-use std::random::RandomSource;
-use std::sync::Wait;
-use std::thread::Threads;
-use std::time::Clock;
 
-/// How the program serves, by what its `main` alone has.
-pub trait Serve {
-    /// Serves as the command line asks for, and gives the exit status once that ends.
-    fn serve<W: Write, E: Write>(&self, options: ServeOptions, out: &mut W, err: &mut E) -> u8;
-}
-
-// Serves by threads and sockets of the system.
-#[derive(Drop)]
-struct SystemServer<'h, R> {
-    rt: R,
-    host: &'h HostRuntime,
-}
-
-impl<
-    R: Threads
-        + Wait
-        + Clock
-        + Eprint
-        + Net<Listener = TcpListener, Stream = TcpStream>
-        + RandomSource
-        + AllocGlobal
-        + Copy
-        + Drop
-        + Send
-        + Sync
-        + 'static,
-> Serve for SystemServer<'_, R> {
-    fn serve<W: Write, E: Write>(&self, options: ServeOptions, out: &mut W, err: &mut E) -> u8 {
-        serve(&self.rt, self.host, options, out, err)
-    }
-}
+#[cfg(test)]
+mod tests;
 
 /// Runs the program on the words of its command line, the first of which is its name, and gives its exit status:
-/// 0, or 1 where the input is refused, memory runs out, storage fails, or a read or a write fails, or 2 where the command
-/// line is wrong. What went wrong is said on `err`, in one line but for the command line's own text.
-pub fn main_with<S: Serve, R: Read, W: Write, E: Write>(
+/// 0, or 1 where the input is refused, memory runs out, or a read or a write fails, or 2 where the command line is
+/// wrong. What went wrong is said on `err`, in one line but for the command line's own text.
+pub fn main_with<R: Read, W: Write, E: Write>(
     alloc: Global,
-    server: &S,
     words: &[String],
     input: &mut R,
     out: &mut W,
     err: &mut E,
 ) -> u8 {
     match command_line::parse(alloc, words) {
-        Ok(Command::Check) => status_of(check_input(alloc, input, out), err),
-        Ok(Command::Replay { name, shards }) => {
-            status_of(replay(alloc, &name, shards, input, out), err)
-        }
-        Ok(Command::Serve(options)) => server.serve(options, out, err),
+        Ok(command) => match run(alloc, command, input, out) {
+            Ok(()) => SUCCESS,
+            Err(failure) => report(failure, err),
+        },
         Err(CommandLineError::Memory) => report(Failure::Memory, err),
         Err(CommandLineError::Misused(text)) => {
             let _ = err.write_all(text.as_bytes());
@@ -85,22 +44,20 @@ pub fn main_with<S: Serve, R: Read, W: Write, E: Write>(
     }
 }
 
-// The exit status of a run that gave so.
-fn status_of<E: Write>(ran: Result<(), Failure>, err: &mut E) -> u8 {
-    match ran {
-        Ok(()) => SUCCESS,
-        Err(failure) => report(failure, err),
-    }
-}
-
-// Checks the event that is read.
-fn check_input<R: Read, W: Write>(
+// Does what the command line asks for.
+fn run<R: Read, W: Write>(
     alloc: Global,
+    command: Command,
     input: &mut R,
     out: &mut W,
 ) -> Result<(), Failure> {
-    let bytes = read_all(alloc, input)?;
-    check(alloc, &bytes, out)
+    match command {
+        Command::Check => {
+            let bytes = read_all(alloc, input)?;
+            check(alloc, &bytes, out)
+        }
+        Command::Replay { name, shards } => replay(alloc, &name, shards, input, out),
+    }
 }
 
 // Checks the event that the bytes hold.
@@ -123,7 +80,6 @@ fn main(rt: HostRuntime) -> ExitCode {
     let status = match words_of(&rt) {
         Ok(words) => main_with(
             alloc,
-            &SystemServer { rt, host: &rt },
             &words,
             &mut rt.stdin(),
             &mut rt.stdout(),
