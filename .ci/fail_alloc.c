@@ -38,6 +38,11 @@ __attribute__((destructor)) static void write_count(void) {
     char text[32];
     int length = snprintf(text, sizeof text, "%ld", calls);
     int file = open(name, O_CREAT | O_WRONLY | O_TRUNC, 0600);
-    if (write(file, text, length) != length) _exit(3);
+    if (write(file, text, length) != length) _Exit(3);
     close(file);
+}
+
+void _exit(int status) {
+    write_count();
+    _Exit(status);
 }

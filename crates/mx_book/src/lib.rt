@@ -13,6 +13,3 @@ pub use entries::BookEntry;
 pub use mx_keeper::CallError;
 pub use openings::Opening;
 pub use transaction_keys::TransactionKey;
-
-#[cfg(test)]
-mod tests;

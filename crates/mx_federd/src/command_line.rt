@@ -1,4 +1,5 @@
 // The words of the command line.
+use crate::serving::{SeatCount, ServeOptions};
 use clap::builder::ValueParser;
 use clap::error::ErrorKind;
 use clap::{Arg, ArgAction, ArgMatches, Error};
@@ -17,6 +18,8 @@ pub(crate) enum Command {
         name: ServerName,
         shards: ShardCount,
     },
+    // A server on loopback.
+    Serve(ServeOptions),
 }
 
 /// Why the words ask for nothing.
@@ -48,7 +51,8 @@ pub(crate) fn parse(alloc: Global, words: &[String]) -> Result<Command, CommandL
         .about("A Matrix federation room server")
         .subcommand_required(true)
         .subcommand(check_words(alloc))?
-        .subcommand(replay_words(alloc)?)?;
+        .subcommand(replay_words(alloc)?)?
+        .subcommand(serve_words(alloc)?)?;
     match program.try_get_matches_from(words) {
         Ok(matches) => chosen(alloc, &matches),
         Err(error) if error.kind() == ErrorKind::OutOfMemory => Err(CommandLineError::Memory),
@@ -62,28 +66,70 @@ fn check_words<'a>(alloc: Global) -> clap::Command<'a> {
     )
 }
 
-fn replay_words<'a>(alloc: Global) -> Result<clap::Command<'a>, AllocError> {
-    let name = Arg::new(alloc, "name")
+fn name_word<'a>(alloc: Global) -> Arg<'a> {
+    Arg::new(alloc, "name")
         .long("name")
         .required(true)
         .action(ArgAction::Set)
-        .help("The name of the server");
-    let shards = Arg::new(alloc, "shards")
-        .long("shards")
-        .default_value("1")
+        .help("The name of the server")
+}
+
+fn number_word<'a>(alloc: Global, name: &'a str, usual: &'a str, least: u64, most: u64) -> Arg<'a> {
+    Arg::new(alloc, name)
+        .long(name)
+        .default_value(usual)
         .action(ArgAction::Set)
-        .value_parser(ValueParser::unsigned(1, MOST_PLACES as u64))
-        .help("How many shards hold the rooms, 1 to 64; no answer depends on it");
+        .value_parser(ValueParser::unsigned(least, most))
+}
+
+fn shards_word<'a>(alloc: Global) -> Arg<'a> {
+    number_word(alloc, "shards", "1", 1, MOST_PLACES as u64).help(
+        "How many shards hold the rooms, 1 to 64; no answer depends on it",
+    )
+}
+
+fn replay_words<'a>(alloc: Global) -> Result<clap::Command<'a>, AllocError> {
     clap::Command::new(alloc, "replay")
         .about("Reads a log from standard input, and prints what a server answers to each line")
-        .arg(name)?
-        .arg(shards)
+        .arg(name_word(alloc))?
+        .arg(shards_word(alloc))
+}
+
+fn serve_words<'a>(alloc: Global) -> Result<clap::Command<'a>, AllocError> {
+    let data = Arg::new(alloc, "data")
+        .long("data")
+        .required(true)
+        .action(ArgAction::Set)
+        .help("The directory of the server's files, which is made where it is not there");
+    let port = number_word(alloc, "port", "8008", 0, 65_535).help(
+        "The port on 127.0.0.1; 0 takes a free one",
+    );
+    let threads = number_word(alloc, "threads", "1", 1, 64).help(
+        "How many connections are served at the same time, 1 to 64",
+    );
+    let connections = number_word(alloc, "connections", "16", 1, 256).help(
+        "How many connections may be open, 1 to 256; one more is closed unanswered",
+    );
+    let host = Arg::new(alloc, "host")
+        .long("host")
+        .action(ArgAction::Set)
+        .help("A file of lines of a log, each of which hosts a room at the start");
+    clap::Command::new(alloc, "serve")
+        .about("Answers other servers' requests on 127.0.0.1")
+        .arg(name_word(alloc))?
+        .arg(data)?
+        .arg(port)?
+        .arg(threads)?
+        .arg(shards_word(alloc))?
+        .arg(connections)?
+        .arg(host)
 }
 
 fn chosen(alloc: Global, matches: &ArgMatches) -> Result<Command, CommandLineError> {
     match matches.subcommand() {
         Some(("check", _)) => Ok(Command::Check),
         Some(("replay", given)) => replay_of(alloc, given),
+        Some(("serve", given)) => serve_of(alloc, given),
         _ => misused(alloc, "no subcommand\n"),
     }
 }
@@ -93,13 +139,67 @@ fn replay_of(alloc: Global, given: &ArgMatches) -> Result<Command, CommandLineEr
     let Some(shards) = shards_of(given) else {
         return misused(alloc, "the number of shards is not 1 to 64\n");
     };
-    let Some(name) = given.get_str("name") else {
+    match name_of(alloc, given)? {
+        Some(name) => Ok(Command::Replay { name, shards }),
+        None => misused(alloc, "the name is no server name\n"),
+    }
+}
+
+// `serve`, where the name is a server name.
+fn serve_of(alloc: Global, given: &ArgMatches) -> Result<Command, CommandLineError> {
+    let Some(name) = name_of(alloc, given)? else {
         return misused(alloc, "the name is no server name\n");
     };
+    match options_of(alloc, given, name)? {
+        Some(options) => Ok(Command::Serve(options)),
+        None => misused(alloc, "a number is outside its limits\n"),
+    }
+}
+
+fn options_of(
+    alloc: Global,
+    given: &ArgMatches,
+    name: ServerName,
+) -> Result<Option<ServeOptions>, AllocError> {
+    let (Some(port), Some(threads), Some(shards), Some(connections)) = (
+        given.get_one::<u16>("port"),
+        given.get_one::<u32>("threads").and_then(SeatCount::of),
+        shards_of(given),
+        given.get_one::<u64>("connections"),
+    ) else {
+        return Ok(None);
+    };
+    let Some(data) = text_of(alloc, given, "data")? else {
+        return Ok(None);
+    };
+    let rooms = text_of(alloc, given, "host")?;
+    Ok(Some(ServeOptions {
+        name,
+        data,
+        port,
+        threads,
+        shards,
+        connections,
+        rooms,
+    }))
+}
+
+fn text_of(alloc: Global, given: &ArgMatches, word: &str) -> Result<Option<String>, AllocError> {
+    match given.get_str(word) {
+        Some(text) => Ok(Some(String::from_str(alloc, text)?)),
+        None => Ok(None),
+    }
+}
+
+// The name, where it is a server name.
+fn name_of(alloc: Global, given: &ArgMatches) -> Result<Option<ServerName>, CommandLineError> {
+    let Some(name) = given.get_str("name") else {
+        return Ok(None);
+    };
     match ServerName::parse(alloc, name) {
-        Ok(name) => Ok(Command::Replay { name, shards }),
+        Ok(name) => Ok(Some(name)),
         Err(IdError::Memory) => Err(CommandLineError::Memory),
-        Err(IdError::NotAnId(_)) => misused(alloc, "the name is no server name\n"),
+        Err(IdError::NotAnId(_)) => Ok(None),
     }
 }
 

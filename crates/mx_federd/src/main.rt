@@ -1,63 +1,77 @@
 //! `mx_federd`: a Matrix federation room server. `check` reads one event from standard input and prints its id,
 //! whether its content hash holds, and its canonical text. `replay` reads a log of steps and of other servers' requests
-//! from standard input and prints what a server answers to each.
+//! from standard input and prints what a server answers to each. `serve` answers such requests on loopback, and keeps its
+//! rows in files.
 #![tactic(auto)]
 
 mod checking;
 mod command_line;
+mod directories;
 mod output;
 mod replaying;
+mod serving;
+mod workers;
 
 use checking::check_event;
 use command_line::{Command, CommandLineError};
 use mx_wire::read_all;
 use output::{Failure, MISUSED, SUCCESS, lines_of, report, write_to};
 use replaying::replay;
+use serving::{ServeOptions, serve};
 use std::alloc::{AllocError, Global};
 use std::env;
 use std::io::{self, Read, Write};
 use std::process::ExitCode;
 
-#[cfg(test)]
-mod tests;
+/// What the words of the command line leave to do.
+#[derive(Debug, Drop)]
+pub enum Asked {
+    // Nothing: this is the exit status.
+    Ended(u8),
+    // To serve. Threads and sockets are what `main` alone has.
+    Serve(ServeOptions),
+}
 
-/// Runs the program on the words of its command line, the first of which is its name, and gives its exit status:
-/// 0, or 1 where the input is refused, memory runs out, or a read or a write fails, or 2 where the command line is
-/// wrong. What went wrong is said on `err`, in one line but for the command line's own text.
+/// Does what the words of the command line ask for, the first of which is the program's name, all but to serve. The exit
+/// status is 0, or 1 where the input is refused, memory runs out, storage fails, or a read or a write fails, or 2 where the
+/// command line is wrong. What went wrong is said on `err`, in one line but for the command line's own text.
 pub fn main_with<R: Read, W: Write, E: Write>(
     alloc: Global,
     words: &[String],
     input: &mut R,
     out: &mut W,
     err: &mut E,
-) -> u8 {
+) -> Asked {
     match command_line::parse(alloc, words) {
-        Ok(command) => match run(alloc, command, input, out) {
-            Ok(()) => SUCCESS,
-            Err(failure) => report(failure, err),
-        },
-        Err(CommandLineError::Memory) => report(Failure::Memory, err),
+        Ok(Command::Check) => Asked::Ended(status_of(check_input(alloc, input, out), err)),
+        Ok(Command::Replay { name, shards }) => {
+            Asked::Ended(status_of(replay(alloc, &name, shards, input, out), err))
+        }
+        Ok(Command::Serve(options)) => Asked::Serve(options),
+        Err(CommandLineError::Memory) => Asked::Ended(report(Failure::Memory, err)),
         Err(CommandLineError::Misused(text)) => {
             let _ = err.write_all(text.as_bytes());
-            MISUSED
+            Asked::Ended(MISUSED)
         }
     }
 }
 
-// Does what the command line asks for.
-fn run<R: Read, W: Write>(
+// The exit status of a run that gave so.
+fn status_of<E: Write>(ran: Result<(), Failure>, err: &mut E) -> u8 {
+    match ran {
+        Ok(()) => SUCCESS,
+        Err(failure) => report(failure, err),
+    }
+}
+
+// Checks the event that is read.
+fn check_input<R: Read, W: Write>(
     alloc: Global,
-    command: Command,
     input: &mut R,
     out: &mut W,
 ) -> Result<(), Failure> {
-    match command {
-        Command::Check => {
-            let bytes = read_all(alloc, input)?;
-            check(alloc, &bytes, out)
-        }
-        Command::Replay { name, shards } => replay(alloc, &name, shards, input, out),
-    }
+    let bytes = read_all(alloc, input)?;
+    check(alloc, &bytes, out)
 }
 
 // Checks the event that the bytes hold.
@@ -76,16 +90,19 @@ fn words_of(rt: &HostRuntime) -> io::Result<Vec<String>> {
 }
 
 fn main(rt: HostRuntime) -> ExitCode {
-    let alloc = rt.alloc();
-    let status = match words_of(&rt) {
+    let asked = match words_of(&rt) {
         Ok(words) => main_with(
-            alloc,
+            rt.alloc(),
             &words,
             &mut rt.stdin(),
             &mut rt.stdout(),
             &mut rt.stderr(),
         ),
-        Err(error) => report(Failure::of_io(error), &mut rt.stderr()),
+        Err(error) => Asked::Ended(report(Failure::of_io(error), &mut rt.stderr())),
+    };
+    let status = match asked {
+        Asked::Ended(status) => status,
+        Asked::Serve(options) => serve(&rt, &rt, options, &mut rt.stdout(), &mut rt.stderr()),
     };
     ExitCode::from(status)
 }

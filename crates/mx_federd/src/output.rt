@@ -5,6 +5,7 @@ ghost use Rattle.mx_federd.specs.Lines.{check_lines};
 
 use crate::checking::{CheckError, Checked};
 use mx_wire::{InputError, LinesError};
+use mx_world::CallError;
 use std::alloc::{AllocError, Global};
 use std::io::{self, ErrorKind, Write};
 use thiserror::Error;
@@ -78,6 +79,20 @@ impl From<LinesError> for Failure {
             LinesError::Memory => Failure::Memory,
             LinesError::Storage => Failure::Storage,
             LinesError::Read | LinesError::Write => Failure::ReadOrWrite,
+        }
+    }
+}
+
+impl From<CallError> for Failure {
+    ghost use Rattle.std.specs.Prelude.{◌≡◌};
+    ghost use Rattle.mx_federd.specs.Failures.{of_call};
+
+    ghost from_gives = { λ error failure. failure ≡ of_call error };
+
+    fn from(error: CallError) -> Failure {
+        match error {
+            CallError::Memory => Failure::Memory,
+            CallError::Storage => Failure::Storage,
         }
     }
 }

@@ -32,6 +32,3 @@ pub use sqlite_keepers::{NotAdopted, SqliteKeeper};
 pub use storing::Storable;
 pub use table_rows::TableRow;
 pub use transaction_ids::TransactionId;
-
-#[cfg(test)]
-mod tests;

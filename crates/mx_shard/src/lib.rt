@@ -16,6 +16,3 @@ pub use answers::Answer;
 pub use entries::ShardEntry;
 pub use mx_keeper::CallError;
 pub use shards::Shard;
-
-#[cfg(test)]
-mod tests;

@@ -10,4 +10,4 @@ use Rattle.mx_wire.specs.declared.line_answers.LineAnswer.{LineAnswer}
 
 pub hosts_none : {K L : Type 0} (offer : Event → Offered) (text : List ℕ) (answer : LineAnswer) (old new : WorldView K L) → answer_hosts answer ≡ false → IsHostAnswer offer text answer old new → HostsNone offer text old new
 hosts_none offer text answer old new not (inl (reply, (is, hosting))) = inr (reply, (hosting, sym (ap answer_hosts is) ∙ not))
-hosts_none offer text answer old new not (inr (_, stays)) = inl stays
+hosts_none offer text answer old new not (inr (_, none)) = inl none

@@ -6,7 +6,8 @@ use Rattle.mx_world.specs.Offers.{Offered}
 use Rattle.mx_world.specs.View.{WorldView}
 use Rattle.mx_world.specs.Worlds.{Stays}
 use Rattle.mx_world.specs.declared.steps.StepReply.{StepReply}
-use Rattle.mx_wire.specs.HostLines.{IsHosting, tells_hosted}
+use Rattle.mx_wire.specs.HostLines.{IsHosting, asks_to_host, tells_hosted}
+use Rattle.mx_wire.specs.Lines.{read_line}
 use Rattle.mx_wire.specs.declared.line_answers.LineAnswer.{LineAnswer}
 use Rattle.mx_wire.specs.declared.line_answers.LineAnswer.TheVariants.{Step}
 
@@ -14,8 +15,8 @@ abbrev pub answer_hosts : LineAnswer → Bool
 answer_hosts (Step reply) = tells_hosted reply
 answer_hosts _ = false
 
--- the answer is the reply to a hosting, or nothing is done
+-- the answer is the reply to a hosting, or the line asks for none, and nothing is done
 abbrev pub IsHostAnswer : {K L : Type 0} → (Event → Offered) → (text : List ℕ) → LineAnswer → (old new : WorldView K L) → Type 0
 IsHostAnswer offer text answer old new =
     ((reply : StepReply) × ((answer ≡ Step reply) × IsHosting offer text reply old new))
-    ⊎ ((answer_hosts answer ≡ false) × Stays old new)
+    ⊎ ((answer_hosts answer ≡ false) × ((asks_to_host (read_line offer text) ≡ false) × Stays old new))

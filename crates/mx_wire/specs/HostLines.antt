@@ -12,7 +12,7 @@ use Rattle.mx_world.specs.declared.steps.Step.{Step}
 use Rattle.mx_world.specs.declared.steps.Step.TheVariants.{Host}
 use Rattle.mx_world.specs.declared.steps.StepReply.{StepReply}
 use Rattle.mx_world.specs.declared.steps.StepReply.TheVariants.{OfRoom}
-use Rattle.mx_wire.specs.Lines.{host_step, read_line, step_line}
+use Rattle.mx_wire.specs.Lines.{Line, host_step, read_line, step_line}
 
 abbrev pub answers_hosted : Answer → Bool
 answers_hosted (Hosted id) = true
@@ -39,6 +39,13 @@ pub record IsHosting {K L : Type 0} (offer : Event → Offered) (text : List ℕ
 abbrev pub HostsRoom : {K L : Type 0} → (Event → Offered) → (text : List ℕ) → (old new : WorldView K L) → Type 0
 HostsRoom offer text old new = (reply : StepReply) × (IsHosting offer text reply old new × (tells_hosted reply ≡ true))
 
--- a line hosts no room: nothing is done for it, or the reply tells that the room is not hosted
+-- a line asks to host a room by a well-formed event
+abbrev pub asks_to_host : Line → Bool
+asks_to_host (step_line (host_step event)) = true
+asks_to_host _ = false
+
+-- a line hosts no room: it does not ask for that, and nothing is done for it, or the reply tells that the room is not hosted
 abbrev pub HostsNone : {K L : Type 0} → (Event → Offered) → (text : List ℕ) → (old new : WorldView K L) → Type 0
-HostsNone offer text old new = Stays old new ⊎ ((reply : StepReply) × (IsHosting offer text reply old new × (tells_hosted reply ≡ false)))
+HostsNone offer text old new =
+    ((asks_to_host (read_line offer text) ≡ false) × Stays old new)
+    ⊎ ((reply : StepReply) × (IsHosting offer text reply old new × (tells_hosted reply ≡ false)))

@@ -37,7 +37,7 @@ mod transaction_bodies;
 pub use authorization::origin_of;
 pub use calls::WireCall;
 pub use faults::{Denial, Fault, InvalidPart, MissingParameter, memory_body, storage_body};
-pub use host_lines::host_by_line;
+pub use host_lines::{HostLineOutcome, host_by_line};
 pub use input::{InputError, MOST_READS, read_all};
 pub use join_replies::{join_reply, outcome_fault};
 pub use json_bodies::{body_value, ids_or_none, natural_or};

@@ -28,6 +28,3 @@ pub use mx_shard::Answer;
 pub use runs::{RunError, agreeing_runs_answer_alike, run};
 pub use steps::{Step, StepReply};
 pub use worlds::World;
-
-#[cfg(test)]
-mod tests;

@@ -1,9 +1,8 @@
-use crate::{Answer, CallError, Shard};
-use mx_ident::{EventId, ServerName};
+use crate::values::{event, event_id, refused, server};
 use mx_keeper::{Caller, Keeper, KeeperFault, MemoryKeeper, Place, ShardRow};
-use mx_pdu::{Offered, Pdu};
+use mx_pdu::Offered;
 use mx_room::{Moment, Outcome, Query};
-use serde_json::Value;
+use mx_shard::{Answer, CallError, Shard};
 use std::alloc::{AllocError, Global};
 use std::test::Fail;
 
@@ -22,19 +21,11 @@ fn event_named(name: &str) -> (&'static str, &'static str) {
     }
 }
 
-// Every other refusal would be seen in a test where memory is ample.
-fn refused<E: Drop>(_error: E) -> AllocError {
-    AllocError
-}
-
 fn offered(alloc: Global, name: &str) -> Result<Offered, AllocError> {
     let (text, id) = event_named(name);
-    let value = Value::from_str(alloc, text).map_err(refused)?;
-    let pdu = Pdu::from_value(alloc, value).map_err(refused)?;
-    let id = EventId::parse(alloc, id).map_err(refused)?;
     Ok(Offered {
-        pdu,
-        id,
+        pdu: event(alloc, text)?,
+        id: event_id(alloc, id)?,
         signed: true,
     })
 }
@@ -49,7 +40,7 @@ fn tell<K: Keeper<Row = ShardRow>>(
     let mut words = call.split(' ');
     let kind = words.next().unwrap_or("");
     let offered = offered(alloc, words.next().unwrap_or(""))?;
-    let origin = ServerName::parse(alloc, "a.example").map_err(refused)?;
+    let origin = server(alloc, "a.example")?;
     if kind == "ask" {
         let now = Moment::at(1).ok_or(AllocError)?;
         return Ok(word(&shard.ask(&origin, now, &Query::Event(offered.id))?));

@@ -1,24 +1,8 @@
-use crate::{Book, CallError, Opening, TransactionKey};
-use mx_ident::ServerName;
-use mx_keeper::{BookRow, Caller, Keeper, KeeperFault, MemoryKeeper, Place, Reply, TransactionId};
-use std::alloc::{AllocError, Global};
+use crate::values::{book_row, key, reply};
+use mx_book::{Book, CallError, Opening, TransactionKey};
+use mx_keeper::{BookRow, Caller, Keeper, KeeperFault, MemoryKeeper, Place};
+use std::alloc::Global;
 use std::test::Fail;
-
-// Every other refusal would be seen in a test where memory is ample.
-fn refused<E: Drop>(_error: E) -> AllocError {
-    AllocError
-}
-
-fn key(alloc: Global, origin: &str, txn: &str) -> Result<TransactionKey, AllocError> {
-    let origin = ServerName::parse(alloc, origin).map_err(refused)?;
-    let txn = TransactionId::new(String::from_str(alloc, txn)?);
-    Ok(TransactionKey { origin, txn })
-}
-
-fn reply(alloc: Global, text: &str) -> Result<Reply, AllocError> {
-    let text = String::from_str(alloc, text)?;
-    Ok(Reply::new(text))
-}
 
 // The one book of a server, with no transaction.
 fn only_book(alloc: Global) -> Result<Book<MemoryKeeper<BookRow>>, CallError> {
@@ -110,23 +94,17 @@ impl Keeper for UnreadKeeper {
     ghost settled = { λ _ _ _ _ is. is };
 }
 
-fn row(alloc: Global, origin: &str, txn: &str) -> Result<BookRow, AllocError> {
-    let TransactionKey { origin, txn } = key(alloc, origin, txn)?;
-    let reply = reply(alloc, "{}")?;
-    Ok(BookRow { origin, txn, reply })
-}
-
 // Two rows of a transaction, a row of another place, and what does not read as rows. None is told as want of memory.
 #[test]
 fn rows_that_no_book_has_are_refused(rt: HostRuntime) -> Result<(), Fail> {
     let alloc = rt.alloc();
     let mut twice = MemoryKeeper::new(alloc);
-    twice.append(&row(alloc, "a.example", "t1")?)?;
-    twice.append(&row(alloc, "a.example", "t1")?)?;
+    twice.append(&book_row(alloc, "a.example", "t1", "{}")?)?;
+    twice.append(&book_row(alloc, "a.example", "t1", "{}")?)?;
     let book = Book::reopen(alloc, twice, Place::new(0, 1));
     assert_eq!(rt; book.err(), Some(CallError::Storage));
     let mut elsewhere = MemoryKeeper::new(alloc);
-    elsewhere.append(&row(alloc, "b.example", "t1")?)?;
+    elsewhere.append(&book_row(alloc, "b.example", "t1", "{}")?)?;
     let number = Place::of("a.example", 2).number();
     let book = Book::reopen(alloc, elsewhere, Place::new(number, 2));
     assert_eq!(rt; book.err(), Some(CallError::Storage));

@@ -1,14 +1,14 @@
 ghost use Rattle.std.specs.Prelude.{◌≡◌, ◌≤◌, length, IfOk, IsTrue};
 ghost use Rattle.mx_world.specs.Worlds.{none_open};
 
-use crate::{
+use crate::values::{event, event_id, key, refused, server};
+use mx_ident::RoomId;
+use mx_keeper::{MemoryKeeper, Storable};
+use mx_pdu::Offered;
+use mx_world::{
     Answer, BookRow, CallError, Denied, EventIdList, Moment, Query, QueryReply, ShardRow, Step,
-    StepReply, TransactionKey, World, run,
+    StepReply, World, run,
 };
-use mx_ident::{EventId, RoomId, ServerName};
-use mx_keeper::{MemoryKeeper, Storable, TransactionId};
-use mx_pdu::{Offered, Pdu};
-use serde_json::Value;
 use std::alloc::{AllocError, Global};
 
 // Content hashes are by Python's json, hashlib and base64.
@@ -30,39 +30,25 @@ fn event_named(name: &str) -> &'static str {
     }
 }
 
-// Every other refusal would be seen in a test where memory is ample.
-fn refused<E: Drop>(_error: E) -> AllocError {
-    AllocError
-}
-
 // An event by `ID=NAME`.
 fn offered(alloc: Global, word: &str) -> Result<Offered, AllocError> {
     let (id, name) = word.split_once('=').unwrap_or(("", ""));
-    let value = Value::from_str(alloc, event_named(name)).map_err(refused)?;
-    let pdu = Pdu::from_value(alloc, value).map_err(refused)?;
-    let id = EventId::parse(alloc, id).map_err(refused)?;
     Ok(Offered {
-        pdu,
-        id,
+        pdu: event(alloc, event_named(name))?,
+        id: event_id(alloc, id)?,
         signed: true,
     })
 }
 
-fn key(alloc: Global, origin: &str, txn: &str) -> Result<TransactionKey, AllocError> {
-    let origin = ServerName::parse(alloc, origin).map_err(refused)?;
-    let txn = TransactionId::new(String::from_str(alloc, txn)?);
-    Ok(TransactionKey { origin, txn })
-}
-
 fn ask(alloc: Global, origin: &str, query: Query) -> Result<Step, AllocError> {
-    let origin = ServerName::parse(alloc, origin).map_err(refused)?;
+    let origin = server(alloc, origin)?;
     let now = Moment::at(1).ok_or(AllocError)?;
     Ok(Step::Ask { origin, now, query })
 }
 
 fn list_of(alloc: Global, id: &str) -> Result<EventIdList, AllocError> {
     let mut ids = Vec::new(alloc);
-    ids.push(EventId::parse(alloc, id).map_err(refused)?)?;
+    ids.push(event_id(alloc, id)?)?;
     Ok(EventIdList::new(ids))
 }
 
@@ -75,7 +61,7 @@ fn query_in(
     last: &str,
 ) -> Result<Query, AllocError> {
     let room = RoomId::parse(alloc, room).map_err(refused)?;
-    let event = EventId::parse(alloc, first).map_err(refused)?;
+    let event = event_id(alloc, first)?;
     let ids = list_of(alloc, first)?;
     match kind {
         "state" => Ok(Query::State { room, event }),
@@ -106,7 +92,7 @@ fn step_of(alloc: Global, written: &str) -> Result<Step, AllocError> {
         return Ok(Step::Host(offered(alloc, first)?));
     }
     if kind == "ask" {
-        let id = EventId::parse(alloc, first).map_err(refused)?;
+        let id = event_id(alloc, first)?;
         return ask(alloc, "a.example", Query::Event(id));
     }
     let second = words.next().unwrap_or("");
@@ -141,7 +127,7 @@ fn keepers<R: Storable>(alloc: Global, count: usize) -> Result<Vec<MemoryKeeper<
 }
 
 // A server with so many shards and as many books.
-fn server(alloc: Global, count: usize) -> Result<Server, CallError>
+fn server_of(alloc: Global, count: usize) -> Result<Server, CallError>
     requires some { 1 ≤ count }
     requires few { count ≤ 64 }
     ensures { IfOk result (λ server. IsTrue (none_open server)) }
@@ -221,7 +207,7 @@ const WORDS: [&str; 17] = [
 #[test]
 fn run_or_no_memory(rt: HostRuntime) {
     let alloc = rt.alloc();
-    let Ok(mut server) = server(alloc, 3) else {
+    let Ok(mut server) = server_of(alloc, 3) else {
         return;
     };
     let Ok(steps) = all_steps(alloc, &STEPS) else {

@@ -1,0 +1,197 @@
+#!/usr/bin/env python3
+"""Measures `mx_federd serve` over files, and prints what it finds.
+
+    measure_serve.py rows [--program PATH] [--folder DIR] [--events 10000]
+    measure_serve.py requests [--program PATH] [--folder DIR] [--seconds 5] [--constant PATH]
+
+`rows`: a transaction of 50 messages, beside sqlite3's own command line, which inserts the same rows in 50 transactions
+with a write-ahead log and synchronous FULL; and how long the server takes to open its files again, beside `replay` of the
+same events. `requests`: requests a second by wrk, over 1 and 4 threads, and sends of one event; in a folder of /dev/shm
+the files are in memory. `--constant` names a program that takes a port and a number of threads, and gives each request
+one answer (benchmarks/constant_server.txt). It wants Debian's packages sqlite3 and wrk."""
+
+import argparse
+import http.client
+import json
+import re
+import statistics
+import subprocess
+import sys
+import tempfile
+import time
+from pathlib import Path
+
+HERE = Path(__file__).resolve().parent
+TOP = HERE.parent
+PROGRAM = TOP / "crates/mx_federd/out/mx_federd"
+sys.path.insert(0, str(TOP / "examples/rows"))
+sys.dont_write_bytecode = True
+from request_rows import FEDERATION, header, quoted  # noqa: E402
+
+SETTINGS = "PRAGMA journal_mode=WAL; PRAGMA synchronous=FULL;\n"
+TABLE = "CREATE TABLE kept (place INTEGER PRIMARY KEY, room TEXT NOT NULL, event TEXT NOT NULL, caller INTEGER NOT NULL);\n"
+
+
+def log_of(events, members=50, batch=50, room="!room:s0.example"):
+    words = [sys.executable, HERE / "make_log.py", "--shape", "linear", "--events", str(events), "--members", str(members)]
+    words += ["--batch", str(batch), "--room", room]
+    return subprocess.run(words, stdout=subprocess.PIPE, check=True).stdout
+
+
+def parts_of(log):
+    """The lines that host, and the transactions of a log: origin, number, and the body to send."""
+    hosts, sends = [], []
+    for line in log.splitlines():
+        step = json.loads(line)
+        if step["step"] == "host":
+            hosts.append(line + b"\n")
+        elif step["step"] == "open":
+            body = json.dumps({"pdus": step["pdus"]}, separators=(",", ":"), ensure_ascii=False).encode()
+            sends.append((step["origin"], step["txn"], body))
+    return hosts, sends
+
+
+class Server:
+    def __init__(self, program, data, *words, hosts=()):
+        rooms = Path(data).with_suffix(".rooms")
+        rooms.write_bytes(b"".join(hosts))
+        start = time.monotonic()
+        words = [program, "serve", "--name", "hub.example", "--data", data, "--port", "0", "--host", rooms, *words]
+        self.process = subprocess.Popen([str(word) for word in words], stdout=subprocess.PIPE)
+        self.port = int(self.process.stdout.readline().rpartition(b":")[2])
+        self.seconds = time.monotonic() - start
+        self.connection = http.client.HTTPConnection("127.0.0.1", self.port)
+
+    def send(self, origin, txn, body):
+        """How many seconds the reply to a transaction took."""
+        start = time.monotonic()
+        target = FEDERATION + "v1/send/" + quoted(txn)
+        self.connection.request("PUT", target, body, {"Authorization": header(origin)})
+        reply = self.connection.getresponse()
+        told = reply.read()
+        if reply.status != 200 or b"error" in told:
+            sys.exit(f"a transaction was answered {reply.status} {told[:200]}")
+        return time.monotonic() - start
+
+    def stop(self):
+        self.connection.close()
+        self.process.terminate()
+        self.process.wait()
+
+
+def sqlite_seconds(folder, data, rows):
+    """How long sqlite3 takes for each of the rows of a server's file, in a transaction of its own."""
+    read = "SELECT 'INSERT INTO kept VALUES('||place||','||quote(room)||','||quote(event)||','||caller||');' FROM kept ORDER BY place LIMIT %d;"
+    inserts = subprocess.run(["sqlite3", data / "shard-0.db", read % rows], stdout=subprocess.PIPE, check=True, text=True).stdout
+    found = []
+    for number in range(5):
+        start = time.monotonic()
+        script = SETTINGS + TABLE + inserts
+        subprocess.run(["sqlite3", folder / f"beside{number}.db"], input=script, stdout=subprocess.DEVNULL, check=True, text=True)
+        found.append((time.monotonic() - start) / rows)
+    return found
+
+
+def rows(options, folder):
+    log = log_of(options.events)
+    hosts, sends = parts_of(log)
+    data = folder / "data"
+    server = Server(options.program, data, hosts=hosts)
+    taken = [server.send(*send) for send in sends]
+    server.stop()
+    fifty = sorted(seconds for seconds, send in zip(taken, sends) if send[2].count(b'"m.room.message"') >= 50)
+    beside = sqlite_seconds(folder, data, 2_000)
+    print(f"a transaction of 50 messages: median {statistics.median(fifty) * 1000:.1f} ms, least {fifty[0] * 1000:.1f} ms")
+    print(f"50 rows by sqlite3: median {statistics.median(beside) * 50_000:.1f} ms, least {min(beside) * 50_000:.1f} ms")
+    opened, replayed = [], []
+    for _ in range(5):
+        server = Server(options.program, data)
+        opened.append(server.seconds)
+        server.stop()
+        start = time.monotonic()
+        subprocess.run([str(options.program), "replay", "--name", "hub.example"], input=log, stdout=subprocess.DEVNULL, check=True)
+        replayed.append(time.monotonic() - start)
+    print(f"opening {options.events} rows: median {statistics.median(opened):.2f} s, least {min(opened):.2f} s")
+    print(f"replaying them: median {statistics.median(replayed):.2f} s, least {min(replayed):.2f} s")
+
+
+def wrk(port, target, threads, seconds, origin, *script):
+    words = ["wrk", "-t", str(threads), "-c", str(threads), "-d", f"{seconds}s", "-H", "Authorization: " + header(origin)]
+    words += ["-s", HERE / "sends.lua"] if script else []
+    words += [f"http://127.0.0.1:{port}{target}", *(["--", *script] if script else [])]
+    ran = subprocess.run([str(word) for word in words], stdout=subprocess.PIPE, check=True, text=True).stdout
+    if "Non-2xx" in ran and target != "/x":
+        sys.exit(ran)
+    return float(re.search(r"Requests/sec:\s+([\d.]+)", ran)[1])
+
+
+def told(threads, name, rate):
+    print(f"{threads} threads, {name}: {rate:,.0f} requests a second", flush=True)
+
+
+def queries(options, folder, threads):
+    hosts, sends = parts_of(log_of(1_000, members=500))
+    server = Server(options.program, folder / f"queries{threads}", "--threads", str(threads), "--shards", "4", hosts=hosts)
+    for send in sends:
+        server.send(*send)
+    server.connection.close()
+    event = json.loads(sends[-1][2])["pdus"][-1]
+    (newest,) = event["prev_events"]
+    targets = {
+        "a path without a route": "/x",
+        "an event": FEDERATION + "v1/event/" + quoted(newest),
+        "the state of 500 members": FEDERATION + f"v1/state/{quoted(event['room_id'])}?event_id={quoted(newest)}",
+    }
+    for name, target in targets.items():
+        told(threads, name, wrk(server.port, target, threads, options.seconds, sends[-1][0]))
+    server.stop()
+
+
+def sending(options, folder, threads):
+    """Each thread sends the messages of a room of its own, one after the other."""
+    bodies = folder / f"bodies{threads}"
+    bodies.mkdir()
+    rooms = [parts_of(log_of(options.events, batch=1, room=f"!room{number}:s0.example")) for number in range(1, threads + 1)]
+    hosts = [host for hosts, _ in rooms for host in hosts]
+    server = Server(options.program, folder / f"sends{threads}", "--threads", str(threads), "--shards", "4", hosts=hosts)
+    for number, (_, sends) in enumerate(rooms, 1):
+        first = len(sends) - options.events
+        for place, (origin, _, body) in enumerate(sends[:first]):
+            server.send(origin, f"base{number}-{place}", body)
+        bodies.joinpath(str(number)).write_bytes(b"\n".join(body for _, _, body in sends[first:]))
+    server.connection.close()
+    origin = rooms[0][1][-1][0]
+    told(threads, f"sends of one event to {folder.parent}", wrk(server.port, "", threads, options.seconds, origin, bodies))
+    server.stop()
+
+
+def constant(options, threads):
+    process = subprocess.Popen([str(options.constant), str(threads)], stdout=subprocess.PIPE)
+    port = int(process.stdout.readline().rpartition(b":")[2])
+    told(threads, "one answer to all", wrk(port, "/", threads, options.seconds, "a.example"))
+    process.terminate()
+    process.wait()
+
+
+def requests(options, folder):
+    for threads in (1, 4):
+        if options.constant:
+            constant(options, threads)
+        queries(options, folder, threads)
+        sending(options, folder, threads)
+
+
+def main():
+    parser = argparse.ArgumentParser(description=__doc__, formatter_class=argparse.RawDescriptionHelpFormatter)
+    parser.add_argument("what", choices=("rows", "requests"))
+    parser.add_argument("--program", type=Path, default=PROGRAM)
+    parser.add_argument("--folder", type=Path)
+    parser.add_argument("--events", type=int, default=10_000)
+    parser.add_argument("--seconds", type=int, default=5)
+    parser.add_argument("--constant", type=Path)
+    options = parser.parse_args()
+    with tempfile.TemporaryDirectory(dir=options.folder) as folder:
+        {"rows": rows, "requests": requests}[options.what](options, Path(folder))
+
+
+main()
