@@ -2,7 +2,7 @@
 use denote.RattleType.{RattleType}
 use denote.Param.Send.{IsSend, IsSync, sendable}
 use denote.Param.SendFields.{declared_send, declared_sync}
-use Rattle.std.proofs.Crossing.{Vec-send, Vec-sync}
+use Rattle.std.proofs.Crossing.{Box-send, Vec-send, Vec-sync}
 use Rattle.mx_keeper.specs.declared.keepers.Keeper.{Ghosts}
 use Rattle.mx_keeper.specs.declared.rows.ShardRow.{ShardRow}
 use Rattle.mx_keeper.specs.declared.rows.BookRow.{BookRow}
@@ -21,10 +21,10 @@ use Rattle.mx_engine.specs.contracts.engines.Engine as engine
 use Rattle.mx_engine.proofs.Sending.{shard_send, book_send}
 
 docked_shard_send : (K : RattleType) (g : Ghosts K.Denot ShardRow) → IsSend K → IsSend (docked_shard.the_row K g)
-docked_shard_send K g k = declared_send (docked_shard.the_type K g) (shard_send K g k, tt)
+docked_shard_send K g k = declared_send (docked_shard.the_type K g) (Box-send _ (shard_send K g k), tt)
 
 docked_book_send : (L : RattleType) (g : Ghosts L.Denot BookRow) → IsSend L → IsSend (docked_book.the_row L g)
-docked_book_send L g l = declared_send (docked_book.the_type L g) (book_send L g l, tt)
+docked_book_send L g l = declared_send (docked_book.the_type L g) (Box-send _ (book_send L g l), tt)
 
 pub seat_send : (K L : RattleType) (g : Ghosts K.Denot ShardRow) (h : Ghosts L.Denot BookRow) → IsSend K → IsSend L → IsSend (seat.the_row K L g h)
 seat_send K L g h k l = declared_send (seat.the_type K L g h) (

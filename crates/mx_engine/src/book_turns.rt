@@ -171,7 +171,7 @@ fn take_book_at<R: Wait, L: Keeper<Row = BookRow>>(
     berth: &mut Berth<DockedBook<L>>,
 ) -> DockedBook<L>
     requires { IsBerthAt place dock.now (caller_of berth.old) berth.old }
-    ensures { IsBookHeld place dock.now (caller_of berth.old) (own berth.old) berth.new result.book.place result.book.journal }
+    ensures { IsBookHeld place dock.now (caller_of berth.old) (own berth.old) berth.new result.book.value.place result.book.value.journal }
 {
     let _number = place.number();
     let _count = place.count();

@@ -222,7 +222,7 @@ fn take_at<R: Wait, K: Keeper<Row = ShardRow>, G: Gate>(
     berth: &mut Berth<DockedShard<K>>,
 ) -> DockedShard<K>
     requires { IsBerthAt place dock.now (caller_of berth.old) berth.old }
-    ensures { IsHeld place dock.now (caller_of berth.old) (own berth.old) berth.new result.shard.place result.shard.journal }
+    ensures { IsHeld place dock.now (caller_of berth.old) (own berth.old) berth.new result.shard.value.place result.shard.value.journal }
 {
     let number = place.number();
     let _count = place.count();

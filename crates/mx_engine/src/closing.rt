@@ -177,7 +177,7 @@ fn close_shard<R: Wait, K: Keeper<Row = ShardRow>>(
     let held = docked.shard.place();
     let _number = held.number();
     let _count = held.count();
-    docked.shard
+    Box::into_inner(docked.shard)
 }
 
 // The books, once all berths are given back, in the list that has room for them. It takes no memory.
@@ -222,5 +222,5 @@ fn close_book<R: Wait, L: Keeper<Row = BookRow>>(
     let held = docked.book.place();
     let _number = held.number();
     let _count = held.count();
-    docked.book
+    Box::into_inner(docked.book)
 }

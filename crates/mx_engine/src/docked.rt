@@ -4,10 +4,10 @@ use mx_dock::Journaled;
 use mx_keeper::{BookRow, Keeper, ShardRow};
 use mx_shard::{Shard, ShardEntry};
 
-/// A shard that callers share.
+/// A shard that callers share. It lies in a box, so that taking it and putting it back moves a pointer alone.
 #[derive(Drop)]
 pub struct DockedShard<K: Keeper<Row = ShardRow>> {
-    pub(crate) shard: Shard<K>,
+    pub(crate) shard: Box<Shard<K>>,
 }
 
 impl<K: Keeper<Row = ShardRow>> Journaled for DockedShard<K> {
@@ -15,17 +15,17 @@ impl<K: Keeper<Row = ShardRow>> Journaled for DockedShard<K> {
 
     type Entry = ShardEntry;
 
-    ghost journal = { λ docked. docked.shard.journal };
+    ghost journal = { λ docked. docked.shard.value.journal };
 
     ghost caller = { λ entry. entry.caller };
 
-    ghost place = { λ docked. place_code docked.shard.place };
+    ghost place = { λ docked. place_code docked.shard.value.place };
 }
 
-/// A book that callers share.
+/// A book that callers share. It lies in a box, as a shard does.
 #[derive(Drop)]
 pub struct DockedBook<L: Keeper<Row = BookRow>> {
-    pub(crate) book: Book<L>,
+    pub(crate) book: Box<Book<L>>,
 }
 
 impl<L: Keeper<Row = BookRow>> Journaled for DockedBook<L> {
@@ -33,9 +33,9 @@ impl<L: Keeper<Row = BookRow>> Journaled for DockedBook<L> {
 
     type Entry = BookEntry;
 
-    ghost journal = { λ docked. docked.book.journal };
+    ghost journal = { λ docked. docked.book.value.journal };
 
     ghost caller = { book_caller };
 
-    ghost place = { λ docked. place_code docked.book.place };
+    ghost place = { λ docked. place_code docked.book.value.place };
 }

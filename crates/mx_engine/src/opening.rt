@@ -47,6 +47,7 @@ fn open_shard<R: Wait, K: Keeper<Row = ShardRow>>(
 ) -> Result<(ShardDock<K>, Berth<DockedShard<K>>), AllocError>
     ensures { IfOk result (λ made. IsDockOpened shard.journal shard.place (padded_value made.0) made.1) }
 {
+    let shard = Box::new(alloc, shard)?;
     let (dock, berth) = Dock::open(rt, alloc, DockedShard { shard })?;
     Ok((CachePadded::new(dock), berth))
 }
@@ -78,6 +79,7 @@ fn open_book<R: Wait, L: Keeper<Row = BookRow>>(
 ) -> Result<(BookDock<L>, Berth<DockedBook<L>>), AllocError>
     ensures { IfOk result (λ made. IsDockOpened book.journal book.place (padded_value made.0) made.1) }
 {
+    let book = Box::new(alloc, book)?;
     let (dock, berth) = Dock::open(rt, alloc, DockedBook { book })?;
     Ok((CachePadded::new(dock), berth))
 }
