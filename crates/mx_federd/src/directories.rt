@@ -2,9 +2,9 @@
 ghost use Rattle.std.specs.Prelude.{◌≡◌, ◌≤◌, ◌+◌, IfOk, OnOk, length};
 
 use crate::output::Failure;
-use mx_keeper::{BookRow, KeeperFault, MOST_PLACES, ShardRow, SqliteKeeper, TableRow};
+use mx_keeper::{BookRow, Keeper, KeeperFault, MOST_PLACES, ShardRow, SqliteKeeper, TableRow};
 use mx_wire::ShardCount;
-use sqlite::{Connection, Error, ErrorCode, File, FileStore};
+use sqlite::{Alter, Connection, Error, ErrorCode, File, FileStore};
 use std::alloc::Global;
 use std::fs;
 
@@ -18,10 +18,11 @@ pub struct ServerFiles {
     pub books: Vec<FileRows<BookRow>>,
 }
 
-/// The files `shard-0.db`, `book-0.db` and so on of a directory. Where it has none of them all are made.
+/// The files `shard-0.db`, `book-0.db` and so on of a directory. Those that it lacks are made, where no file that it has
+/// has a row: so the directory of a first start that was cut off is opened as a new one.
 ///
-/// `Storage` where a file can't be opened or does not read, or where the directory has some of these files and not all,
-/// or more: then rows would be left out.
+/// `Storage` where a file can't be opened or does not read, where one is missing beside one with rows, or where there are
+/// more: then rows would be left out.
 pub fn open_directory(
     host: &HostRuntime,
     directory: &str,
@@ -37,7 +38,8 @@ pub fn open_directory(
     let rooms = files_found(host, directory, "shard", count)?;
     let replies = files_found(host, directory, "book", count)?;
     if (rooms.some || replies.some) && (rooms.lacking || replies.lacking) {
-        return Err(Failure::Storage);
+        refuse_rows::<ShardRow>(host, directory, "shard", count)?;
+        refuse_rows::<BookRow>(host, directory, "book", count)?;
     }
     let rooms = keepers(host, directory, "shard", count)?;
     let replies = keepers(host, directory, "book", count)?;
@@ -77,6 +79,31 @@ fn files_found(
         }
     }
     Ok(found)
+}
+
+// `Storage` where one of the first files of a kind has rows.
+fn refuse_rows<R: TableRow>(
+    host: &HostRuntime,
+    directory: &str,
+    kind: &str,
+    count: usize,
+) -> Result<(), Failure> {
+    for number in 0..count {
+        let path = path_of(host.alloc(), directory, kind, number)?;
+        let is_there = fs::exists(host, &path).map_err(Failure::of_io)?;
+        if is_there && has_rows::<_, R>(keeper_at(host, &path)?)? {
+            return Err(Failure::Storage);
+        }
+    }
+    Ok(())
+}
+
+fn has_rows<S: Alter + Drop, R: TableRow>(keeper: SqliteKeeper<S, R>) -> Result<bool, Failure> {
+    let mut keeper = keeper;
+    match keeper.rows() {
+        Ok(rows) => Ok(!rows.is_empty()),
+        Err(fault) => Err(fault_of(fault)),
+    }
 }
 
 // The path of a file.
