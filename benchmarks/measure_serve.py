@@ -29,6 +29,8 @@ sys.dont_write_bytecode = True
 from request_rows import FEDERATION, header, quoted  # noqa: E402
 
 SETTINGS = "PRAGMA journal_mode=WAL; PRAGMA synchronous=FULL;\n"
+# More sends a second than one connection can have.
+MOST_SENDS = 25_000
 TABLE = "CREATE TABLE kept (place INTEGER PRIMARY KEY, room TEXT NOT NULL, event TEXT NOT NULL, caller INTEGER NOT NULL);\n"
 
 
@@ -148,21 +150,26 @@ def queries(options, folder, threads):
 
 
 def sending(options, folder, threads):
-    """Each thread sends the messages of a room of its own, one after the other."""
+    """Each thread sends the messages of a room of its own, one after the other. A thread that has none left waits, so
+    that there have to be more of them than can be sent."""
+    events = MOST_SENDS * options.seconds
     bodies = folder / f"bodies{threads}"
     bodies.mkdir()
-    rooms = [parts_of(log_of(options.events, batch=1, room=f"!room{number}:s0.example")) for number in range(1, threads + 1)]
+    rooms = [parts_of(log_of(events, batch=1, room=f"!room{number}:s0.example")) for number in range(1, threads + 1)]
     hosts = [host for hosts, _ in rooms for host in hosts]
     server = Server(options.program, folder / f"sends{threads}", "--threads", str(threads), "--shards", "4", hosts=hosts)
     for number, (_, sends) in enumerate(rooms, 1):
-        first = len(sends) - options.events
+        first = len(sends) - events
         for place, (origin, _, body) in enumerate(sends[:first]):
             server.send(origin, f"base{number}-{place}", body)
         bodies.joinpath(str(number)).write_bytes(b"\n".join(body for _, _, body in sends[first:]))
     server.connection.close()
     origin = rooms[0][1][-1][0]
-    told(threads, f"sends of one event to {folder.parent}", wrk(server.port, "", threads, options.seconds, origin, bodies))
+    rate = wrk(server.port, "", threads, options.seconds, origin, bodies)
     server.stop()
+    if rate > 0.95 * threads * MOST_SENDS:
+        sys.exit("the messages ran out")
+    told(threads, f"sends of one event to {folder.parent}", rate)
 
 
 def constant(options, threads):
