@@ -29,9 +29,9 @@ sys.dont_write_bytecode = True
 from request_rows import FEDERATION, header, quoted  # noqa: E402
 
 SETTINGS = "PRAGMA journal_mode=WAL; PRAGMA synchronous=FULL;\n"
+TABLE = "CREATE TABLE kept (place INTEGER PRIMARY KEY, room TEXT NOT NULL, event TEXT NOT NULL, caller INTEGER NOT NULL);\n"
 # More sends a second than one connection can have.
 MOST_SENDS = 25_000
-TABLE = "CREATE TABLE kept (place INTEGER PRIMARY KEY, room TEXT NOT NULL, event TEXT NOT NULL, caller INTEGER NOT NULL);\n"
 
 
 def log_of(events, members=50, batch=50, room="!room:s0.example"):

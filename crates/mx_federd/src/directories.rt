@@ -22,7 +22,8 @@ pub struct ServerFiles {
 /// has a row: so the directory of a first start that was cut off is opened as a new one.
 ///
 /// `Storage` where a file can't be opened or does not read, where one is missing beside one with rows, or where there are
-/// more: then rows would be left out.
+/// more: then rows would be left out. `ReadOrWrite` where the directory can't be made, or not be looked at, and `Memory`
+/// where no memory is left. After an error the rows are as before; files without a row may have been made.
 pub fn open_directory(
     host: &HostRuntime,
     directory: &str,
