@@ -7,6 +7,7 @@ ghost use Rattle.mx_pdu.specs.Event.{has_kind, auth_ids};
 ghost use Rattle.mx_auth.specs.Rules.{auth_rules, key_of, same_key, has_repeat, is_selected as is_selected_for};
 ghost use Rattle.mx_auth.specs.Keys.{cited_shown, repeats_key as repeats_key_of, is_cited_again as is_cited_again_in};
 
+use crate::events::is_at;
 use crate::refusals::Rule;
 use crate::selecting::{NeededKeys, needed_keys};
 use mx_ident::EventId;
@@ -100,17 +101,7 @@ fn is_key_cited(kind: &str, state_key: &str, entries: &[CitedEvent<'_>]) -> bool
 {
     entries
         .iter()
-        .any(|cited| is_at(kind, state_key, cited.event))
-}
-
-// Whether an event has this type and this state key.
-fn is_at(kind: &str, state_key: &str, event: &Pdu) -> bool
-    ensures { result ≡ is_some_and (same_key (kind.now, state_key.now)) (key_of event.now) }
-{
-    match event.state_key() {
-        Some(key) => kind == event.kind() && state_key == key,
-        None => false,
-    }
+        .any(|cited| is_at(cited.event, kind, state_key))
 }
 
 // Whether a cited event has no place in the selection of auth events.

@@ -3,10 +3,9 @@ ghost use Rattle.std.specs.Prelude.{◌≡◌};
 ghost use Rattle.std.specs.Result.{result_err};
 ghost use Rattle.mx_auth.specs.Rules.{first_line, create_lines};
 
-use crate::events::is_text;
 use crate::refusals::Rule;
 use mx_pdu::Pdu;
-use mx_redact::text_field;
+use mx_redact::{is_text, text_field};
 
 /// Judges a create event.
 #[tactic(auto, unfolding(crate::specs::Rules::create_lines))]

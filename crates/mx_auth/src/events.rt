@@ -2,23 +2,23 @@
 ghost use Rattle.std.specs.Prelude.{◌≡◌, bytes_eq};
 ghost use Rattle.std.specs.List.{list_all};
 ghost use Rattle.std.specs.Option.{option_copied};
-ghost use Rattle.mx_redact.specs.Fields.{is_text as is_that_text};
+ghost use Rattle.mx_redact.specs.Fields.{is_some_and};
 ghost use Rattle.mx_pdu.specs.Event.{membership_of as membership_text};
 ghost use Rattle.mx_levels.specs.Level.{is_creator as is_creator_of};
 ghost use Rattle.mx_auth.specs.Joins as joins;
-ghost use Rattle.mx_auth.specs.Rules.{target_of as target, is_own as is_own_event, all_are as all_are_that, is_kept_out as is_kept_out_by};
+ghost use Rattle.mx_auth.specs.Rules.{key_of, same_key, target_of as target, is_own as is_own_event, all_are as all_are_that, is_kept_out as is_kept_out_by};
 
 use mx_ident::EventId;
 use mx_pdu::Pdu;
-use mx_redact::{field, text_field};
+use mx_redact::{field, is_text, text_field};
 use serde_json::Value;
 
-/// Whether there is a text, and it is this one.
-pub(crate) fn is_text(found: Option<&str>, text: &str) -> bool
-    ensures { result ≡ is_that_text text.now (option_copied found.entry) }
+/// Whether an event is a state event with this type and this state key. It takes no memory.
+pub fn is_at(event: &Pdu, kind: &str, state_key: &str) -> bool
+    ensures { result ≡ is_some_and (same_key (kind.now, state_key.now)) (key_of event.now) }
 {
-    match found {
-        Some(found) => found == text,
+    match event.state_key() {
+        Some(key) => kind == event.kind() && state_key == key,
         None => false,
     }
 }

@@ -13,6 +13,7 @@ mod selecting;
 mod states;
 
 pub use citing::{CitedEvent, judge_auth_events};
+pub use events::is_at;
 pub use joining::judge_own_join;
 pub use judging::{agreeing_states_judge_alike, judge};
 pub use refusals::Rule;

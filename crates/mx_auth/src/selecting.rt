@@ -5,8 +5,9 @@ ghost use Rattle.mx_pdu.specs.Event.{is_state, has_membership};
 ghost use Rattle.mx_auth.specs.Rules.{needed_keys as needed_keys_of, same_key, is_own as is_own_event};
 ghost use Rattle.mx_auth.specs.Keys.{key_shown};
 
-use crate::events::{is_own, is_text, membership_of, target_of};
+use crate::events::{is_own, membership_of, target_of};
 use mx_pdu::Pdu;
+use mx_redact::is_text;
 use std::marker::Model;
 
 /// A type and a state key, at which a state has at most one event.

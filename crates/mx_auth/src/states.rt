@@ -3,11 +3,11 @@ ghost use Rattle.std.specs.Prelude.{◌≡◌};
 ghost use Rattle.std.specs.Option.{option_copied};
 ghost use Rattle.mx_auth.specs.StateView.{StateView, create_of, power_of, membership_in as membership, is_joined as is_joined_in, is_invited_or_joined as is_invited_or_joined_in, is_banned as is_banned_in, join_rule_in as join_rule};
 
-use crate::events::{is_text, membership_of};
+use crate::events::membership_of;
 use mx_ident::EventId;
 use mx_levels::Levels;
 use mx_pdu::Pdu;
-use mx_redact::text_field;
+use mx_redact::{is_text, text_field};
 
 /// A room's state: the event at each type and state key.
 ///

@@ -13,3 +13,4 @@ pub mod ReachedRowLemmas
 pub mod ChainLemmas
 pub mod ChainDifferenceLemmas
 pub mod KeptChainLemmas
+pub mod SetLemmas

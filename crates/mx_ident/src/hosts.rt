@@ -1,8 +1,8 @@
 // The host of a server name, and whether it is an IP literal. Nothing here takes memory.
 ghost use Rattle.std.specs.Prelude.{◌≡◌, MatchOption, false, true};
-ghost use Rattle.std.specs.Char.{is_ascii_digit};
-ghost use Rattle.std.specs.List.{list_all};
 ghost use Rattle.mx_ident.specs.Identifier as definition;
+
+use crate::digits::has_only_digits;
 
 pub fn host_of(name: &str) -> &str
     ensures { result.now ≡ definition.host name.now }
@@ -57,11 +57,5 @@ fn is_octet(part: &str) -> bool
 fn is_digits(text: &str, fewest: usize, most: usize) -> bool
     ensures { result ≡ definition.is_digits fewest most text.now }
 {
-    fewest <= text.len() && text.len() <= most && has_only_digits(text)
-}
-
-fn has_only_digits(text: &str) -> bool
-    ensures { result ≡ list_all is_ascii_digit text.now }
-{
-    text.bytes().all(|byte| byte.is_ascii_digit())
+    fewest <= text.len() && text.len() <= most && has_only_digits(text.as_bytes())
 }

@@ -8,6 +8,7 @@
 #![tactic(auto)]
 
 mod checking;
+mod digits;
 mod event_ids;
 mod hosts;
 mod refusals;
@@ -15,6 +16,7 @@ mod room_ids;
 mod server_names;
 mod user_ids;
 
+pub use digits::has_only_digits;
 pub use event_ids::EventId;
 pub use refusals::{IdError, NotAnId};
 pub use room_ids::RoomId;

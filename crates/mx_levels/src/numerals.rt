@@ -6,6 +6,7 @@ ghost use Rattle.mx_ident.specs.Identifier.{decimal_value};
 ghost use Rattle.mx_levels.specs.Level as definition;
 
 use mx_canon::LARGEST;
+use mx_ident::has_only_digits;
 
 // The level that a text holds.
 pub fn level_in_text(text: &str) -> Option<i64>
@@ -58,12 +59,6 @@ fn capped_value(digits: &[u8]) -> u64
         value = (value * 10 + (*digit - b'0') as u64).min(LARGEST + 1);
     }
     value
-}
-
-fn has_only_digits(text: &[u8]) -> bool
-    ensures { result ≡ list_all is_ascii_digit text.now }
-{
-    text.iter().all(|byte| byte.is_ascii_digit())
 }
 
 fn without_first_spaces(text: &[u8]) -> &[u8]

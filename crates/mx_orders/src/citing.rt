@@ -1,13 +1,11 @@
 // The auth events of an event, by their keys.
 ghost use Rattle.std.specs.Prelude.{◌≡◌, ◌<◌, ◌≤◌, [], IfSome, length};
-ghost use Rattle.mx_redact.specs.Fields.{is_some_and};
-ghost use Rattle.mx_auth.specs.Rules.{key_of, same_key};
 ghost use Rattle.mx_graph.specs.Graph.{IsSound};
 ghost use Rattle.mx_graph.specs.Record as record_of;
 ghost use Rattle.mx_orders.specs.StateMap.{auth_event_at};
 
+use mx_auth::is_at;
 use mx_graph::{EventNo, Graph, MOST_ROWS};
-use mx_pdu::Pdu;
 
 /// The first auth event of an event that has this type and an empty state key.
 pub(crate) fn auth_event(graph: &Graph, number: EventNo, kind: &str) -> Option<EventNo>
@@ -21,19 +19,9 @@ pub(crate) fn auth_event(graph: &Graph, number: EventNo, kind: &str) -> Option<E
         return None;
     }
     for other in graph.auth_events(number) {
-        if is_at(&graph.row(*other).event, kind) {
+        if is_at(&graph.row(*other).event, kind, "") {
             return Some(*other);
         }
     }
     None
-}
-
-// Whether an event is a state event of this type with an empty state key.
-fn is_at(event: &Pdu, kind: &str) -> bool
-    ensures { result ≡ is_some_and (same_key (kind.now, [])) (key_of event.now) }
-{
-    match event.state_key() {
-        Some(state_key) => kind == event.kind() && state_key.is_empty(),
-        None => false,
-    }
 }

@@ -17,6 +17,7 @@ mod readiness;
 mod tied_positions;
 
 pub use mainline_ordering::mainline_order;
+pub use mainlines::Mainline;
 pub use power_ordering::power_order;
 
 #[cfg(test)]

@@ -11,10 +11,12 @@ use mx_graph::{EventNo, Graph, MOST_ROWS};
 use std::alloc::{AllocError, Global};
 use std::marker::Model;
 
-// The mainline of a power levels event: that event, the power levels event among its auth events, the one among that
-// one's, and so on. Without a power levels event it is empty.
+/// The mainline of a power levels event: that event, the power levels event among its auth events, the one among that
+/// one's, and so on. Without a power levels event it is empty.
+///
+/// Source: the Matrix specification, Room Version 2, state resolution, "mainline ordering".
 #[derive(Debug, Drop)]
-pub(crate) struct Mainline {
+pub struct Mainline {
     line: Vec<EventNo>,
 }
 
@@ -30,12 +32,8 @@ impl Model for Mainline {
 }
 
 impl Mainline {
-    // The mainline of a power levels event.
-    pub(crate) fn of(
-        alloc: Global,
-        graph: &Graph,
-        power: Option<EventNo>,
-    ) -> Result<Mainline, AllocError>
+    /// The mainline of a power levels event. The one error is that no memory is left.
+    pub fn of(alloc: Global, graph: &Graph, power: Option<EventNo>) -> Result<Mainline, AllocError>
         ensures { IfOk result (λ mainline. mainline ≡ definition.mainline graph.now power) }
     {
         let mut line = Vec::new(alloc);
@@ -47,9 +45,9 @@ impl Mainline {
         Ok(Mainline { line })
     }
 
-    // The place in the mainline, from 0, of the first power levels event that lies there of those that an event rests
-    // on. The event itself does not count. `None` where none lies there: the position is infinite.
-    pub(crate) fn position(&self, graph: &Graph, event: EventNo) -> Option<u32>
+    /// The place in the mainline, from 0, of the first power levels event that lies there of those that an event rests
+    /// on. The event itself does not count. `None` where none lies there: the position is infinite. It takes no memory.
+    pub fn position(&self, graph: &Graph, event: EventNo) -> Option<u32>
         ensures { result ≡ definition.mainline_position graph.now self.now event }
     {
         let mut above = event;

@@ -4,3 +4,4 @@ pub mod DataCode
 pub mod Inside
 pub mod Verifiers
 pub mod Refusals
+pub mod Offers

@@ -21,10 +21,10 @@ use crate::resolution_cache::ResolutionCache;
 use crate::snapshots::{Judgement, resolved_after, state_after};
 use crate::timelines::Prepared;
 use crate::verdicts::Verdict;
-use mx_graph::{EventNo, Graph, GraphRow, graph_is_sound};
+use mx_graph::{EventNo, Graph, GraphRow, graph_is_sound, rising};
 use mx_ident::EventId;
 use mx_pdu::Pdu;
-use mx_state_res::{StateNo, States, rising};
+use mx_state_res::{StateNo, States};
 use std::alloc::{AllocError, Global};
 
 // The state before an event that comes next: the resolution of the states after its prev events, each once. Where these

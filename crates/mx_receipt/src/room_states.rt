@@ -6,7 +6,7 @@ ghost use Rattle.mx_graph.specs.Record as record_of;
 ghost use Rattle.mx_orders.specs.StateMap as state_of_events;
 ghost use Rattle.mx_state_res.specs.Numbered.{AreKnown, state_at};
 
-use mx_auth::{RoomState, Rule, judge};
+use mx_auth::{RoomState, Rule, is_at, judge};
 use mx_graph::{EventNo, Graph};
 use mx_ident::EventId;
 use mx_pdu::Pdu;
@@ -134,16 +134,6 @@ fn first_at(graph: &Graph, events: &[EventNo], kind: &str, state_key: &str) -> O
         }
     }
     None
-}
-
-// Whether an event is a state event of this type with this state key.
-fn is_at(event: &Pdu, kind: &str, state_key: &str) -> bool
-    ensures { result ≡ is_some_and (same_key (kind.now, state_key.now)) (key_of event.now) }
-{
-    match event.state_key() {
-        Some(key) => kind == event.kind() && state_key == key,
-        None => false,
-    }
 }
 
 /// The line of the authorization rules that does not allow an event in a state, where there is one. It takes no memory.

@@ -17,7 +17,7 @@ mod signing;
 mod tests;
 
 pub use digests::{Digests, event_digests};
-pub use fields::{field, text_field};
+pub use fields::{field, is_text, text_field};
 pub use hashing::{content_digest, content_hash, reference_digest, reference_hash};
 pub use redacting::redact;
 pub use signing::{event_id, event_id_by_text, id_with_hash, signing_bytes};

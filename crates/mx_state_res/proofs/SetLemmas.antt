@@ -22,13 +22,6 @@ shown bs = map (λ s. s.now) bs
 
 -- ---- members
 
-tied-is : (p x : ℕ) → is_eq (nat_cmp p x) ≡ (x == p)
-tied-is p x = grind (arith, nat_tests)
-
-pub contains-is : (xs : List ℕ) (p : ℕ) → list_any (λ k. is_eq (nat_cmp p k)) xs ≡ is_in xs p
-contains-is [] p = refl
-contains-is (x ∷ xs) p = ap₂ (λ a b. a || b) (tied-is p x) (contains-is xs p)
-
 pub is_in-append : (xs ys : List ℕ) (p : ℕ) → is_in (xs ++ ys) p ≡ (is_in xs p || is_in ys p)
 is_in-append xs ys p = list_any-append (λ x. x == p) xs ys
 
@@ -87,22 +80,6 @@ module _ {A B : Type 0} (f : A → B) where
   map-map g (x ∷ xs) = ap (λ ys. g (f x) ∷ ys) (map-map g xs)
 
 -- ---- rising lists
-
-less-from : (x z : ℕ) → nat_cmp x z ≡ Less → x < z
-less-from x z e = grind (arith, nat_tests)
-
-after_first : (x : ℕ) (xs : List ℕ) → AllByRecursion (λ y. nat_cmp x y ≡ Less) xs → (y : ℕ) → is_in xs y ≡ true → x < y
-after_first x [] h y e = absurd (cc e)
-after_first x (z ∷ zs) h y e = by (λ k. after_first x zs h.1 y k) (or_cases (z == y) (is_in zs y) e)
-  where
-    by : (is_in zs y ≡ true → x < y) → ((z == y) ≡ true) ⊎ (is_in zs y ≡ true) → x < y
-    by later (inl k) = let s : z ≡ y = eqb-true z y k in let l : x < z = less-from x z h.0 in omega arith
-    by later (inr k) = later k
-
-pub rises-from : (xs : List ℕ) → IsStrictlySortedBy nat_cmp xs → Rises xs
-unfolding IsStrictlySortedBy
-rises-from [] h = tt
-rises-from (x ∷ xs) h = (λ y m. after_first x xs h.0 y m, rises-from xs h.1)
 
 pub rises-distinct : (xs : List ℕ) → Rises xs → Distinct xs
 rises-distinct [] r = tt

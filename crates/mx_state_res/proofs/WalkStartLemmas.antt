@@ -9,7 +9,8 @@ use Rattle.mx_graph.specs.Record.{Row, is_in}
 use Rattle.mx_state_res.specs.ChainDifference.{is_cited}
 use Rattle.mx_state_res.specs.Masks.{Masks, waits, is_cited_by, is_there}
 use Rattle.mx_graph.proofs.Closure.{or_left, or_right, is_in-to}
-use Rattle.mx_state_res.proofs.SetLemmas.{is_in-append, all-at, contains-is}
+use Rattle.mx_graph.proofs.SetLemmas.{contains-is}
+use Rattle.mx_state_res.proofs.SetLemmas.{is_in-append, all-at}
 use Rattle.mx_state_res.proofs.MaskLemmas.{waits-there}
 
 -- ---- a start is taken

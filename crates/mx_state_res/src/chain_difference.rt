@@ -8,10 +8,9 @@ ghost use Rattle.mx_state_res.specs.Masks.{has, waits, is_due, is_there, AreKept
 
 use crate::chain_walks::{ChainWalk, Taken};
 use crate::dense_difference::dense_chain_difference;
-use crate::event_sets::{rising, set_of};
 use crate::masks::{differs, every, only};
 use crate::state_sets::MOST_STATES;
-use mx_graph::{EventNo, Graph, graph_is_sound};
+use mx_graph::{EventNo, Graph, graph_is_sound, rising, set_of};
 use std::alloc::{AllocError, Global};
 
 /// The events that are in the auth chains of some of these sets, and not of all, and not in the chain of what all sets

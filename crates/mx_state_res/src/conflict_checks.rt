@@ -4,8 +4,8 @@ ghost use Rattle.mx_graph.specs.Edges.{Rises};
 ghost use Rattle.mx_state_res.specs.Numbered.{checked, shown_by};
 
 use crate::auth_checks::check_each;
-use crate::event_sets::without;
 use crate::powers::power_events;
+use crate::rising_lists::without;
 use crate::working_states::WorkingState;
 use mx_graph::{EventNo, Graph};
 use mx_orders::{mainline_order, power_order};

@@ -9,9 +9,8 @@ ghost use Rattle.mx_state_res.specs.Resolution as definition;
 
 use crate::chain_difference::chain_difference;
 use crate::entries::StateEntry;
-use crate::event_sets::rising;
 use crate::state_maps::StateMap;
-use mx_graph::{EventNo, Graph, graph_is_sound};
+use mx_graph::{EventNo, Graph, graph_is_sound, rising};
 use std::alloc::{AllocError, Global};
 
 /// The unconflicted state: the entries that every state has.

@@ -1,15 +1,13 @@
 // The state in which an event is judged while states are resolved.
 ghost use Rattle.std.specs.Prelude.{◌≡◌, ◌<◌, All, IfSome, None, Some, if◌then◌else◌, length};
 ghost use Rattle.std.specs.Option.{option_copied, option_or};
-ghost use Rattle.mx_redact.specs.Fields.{is_some_and};
-ghost use Rattle.mx_auth.specs.Rules.{key_of, same_key};
 ghost use Rattle.mx_graph.specs.Record as record_of;
 ghost use Rattle.mx_orders.specs.StateMap.{auth_event_at, entry as entry_at};
 ghost use Rattle.mx_state_res.specs.Numbered.{shown_by};
 ghost use Rattle.mx_state_res.specs.Resolution as definition;
 
 use crate::working_states::WorkingState;
-use mx_auth::{RoomState, judge, needed_keys};
+use mx_auth::{RoomState, is_at, judge, needed_keys};
 use mx_graph::{EventNo, Graph};
 use mx_ident::EventId;
 use mx_pdu::Pdu;
@@ -121,16 +119,6 @@ fn auth_event(graph: &Graph, number: EventNo, kind: &str, state_key: &str) -> Op
         }
     }
     None
-}
-
-// Whether an event is a state event of this type with this state key.
-fn is_at(event: &Pdu, kind: &str, state_key: &str) -> bool
-    ensures { result ≡ is_some_and (same_key (kind.now, state_key.now)) (key_of event.now) }
-{
-    match event.state_key() {
-        Some(key) => kind == event.kind() && state_key == key,
-        None => false,
-    }
 }
 
 /// Whether the rules allow an event in a state, where what the state lacks is taken from the event's auth events. It

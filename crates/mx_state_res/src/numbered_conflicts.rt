@@ -9,11 +9,10 @@ ghost use Rattle.mx_state_res.specs.Resolution as definition;
 
 use crate::chain_difference::chain_difference;
 use crate::conflicts::joined;
-use crate::event_sets::rising;
 use crate::state_maps::StateMap;
 use crate::state_numbers::StateNo;
 use crate::states::States;
-use mx_graph::{EventNo, Graph, graph_is_sound};
+use mx_graph::{EventNo, Graph, graph_is_sound, rising};
 use std::alloc::{AllocError, Global};
 
 /// The full conflicted set of some states, rising, where `differing` has the keys at which they are not all alike, and

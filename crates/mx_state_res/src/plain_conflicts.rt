@@ -9,9 +9,9 @@ ghost use Rattle.mx_state_res.specs.Agreed.{IsAgreed};
 ghost use Rattle.mx_state_res.specs.Resolution as definition;
 
 use crate::conflicts::{conflicted_events, events_of, joined};
-use crate::event_sets::{rising, stands_in};
+use crate::rising_lists::stands_in;
 use crate::state_maps::StateMap;
-use mx_graph::{EventNo, Graph};
+use mx_graph::{EventNo, Graph, rising};
 use std::alloc::{AllocError, Global};
 
 // The set of `full_conflicted`. It joins the whole auth chains of whole states, and stands beside that one for the tests.

@@ -1,17 +1,15 @@
 // Power events.
 ghost use Rattle.std.specs.Prelude.{◌≡◌, ◌<◌, ◌||◌, All, IfOk, IfSome, filter, length};
-ghost use Rattle.std.specs.Option.{option_copied};
-ghost use Rattle.mx_redact.specs.Fields.{is_text};
 ghost use Rattle.mx_graph.specs.Edges.{Rises};
 ghost use Rattle.mx_graph.specs.Graph.{auth_chain};
 ghost use Rattle.mx_graph.specs.Record as record_of;
 ghost use Rattle.mx_graph.specs.Record.{is_in};
 ghost use Rattle.mx_state_res.specs.Resolution as definition;
 
-use crate::event_sets::{stands_in, within};
+use crate::rising_lists::{stands_in, within};
 use mx_graph::{EventNo, Graph, least_of};
 use mx_pdu::Pdu;
-use mx_redact::text_field;
+use mx_redact::{is_text, text_field};
 use std::alloc::{AllocError, Global};
 
 /// The power events of these events, and those of them that are in the auth chains of the power events, rising.
@@ -141,16 +139,6 @@ fn is_removal(event: &Pdu) -> bool
 {
     let membership = text_field(event.content(), "membership");
     event.kind() == "m.room.member"
-        && (is_that_text(membership, "leave") || is_that_text(membership, "ban"))
-        && !is_that_text(event.state_key(), event.sender().as_str())
-}
-
-// Whether there is a text, and it is this one.
-fn is_that_text(found: Option<&str>, text: &str) -> bool
-    ensures { result ≡ is_text text.now (option_copied found.entry) }
-{
-    match found {
-        Some(found) => found == text,
-        None => false,
-    }
+        && (is_text(membership, "leave") || is_text(membership, "ban"))
+        && !is_text(event.state_key(), event.sender().as_str())
 }

@@ -8,6 +8,6 @@ pub mod Worlds
 pub mod Parts
 pub mod Inside
 pub mod Storage
-pub mod Offers
+pub use Rattle.mx_pdu.specs.Offers
 pub mod Reopening
 pub mod Crashes

@@ -4,7 +4,7 @@ use Rattle.std.specs.declared.alloc.Global.{Global}
 use Rattle.mx_graph.specs.Record.{is_in}
 use Rattle.mx_state_res.specs.ChainDifference.{cites, is_cited}
 use Rattle.mx_state_res.specs.Masks.{is_due}
-use Rattle.mx_state_res.proofs.SetLemmas.{contains-is}
+use Rattle.mx_graph.proofs.SetLemmas.{contains-is}
 use Rattle.mx_state_res.proofs.CitedLemmas.{cited-same}
 use Rattle.mx_state_res.proofs.WalkStartLemmas.{starts-known, start-known, start-waits}
 use Rattle.mx_state_res.proofs.WalkStepLemmas.{starts-there}

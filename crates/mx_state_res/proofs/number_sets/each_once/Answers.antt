@@ -1,6 +1,6 @@
 use Rattle.std.proofs.Common.{sym, ap, ◌∙◌}
 use Rattle.mx_graph.specs.Record.{is_in}
-use Rattle.mx_state_res.proofs.SetLemmas.{contains-is}
+use Rattle.mx_graph.proofs.SetLemmas.{contains-is}
 use Rattle.mx_state_res.proofs.number_sets.each_once.Goals as goal
 
 pub returns : goal.returns

@@ -1,5 +1,5 @@
 use Rattle.std.proofs.Common.{◌≡◌, ◌++◌}
-use Rattle.mx_state_res.proofs.event_sets.list_of.Given as goal
+use Rattle.mx_graph.proofs.event_sets.list_of.Given as goal
 
 -- the events so far, and those that are left, are all
 abbrev pub invariant-loop-event : goal.invariant-loop-event

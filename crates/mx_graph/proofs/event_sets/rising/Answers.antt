@@ -1,8 +1,8 @@
 use Rattle.std.proofs.Common.{sym, ap, subst, ◌∙◌}
 use Rattle.mx_graph.specs.Edges.{Rises}
 use Rattle.mx_graph.specs.Record.{is_in}
-use Rattle.mx_state_res.proofs.SetLemmas.{rises-from, contains-is}
-use Rattle.mx_state_res.proofs.event_sets.rising.Goals as goal
+use Rattle.mx_graph.proofs.SetLemmas.{rises-from, contains-is}
+use Rattle.mx_graph.proofs.event_sets.rising.Goals as goal
 
 pub returns-clause-rises : goal.returns-clause-rises
 returns-clause-rises c = subst Rises (sym c.in_ok-found.ensures.all) (rises-from c.in_ok-set.set.keys c.in_ok-found.ensures.ordered)
