@@ -8,8 +8,10 @@ mod listening;
 mod making;
 mod messages;
 mod quiet;
+mod runtimes;
 
 pub use answering::Unanswered;
 pub use connections::{Source, serve_one};
 pub use listening::{Limits, serve_on};
 pub use messages::{HttpReply, HttpRequest, Responder};
+pub use runtimes::ServerRuntime;
