@@ -1,10 +1,10 @@
 ghost use Rattle.std.specs.Prelude.{◌<◌, All, IfOk, length};
 
 use crate::StateMap;
-use crate::chain_difference::sparse_chain_difference;
+use crate::chains::chain_difference::sparse_chain_difference;
 use crate::conflicts::{events_of, full_conflicted, unconflicted};
-use crate::dense_difference::dense_chain_difference;
-use crate::plain_conflicts::plain_full_conflicted;
+use crate::chains::dense_difference::dense_chain_difference;
+use crate::plain::plain_conflicts::plain_full_conflicted;
 use mx_graph::{EventNo, Graph, GraphRow};
 use mx_ident::EventId;
 use mx_pdu::Pdu;

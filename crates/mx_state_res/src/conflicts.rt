@@ -7,7 +7,10 @@ ghost use Rattle.mx_orders.specs.StateMap.{events_of as events_in, key_cmp};
 ghost use Rattle.mx_state_res.specs.Agreed.{IsAgreed};
 ghost use Rattle.mx_state_res.specs.Resolution as definition;
 
-use crate::chain_difference::chain_difference;
+pub(crate) mod numbered_conflicts;
+pub(crate) mod rising_lists;
+
+use crate::chains::chain_difference::chain_difference;
 use crate::entries::StateEntry;
 use crate::state_maps::StateMap;
 use mx_graph::{EventNo, Graph, graph_is_sound, rising};

@@ -5,9 +5,13 @@ ghost use Rattle.std.specs.Ordering.{nat_cmp};
 ghost use Rattle.std.specs.List.Sorted.{IsStrictlyIncreasing};
 ghost use Rattle.mx_state_res.specs.SnapshotEntries.{DifferAt, changed, snapshot};
 
-use crate::snapshot_chains::{Stored, entries_at, value_at, with_changes};
-use crate::snapshot_differences::differing_keys;
-use crate::state_numbers::StateNo;
+mod snapshot_chains;
+mod snapshot_differences;
+pub(crate) mod snapshot_edits;
+
+use crate::snapshots::snapshot_chains::{Stored, entries_at, value_at, with_changes};
+use crate::snapshots::snapshot_differences::differing_keys;
+use crate::states::state_numbers::StateNo;
 use mx_graph::EventNo;
 use std::alloc::{AllocError, Global};
 use std::marker::Model;

@@ -1,6 +1,6 @@
 ghost use Rattle.std.specs.Prelude.{◌<◌, IfSome, length};
 
-use crate::plain_states::PlainStates;
+use crate::plain::plain_states::PlainStates;
 use crate::{StateMap, StateNo, States};
 use mx_graph::EventNo;
 use std::alloc::Global;

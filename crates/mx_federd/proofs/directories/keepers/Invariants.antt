@@ -1,6 +1,0 @@
-use Rattle.std.proofs.Common.{◌≡◌, length}
-use Rattle.mx_federd.proofs.directories.keepers.Given as goal
-
--- as many keepers as were counted
-abbrev pub invariant-loop-number : goal.invariant-loop-number
-invariant-loop-number g l = length l.keepers.items ≡ l.number

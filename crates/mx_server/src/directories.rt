@@ -1,0 +1,168 @@
+// The files of a server: its rows, in a directory.
+ghost use Rattle.std.specs.Prelude.{◌≡◌, ◌≤◌, ◌+◌, IfOk, OnOk, length};
+
+use crate::errors::ServerError;
+use mx_keeper::{BookRow, Keeper, KeeperFault, MOST_PLACES, ShardRow, SqliteKeeper, TableRow};
+use mx_wire::ShardCount;
+use sqlite::{Alter, Connection, Error, ErrorCode, File, FileStore};
+use std::alloc::Global;
+use std::fs;
+
+/// Rows of one kind in a file.
+pub type FileRows<R> = SqliteKeeper<FileStore<File>, R>;
+
+/// The files of a server, each taken by a keeper: one for each shard, and one for each book.
+#[derive(Drop)]
+pub struct ServerFiles {
+    pub shards: Vec<FileRows<ShardRow>>,
+    pub books: Vec<FileRows<BookRow>>,
+}
+
+/// The files `shard-0.db`, `book-0.db` and so on of a directory. Those that it lacks are made, where no file that it has
+/// has a row: so the directory of a first start that was cut off is opened as a new one.
+///
+/// `Storage` where a file can't be opened or does not read, where one is missing beside one with rows, or where there are
+/// more: then rows would be left out. `ReadOrWrite` where the directory can't be made, or not be looked at, and `Memory`
+/// where no memory is left. After an error the rows are as before; files without a row may have been made.
+pub fn open_directory(
+    host: &HostRuntime,
+    directory: &str,
+    shards: ShardCount,
+) -> Result<ServerFiles, ServerError>
+    ensures some_shard { IfOk result (λ files. 1 ≤ length files.shards.items) }
+    ensures few_shards { IfOk result (λ files. length files.shards.items ≤ MOST_PLACES) }
+    ensures some_book { IfOk result (λ files. 1 ≤ length files.books.items) }
+    ensures few_books { IfOk result (λ files. length files.books.items ≤ MOST_PLACES) }
+{
+    let count = shards.get();
+    fs::create_dir_all(host, directory).map_err(ServerError::of_io)?;
+    let rooms = files_found(host, directory, "shard", count)?;
+    let replies = files_found(host, directory, "book", count)?;
+    if (rooms.some || replies.some) && (rooms.lacking || replies.lacking) {
+        refuse_rows::<ShardRow>(host, directory, "shard", count)?;
+        refuse_rows::<BookRow>(host, directory, "book", count)?;
+    }
+    let rooms = keepers(host, directory, "shard", count)?;
+    let replies = keepers(host, directory, "book", count)?;
+    Ok(ServerFiles {
+        shards: rooms,
+        books: replies,
+    })
+}
+
+// Whether some of the first files of a kind are there, and whether one is not.
+#[derive(Clone, Copy)]
+struct Presence {
+    some: bool,
+    lacking: bool,
+}
+
+// Which files of a kind are there. No file may stand behind the first ones.
+fn files_found(
+    host: &HostRuntime,
+    directory: &str,
+    kind: &str,
+    count: usize,
+) -> Result<Presence, ServerError> {
+    let mut found = Presence {
+        some: false,
+        lacking: false,
+    };
+    for number in 0..MOST_PLACES {
+        let path = path_of(host.alloc(), directory, kind, number)?;
+        let is_there = fs::exists(host, &path).map_err(ServerError::of_io)?;
+        if number >= count && is_there {
+            return Err(ServerError::Storage);
+        }
+        if number < count {
+            found.some |= is_there;
+            found.lacking |= !is_there;
+        }
+    }
+    Ok(found)
+}
+
+// `Storage` where one of the first files of a kind has rows.
+fn refuse_rows<R: TableRow>(
+    host: &HostRuntime,
+    directory: &str,
+    kind: &str,
+    count: usize,
+) -> Result<(), ServerError> {
+    for number in 0..count {
+        let path = path_of(host.alloc(), directory, kind, number)?;
+        let is_there = fs::exists(host, &path).map_err(ServerError::of_io)?;
+        if is_there && has_rows::<_, R>(keeper_at(host, &path)?)? {
+            return Err(ServerError::Storage);
+        }
+    }
+    Ok(())
+}
+
+fn has_rows<S: Alter + Drop, R: TableRow>(keeper: SqliteKeeper<S, R>) -> Result<bool, ServerError> {
+    let mut keeper = keeper;
+    match keeper.rows() {
+        Ok(rows) => Ok(!rows.is_empty()),
+        Err(fault) => Err(fault_of(fault)),
+    }
+}
+
+// The path of a file.
+fn path_of(
+    alloc: Global,
+    directory: &str,
+    kind: &str,
+    number: usize,
+) -> Result<String, ServerError> {
+    Ok(format!(in alloc; "{directory}/{kind}-{number}.db")?)
+}
+
+// The rows of the first files of a kind.
+fn keepers<R: TableRow>(
+    host: &HostRuntime,
+    directory: &str,
+    kind: &str,
+    count: usize,
+) -> Result<Vec<FileRows<R>>, ServerError>
+    ensures { IfOk result (λ keepers. length keepers.items ≡ count) }
+{
+    let mut keepers = Vec::new(host.alloc());
+    for number in 0..count {
+        let path = path_of(host.alloc(), directory, kind, number)?;
+        let keeper = keeper_at(host, &path)?;
+        push(&mut keepers, keeper)?;
+    }
+    Ok(keepers)
+}
+
+fn push<K: Drop>(keepers: &mut Vec<K>, keeper: K) -> Result<(), ServerError>
+    ensures { OnOk result (length keepers.new.items ≡ length keepers.old.items + 1) }
+{
+    match keepers.push(keeper) {
+        Ok(()) => Ok(()),
+        Err(_refused) => Err(ServerError::Memory),
+    }
+}
+
+// The rows of a file.
+fn keeper_at<R: TableRow>(host: &HostRuntime, path: &str) -> Result<FileRows<R>, ServerError> {
+    let connection = Connection::open(host, path).map_err(unopened)?;
+    match SqliteKeeper::adopt(host.alloc(), connection) {
+        Ok(keeper) => Ok(keeper),
+        Err(refused) => Err(fault_of(refused.fault)),
+    }
+}
+
+fn unopened(error: Error) -> ServerError {
+    match error {
+        Error::SqliteFailure(ErrorCode::OutOfMemory) => ServerError::Memory,
+        _ => ServerError::Storage,
+    }
+}
+
+fn fault_of(fault: KeeperFault) -> ServerError {
+    match fault {
+        KeeperFault::Memory => ServerError::Memory,
+        KeeperFault::Store | KeeperFault::Table => ServerError::Storage,
+    }
+}
