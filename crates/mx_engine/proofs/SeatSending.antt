@@ -20,10 +20,10 @@ use Rattle.mx_engine.specs.contracts.seats.Seat as seat
 use Rattle.mx_engine.specs.contracts.engines.Engine as engine
 use Rattle.mx_engine.proofs.Sending.{shard_send, book_send}
 
-docked_shard_send : (K : RattleType) (g : Ghosts K.Denot ShardRow) → IsSend K → IsSend (docked_shard.the_row K g)
+pub docked_shard_send : (K : RattleType) (g : Ghosts K.Denot ShardRow) → IsSend K → IsSend (docked_shard.the_row K g)
 docked_shard_send K g k = declared_send (docked_shard.the_type K g) (Box-send _ (shard_send K g k), tt)
 
-docked_book_send : (L : RattleType) (g : Ghosts L.Denot BookRow) → IsSend L → IsSend (docked_book.the_row L g)
+pub docked_book_send : (L : RattleType) (g : Ghosts L.Denot BookRow) → IsSend L → IsSend (docked_book.the_row L g)
 docked_book_send L g l = declared_send (docked_book.the_type L g) (Box-send _ (book_send L g l), tt)
 
 pub seat_send : (K L : RattleType) (g : Ghosts K.Denot ShardRow) (h : Ghosts L.Denot BookRow) → IsSend K → IsSend L → IsSend (seat.the_row K L g h)

@@ -1,7 +1,5 @@
 -- For proofs and private clauses alone.
 -- What went wrong, to the program.
-use Rattle.mx_keeper.specs.declared.refusals.CallError.{CallError}
-use Rattle.mx_keeper.specs.declared.refusals.CallError.TheVariants as call
 use Rattle.mx_wire.specs.declared.input.InputError.{InputError}
 use Rattle.mx_wire.specs.declared.input.InputError.TheVariants as input
 use Rattle.mx_wire.specs.declared.line_runs.LinesError.{LinesError}
@@ -18,7 +16,3 @@ of_lines lines.Memory = Memory
 of_lines lines.Storage = Storage
 of_lines lines.Read = ReadOrWrite
 of_lines lines.Write = ReadOrWrite
-
-abbrev pub of_call : CallError → Failure
-of_call call.Memory = Memory
-of_call call.Storage = Storage

@@ -1,10 +1,10 @@
 // The words of the command line.
-use crate::serving::{SeatCount, ServeOptions};
 use clap::builder::ValueParser;
 use clap::error::ErrorKind;
 use clap::{Arg, ArgAction, ArgMatches, Error};
 use mx_ident::{IdError, ServerName};
 use mx_keeper::MOST_PLACES;
+use mx_server::{SeatCount, ServeOptions};
 use mx_wire::ShardCount;
 use std::alloc::{AllocError, Global};
 
@@ -165,7 +165,7 @@ fn options_of(
         given.get_one::<u16>("port"),
         given.get_one::<u32>("threads").and_then(SeatCount::of),
         shards_of(given),
-        given.get_one::<u64>("connections"),
+        given.get_one::<usize>("connections"),
     ) else {
         return Ok(None);
     };

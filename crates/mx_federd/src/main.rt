@@ -6,18 +6,15 @@
 
 mod checking;
 mod command_line;
-mod directories;
 mod output;
 mod replaying;
-mod serving;
-mod workers;
 
 use checking::check_event;
 use command_line::{Command, CommandLineError};
+use mx_server::{ServeOptions, serve};
 use mx_wire::read_all;
-use output::{Failure, MISUSED, SUCCESS, lines_of, report, write_to};
+use output::{Failure, MISUSED, SUCCESS, lines_of, report, report_server, write_to};
 use replaying::replay;
-use serving::{ServeOptions, serve};
 use std::alloc::{AllocError, Global};
 use std::env;
 use std::io::{self, Read, Write};
@@ -102,7 +99,12 @@ fn main(rt: HostRuntime) -> ExitCode {
     };
     let status = match asked {
         Asked::Ended(status) => status,
-        Asked::Serve(options) => serve(&rt, &rt, options, &mut rt.stdout(), &mut rt.stderr()),
+        Asked::Serve(options) => {
+            match serve(&rt, &rt, options, &mut rt.stdout(), &mut rt.stderr()) {
+                Ok(()) => SUCCESS,
+                Err(error) => report_server(error, &mut rt.stderr()),
+            }
+        }
     };
     ExitCode::from(status)
 }

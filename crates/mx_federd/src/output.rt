@@ -4,8 +4,8 @@ ghost use Rattle.std.specs.IoError.{error_kind};
 ghost use Rattle.mx_federd.specs.Lines.{check_lines};
 
 use crate::checking::{CheckError, Checked};
+use mx_server::ServerError;
 use mx_wire::{InputError, LinesError};
-use mx_world::CallError;
 use std::alloc::{AllocError, Global};
 use std::io::{self, ErrorKind, Write};
 use thiserror::Error;
@@ -83,20 +83,6 @@ impl From<LinesError> for Failure {
     }
 }
 
-impl From<CallError> for Failure {
-    ghost use Rattle.std.specs.Prelude.{◌≡◌};
-    ghost use Rattle.mx_federd.specs.Failures.{of_call};
-
-    ghost from_gives = { λ error failure. failure ≡ of_call error };
-
-    fn from(error: CallError) -> Failure {
-        match error {
-            CallError::Memory => Failure::Memory,
-            CallError::Storage => Failure::Storage,
-        }
-    }
-}
-
 impl From<CheckError> for Failure {
     ghost use Rattle.std.specs.Prelude.{◌≡◌};
     ghost use Rattle.mx_federd.specs.declared.output.Failure.TheVariants as variants;
@@ -114,6 +100,19 @@ pub fn report<E: Write>(failure: Failure, err: &mut E) -> u8
 {
     let _ = writeln!(err, "{failure}");
     REFUSED
+}
+
+/// Says in one line on `err` why a server does not serve, where that can be written, and gives the exit status. What a line
+/// that hosts no room is answered was said before.
+pub fn report_server<E: Write>(error: ServerError, err: &mut E) -> u8
+    ensures { result ≡ REFUSED }
+{
+    match error {
+        ServerError::Memory => report(Failure::Memory, err),
+        ServerError::Storage => report(Failure::Storage, err),
+        ServerError::ReadOrWrite => report(Failure::ReadOrWrite, err),
+        ServerError::NotHosted => REFUSED,
+    }
 }
 
 /// The three lines of `check`.

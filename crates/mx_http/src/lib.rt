@@ -1,12 +1,17 @@
-//! HTTP/1.1 on a listener: its connections, each served in a thread of its own by one of several responders. What a
+//! HTTP/1.1 on a listener: its connections, served side by side in one thread for each of several responders. What a
 //! request is answered is the responder's.
 #![tactic(auto)]
 
+mod answering;
 mod connections;
 mod listening;
+mod making;
 mod messages;
-mod waiting;
+mod quiet;
+mod runtimes;
 
-pub use connections::{Source, Unanswered, serve_one};
+pub use answering::Unanswered;
+pub use connections::{Source, serve_one};
 pub use listening::{Limits, serve_on};
 pub use messages::{HttpReply, HttpRequest, Responder};
+pub use runtimes::ServerRuntime;

@@ -1,8 +1,8 @@
 use denote.Exit.{no}
 use denote.Param.Send.{param_send, arg_send}
-use Rattle.mx_federd.specs.contracts.serving.listen as contract
-use Rattle.mx_federd.proofs.WorkerSending.{worker_send}
-use Rattle.mx_federd.proofs.serving.listen.Goals as goal
+use Rattle.mx_server.specs.contracts.serving.listen as contract
+use Rattle.mx_server.proofs.WorkerSending.{worker_send}
+use Rattle.mx_server.proofs.serving.listen.Goals as goal
 
 pub serve_on-requires-send-A : goal.serve_on-requires-send-A
 serve_on-requires-send-A g c κs within = param_send 1 _ (arg_send _ no _

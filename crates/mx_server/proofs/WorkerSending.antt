@@ -2,7 +2,7 @@
 use denote.RattleType.{RattleType}
 use denote.Param.Send.{IsSend, IsSync, view_send, view_sync, sendable}
 use denote.Param.SendFields.{declared_send, declared_sync}
-use Rattle.std.proofs.Crossing.{Arc-send, Box-send, Vec-send, crosses}
+use Rattle.std.proofs.Crossing.{Arc-send, Vec-send, crosses}
 use Rattle.mx_keeper.specs.declared.keepers.Keeper.{Ghosts}
 use Rattle.mx_keeper.specs.declared.rows.ShardRow.{ShardRow}
 use Rattle.mx_keeper.specs.declared.rows.BookRow.{BookRow}
@@ -23,8 +23,8 @@ use Rattle.mx_engine.specs.contracts.docked.DockedBookJournaled.TheImpl as book_
 use Rattle.mx_engine.specs.contracts.engines.Engine as engine
 use Rattle.mx_engine.specs.contracts.gates.OpenGate as open_gate
 use Rattle.mx_engine.proofs.gates.OpenGate.TheSendSync as gate
-use Rattle.mx_engine.proofs.Sending.{pdu_send, shard_send, book_send}
-use Rattle.mx_engine.proofs.SeatSending.{seat_send, engine_sync}
+use Rattle.mx_engine.proofs.Sending.{pdu_send}
+use Rattle.mx_engine.proofs.SeatSending.{docked_shard_send, docked_book_send, seat_send, engine_sync}
 use Rattle.mx_wire.specs.contracts.routes.Routes as routes
 use Rattle.mx_wire.specs.contracts.routes.Route as route
 use Rattle.mx_wire.proofs.routes.Route.TheSendSync as route_of
@@ -33,18 +33,12 @@ use Rattle.matchit.specs.contracts.router.Router as router
 use Rattle.matchit.specs.contracts.router.Router.TheInside as router_inside
 use Rattle.matchit.proofs.route.Route.TheSendSync as matched
 use Rattle.matchit.proofs.tree.Node.TheLaws.TheKnot.{send-Node, sync-Node}
-use Rattle.mx_federd.specs.contracts.workers.Shared as shared
-use Rattle.mx_federd.specs.contracts.workers.Worker as worker
-use Rattle.mx_federd.specs.contracts.workers.Worker.TheInside as worker_inside
+use Rattle.mx_server.specs.contracts.workers.Shared as shared
+use Rattle.mx_server.specs.contracts.workers.Worker as worker
+use Rattle.mx_server.specs.contracts.workers.Worker.TheInside as worker_inside
 
 pub shard_row_send : IsSend shard_row.the_row
 shard_row_send = search (room_id.the_send, pdu_send, caller.the_send, sendable) depth 20 fits 20000
-
-docked_shard_send : (K : RattleType) (g : Ghosts K.Denot ShardRow) → IsSend K → IsSend (docked_shard.the_row K g)
-docked_shard_send K g k = declared_send (docked_shard.the_type K g) (Box-send _ (shard_send K g k), tt)
-
-docked_book_send : (L : RattleType) (g : Ghosts L.Denot BookRow) → IsSend L → IsSend (docked_book.the_row L g)
-docked_book_send L g l = declared_send (docked_book.the_type L g) (Box-send _ (book_send L g l), tt)
 
 engine_send : (K L V G : RattleType) (g : Ghosts K.Denot ShardRow) (h : Ghosts L.Denot BookRow) → IsSend K → IsSend L → IsSend V → IsSend G → IsSend (engine.the_row K L V G g h)
 engine_send K L V G g h k l v w = declared_send (engine.the_type K L V G g h) (

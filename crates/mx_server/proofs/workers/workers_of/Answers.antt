@@ -3,7 +3,7 @@ use Rattle.std.specs.Prelude.{All}
 use Rattle.std.specs.Vec.Iter.{into_iter_items}
 use Rattle.std.proofs.lemmas.List.Elements.{All-tail}
 use Rattle.mx_engine.specs.Seats.{IsSeatOf}
-use Rattle.mx_federd.proofs.workers.workers_of.Goals as goal
+use Rattle.mx_server.proofs.workers.workers_of.Goals as goal
 
 pub loop-seat-init : goal.loop-seat-init
 loop-seat-init g c = subst (All (IsSeatOf c.args.shared.now.value.engine)) (sym c.into_iter-seat-iterator.ensures.into_iter_gives.0) c.requires

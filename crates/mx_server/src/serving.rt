@@ -2,11 +2,12 @@
 ghost use Rattle.std.specs.Prelude.{◌≡◌, ◌<◌, ◌≤◌, IfOk, length};
 
 use crate::directories::{ServerFiles, open_directory};
-use crate::output::{Failure, REFUSED, SUCCESS, flushed, report};
+use crate::errors::ServerError;
+use crate::options::{SeatCount, ServeOptions};
 use crate::workers::{ServerEngine, Shared, Worker, workers_of};
 use memchr::memchr;
 use mx_engine::{Engine, OpenGate};
-use mx_http::{Limits, serve_on};
+use mx_http::{Limits, ServerRuntime, serve_on};
 use mx_ident::ServerName;
 use mx_keeper::{BookRow, Keeper, MOST_PLACES, ShardRow, SqliteKeeper};
 use mx_pdu::PresenceVerifier;
@@ -16,87 +17,34 @@ use sqlite::Alter;
 use std::alloc::{AllocError, AllocGlobal, Global};
 use std::fs;
 use std::io::Write;
-use std::net::{Ipv4Addr, Net, TcpListener, TcpStream};
-use std::random::RandomSource;
+use std::net::{Ipv4Addr, TcpListener};
 use std::sync::{Arc, Wait};
-use std::thread::Threads;
-use std::time::Clock;
-
-/// What a server is to serve, and how.
-#[derive(Debug, Drop)]
-pub struct ServeOptions {
-    pub name: ServerName,
-    // The directory of its files.
-    pub data: String,
-    // The port on loopback; 0 for a free one.
-    pub port: u16,
-    pub threads: SeatCount,
-    pub shards: ShardCount,
-    // How many connections may be open.
-    pub connections: u64,
-    // A file of lines, each of which hosts a room.
-    pub rooms: Option<String>,
-}
-
-/// How many workers a server has: 1 to 64.
-#[derive(Clone, Copy, Debug)]
-pub struct SeatCount {
-    count: u32,
-    ghost some: { 1 ≤ count },
-    ghost few: { count ≤ 64 },
-}
-
-impl SeatCount {
-    /// So many workers; none where that is 0 or more than 64.
-    pub fn of(count: u32) -> Option<SeatCount> {
-        if 1 <= count && count <= 64 {
-            Some(SeatCount { count })
-        } else {
-            None
-        }
-    }
-}
+use std::time::Duration;
 
 /// Opens the server's directory, hosts the rooms of its file of rooms, binds its port, says so in a line on `out`, and
-/// answers requests for good. Gives the exit status where it can't; what went wrong is said on `err`, in one line.
-pub fn serve<R, W: Write, E: Write>(
+/// answers requests for good. Where a room is not hosted, `err` is told what its line is answered; before it listens, it
+/// is told the directory.
+///
+/// `Storage` where a file of rows can't be opened or does not read, where one is missing beside one with rows, or where
+/// there are more than are asked for. `NotHosted` where a line hosts no room. `ReadOrWrite` where the directory can't be
+/// made, the file of rooms not read, the port not bound, or what is told not written. `Memory` where no memory is left.
+pub fn serve<R: ServerRuntime, W: Write, E: Write>(
     rt: &R,
     host: &HostRuntime,
     options: ServeOptions,
     out: &mut W,
     err: &mut E,
-) -> u8
-where
-    R: Threads
-        + Wait
-        + Clock
-        + Eprint
-        + Net<Listener = TcpListener, Stream = TcpStream>
-        + RandomSource
-        + AllocGlobal
-        + Copy
-        + Drop
-        + Send
-        + Sync
-        + 'static,
-{
-    match rows_and_rooms(host, &options) {
-        Ok((files, rooms)) => {
-            let ServerFiles { shards, books } = files;
-            match serve_rows(rt, shards, books, &rooms, options, out, err) {
-                Ok(status) => status,
-                Err(failure) => report(failure, err),
-            }
-        }
-        Err(failure) => report(failure, err),
-    }
+) -> Result<(), ServerError> {
+    let (files, rooms) = rows_and_rooms(host, &options)?;
+    let ServerFiles { shards, books } = files;
+    serve_rows(rt, shards, books, &rooms, options, out, err)
 }
 
 // The files of the server's directory, and the bytes of its file of rooms.
 fn rows_and_rooms(
     host: &HostRuntime,
     options: &ServeOptions,
-) -> Result<(ServerFiles, Vec<u8>), Failure>
+) -> Result<(ServerFiles, Vec<u8>), ServerError>
     ensures some_shard { IfOk result (λ found. 1 ≤ length found.0.shards.items) }
     ensures few_shards { IfOk result (λ found. length found.0.shards.items ≤ MOST_PLACES) }
     ensures some_book { IfOk result (λ found. 1 ≤ length found.0.books.items) }
@@ -107,16 +55,16 @@ fn rows_and_rooms(
     Ok((files, rooms))
 }
 
-fn rooms_to_host(host: &HostRuntime, options: &ServeOptions) -> Result<Vec<u8>, Failure> {
+fn rooms_to_host(host: &HostRuntime, options: &ServeOptions) -> Result<Vec<u8>, ServerError> {
     let Some(rooms) = &options.rooms else {
         return Ok(Vec::new(host.alloc()));
     };
-    let mut file = fs::open(host, rooms).map_err(Failure::of_io)?;
+    let mut file = fs::open(host, rooms).map_err(ServerError::of_io)?;
     let lines = read_all(host.alloc(), &mut file)?;
     Ok(lines)
 }
 
-// Serves over rows, once the rooms of these lines are hosted. Gives the exit status.
+// Serves over rows, once the rooms of these lines are hosted.
 //
 // Of which store the rows are does not matter here, and for one that is not known the proofs are found.
 fn serve_rows<S, R, W: Write, E: Write>(
@@ -127,21 +75,10 @@ fn serve_rows<S, R, W: Write, E: Write>(
     options: ServeOptions,
     out: &mut W,
     err: &mut E,
-) -> Result<u8, Failure>
+) -> Result<(), ServerError>
 where
-    S: Alter + Drop + Send + 'static,
-    R: Threads
-        + Wait
-        + Clock
-        + Eprint
-        + Net<Listener = TcpListener, Stream = TcpStream>
-        + RandomSource
-        + AllocGlobal
-        + Copy
-        + Drop
-        + Send
-        + Sync
-        + 'static,
+    S: Alter + Drop + Send,
+    R: ServerRuntime,
     requires some_shard { 1 ≤ length shards.items }
     requires few_shards { length shards.items ≤ MOST_PLACES }
     requires some_book { 1 ≤ length books.items }
@@ -149,29 +86,30 @@ where
 {
     let alloc = rt.alloc();
     let mut server = World::reopen(alloc, shards, books)?;
-    if !host_rooms(alloc, &mut server, rooms, err)? {
-        return Ok(REFUSED);
-    }
-    listen(rt, server, options, out, err)?;
-    Ok(SUCCESS)
+    host_rooms(alloc, &mut server, rooms, err)?;
+    listen(rt, server, options, out, err)
 }
 
-// Hosts the room of each line; whether all are hosted.
+// Hosts the room of each line. `NotHosted` where one is not hosted.
 fn host_rooms<K: Keeper<Row = ShardRow>, L: Keeper<Row = BookRow>, E: Write>(
     alloc: Global,
     server: &mut World<K, L>,
     lines: &[u8],
     err: &mut E,
-) -> Result<bool, Failure> {
+) -> Result<(), ServerError> {
     let mut rest = lines;
     while !rest.is_empty() {
         let (line, after) = first_line(rest);
-        match host_by_line(alloc, &PresenceVerifier, server, line, err).map_err(Failure::of_io)? {
+        match host_by_line(alloc, &PresenceVerifier, server, line, err).map_err(
+            ServerError::of_io,
+        )? {
             HostLineOutcome::Hosted => rest = after,
-            HostLineOutcome::NotHosted | HostLineOutcome::Refused(_) => return Ok(false),
+            HostLineOutcome::NotHosted | HostLineOutcome::Refused(_) => {
+                return Err(ServerError::NotHosted);
+            }
         }
     }
-    Ok(true)
+    Ok(())
 }
 
 // The first line without its newline, and what comes after it.
@@ -191,6 +129,11 @@ fn line_end(text: &[u8]) -> usize
     memchr(b'\n', text).unwrap_or(text.len())
 }
 
+// How many seconds a client may take for the head of a request.
+const HEAD_SECONDS: u64 = 10;
+// For how many seconds a client may send nothing of a body, or read nothing of a reply.
+const QUIET_SECONDS: u64 = 30;
+
 // Serves at the port.
 fn listen<K, L, R, W: Write, E: Write>(
     rt: &R,
@@ -198,22 +141,11 @@ fn listen<K, L, R, W: Write, E: Write>(
     options: ServeOptions,
     out: &mut W,
     err: &mut E,
-) -> Result<(), Failure>
+) -> Result<(), ServerError>
 where
-    K: Keeper<Row = ShardRow> + Send + 'static,
-    L: Keeper<Row = BookRow> + Send + 'static,
-    R: Threads
-        + Wait
-        + Clock
-        + Eprint
-        + Net<Listener = TcpListener, Stream = TcpStream>
-        + RandomSource
-        + AllocGlobal
-        + Copy
-        + Drop
-        + Send
-        + Sync
-        + 'static,
+    K: Keeper<Row = ShardRow> + Send,
+    L: Keeper<Row = BookRow> + Send,
+    R: ServerRuntime,
 {
     let ServeOptions {
         name,
@@ -224,15 +156,17 @@ where
         ..
     } = options;
     let address = (Ipv4Addr::LOCALHOST, port);
-    let listener = TcpListener::bind(rt, address).map_err(Failure::of_io)?;
-    let port = listener.local_addr().map_err(Failure::of_io)?.port();
+    let listener = TcpListener::bind(rt, address).map_err(ServerError::of_io)?;
+    let port = listener.local_addr().map_err(ServerError::of_io)?.port();
     let workers = workers(rt, server, threads, name)?;
-    writeln!(err, "serving {data}").map_err(Failure::of_io)?;
-    writeln!(out, "listening 127.0.0.1:{port}").map_err(Failure::of_io)?;
-    flushed(out)?;
+    writeln!(err, "serving {data}").map_err(ServerError::of_io)?;
+    writeln!(out, "listening 127.0.0.1:{port}").map_err(ServerError::of_io)?;
+    out.flush().map_err(ServerError::of_io)?;
     let limits = Limits {
         connections,
         body: LARGEST_BODY,
+        head: Duration::from_secs(HEAD_SECONDS),
+        quiet: Duration::from_secs(QUIET_SECONDS),
         stop_after: None,
     };
     let _workers = serve_on(rt, &listener, workers, limits)?;
@@ -245,11 +179,11 @@ fn workers<K: Keeper<Row = ShardRow>, L: Keeper<Row = BookRow>, R: Wait + AllocG
     server: World<K, L>,
     threads: SeatCount,
     name: ServerName,
-) -> Result<Vec<Worker<K, L>>, Failure> {
+) -> Result<Vec<Worker<K, L>>, ServerError> {
     let alloc = rt.alloc();
     let routes = Routes::new(alloc)?;
     if !server.none_open() {
-        return Err(Failure::Storage);
+        return Err(ServerError::Storage);
     }
     let (engine, seats) = Engine::open(
         rt,

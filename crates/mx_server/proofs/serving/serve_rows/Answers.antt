@@ -3,9 +3,9 @@ use denote.Param.Send.{param_send, arg_send}
 use Rattle.mx_keeper.proofs.sqlite_keepers.SqliteKeeper.TheSendSync as keeper
 use Rattle.mx_keeper.specs.contracts.rows.ShardRow as shard_row
 use Rattle.mx_keeper.specs.contracts.shard_tables.ShardRowTableRow.TheImpl as shard_table
-use Rattle.mx_federd.specs.contracts.serving.serve_rows as contract
-use Rattle.mx_federd.proofs.WorkerSending.{shard_row_send}
-use Rattle.mx_federd.proofs.serving.serve_rows.Goals as goal
+use Rattle.mx_server.specs.contracts.serving.serve_rows as contract
+use Rattle.mx_server.proofs.WorkerSending.{shard_row_send}
+use Rattle.mx_server.proofs.serving.serve_rows.Goals as goal
 
 pub listen-requires-send-K : goal.listen-requires-send-K
 listen-requires-send-K g c κs within = param_send 0 _ (arg_send _ no _

@@ -1,7 +1,7 @@
 // The files of a server: its rows, in a directory.
 ghost use Rattle.std.specs.Prelude.{◌≡◌, ◌≤◌, ◌+◌, IfOk, OnOk, length};
 
-use crate::output::Failure;
+use crate::errors::ServerError;
 use mx_keeper::{BookRow, Keeper, KeeperFault, MOST_PLACES, ShardRow, SqliteKeeper, TableRow};
 use mx_wire::ShardCount;
 use sqlite::{Alter, Connection, Error, ErrorCode, File, FileStore};
@@ -28,14 +28,14 @@ pub fn open_directory(
     host: &HostRuntime,
     directory: &str,
     shards: ShardCount,
-) -> Result<ServerFiles, Failure>
+) -> Result<ServerFiles, ServerError>
     ensures some_shard { IfOk result (λ files. 1 ≤ length files.shards.items) }
     ensures few_shards { IfOk result (λ files. length files.shards.items ≤ MOST_PLACES) }
     ensures some_book { IfOk result (λ files. 1 ≤ length files.books.items) }
     ensures few_books { IfOk result (λ files. length files.books.items ≤ MOST_PLACES) }
 {
     let count = shards.get();
-    fs::create_dir_all(host, directory).map_err(Failure::of_io)?;
+    fs::create_dir_all(host, directory).map_err(ServerError::of_io)?;
     let rooms = files_found(host, directory, "shard", count)?;
     let replies = files_found(host, directory, "book", count)?;
     if (rooms.some || replies.some) && (rooms.lacking || replies.lacking) {
@@ -63,16 +63,16 @@ fn files_found(
     directory: &str,
     kind: &str,
     count: usize,
-) -> Result<Presence, Failure> {
+) -> Result<Presence, ServerError> {
     let mut found = Presence {
         some: false,
         lacking: false,
     };
     for number in 0..MOST_PLACES {
         let path = path_of(host.alloc(), directory, kind, number)?;
-        let is_there = fs::exists(host, &path).map_err(Failure::of_io)?;
+        let is_there = fs::exists(host, &path).map_err(ServerError::of_io)?;
         if number >= count && is_there {
-            return Err(Failure::Storage);
+            return Err(ServerError::Storage);
         }
         if number < count {
             found.some |= is_there;
@@ -88,18 +88,18 @@ fn refuse_rows<R: TableRow>(
     directory: &str,
     kind: &str,
     count: usize,
-) -> Result<(), Failure> {
+) -> Result<(), ServerError> {
     for number in 0..count {
         let path = path_of(host.alloc(), directory, kind, number)?;
-        let is_there = fs::exists(host, &path).map_err(Failure::of_io)?;
+        let is_there = fs::exists(host, &path).map_err(ServerError::of_io)?;
         if is_there && has_rows::<_, R>(keeper_at(host, &path)?)? {
-            return Err(Failure::Storage);
+            return Err(ServerError::Storage);
         }
     }
     Ok(())
 }
 
-fn has_rows<S: Alter + Drop, R: TableRow>(keeper: SqliteKeeper<S, R>) -> Result<bool, Failure> {
+fn has_rows<S: Alter + Drop, R: TableRow>(keeper: SqliteKeeper<S, R>) -> Result<bool, ServerError> {
     let mut keeper = keeper;
     match keeper.rows() {
         Ok(rows) => Ok(!rows.is_empty()),
@@ -108,7 +108,12 @@ fn has_rows<S: Alter + Drop, R: TableRow>(keeper: SqliteKeeper<S, R>) -> Result<
 }
 
 // The path of a file.
-fn path_of(alloc: Global, directory: &str, kind: &str, number: usize) -> Result<String, Failure> {
+fn path_of(
+    alloc: Global,
+    directory: &str,
+    kind: &str,
+    number: usize,
+) -> Result<String, ServerError> {
     Ok(format!(in alloc; "{directory}/{kind}-{number}.db")?)
 }
 
@@ -118,7 +123,7 @@ fn keepers<R: TableRow>(
     directory: &str,
     kind: &str,
     count: usize,
-) -> Result<Vec<FileRows<R>>, Failure>
+) -> Result<Vec<FileRows<R>>, ServerError>
     ensures { IfOk result (λ keepers. length keepers.items ≡ count) }
 {
     let mut keepers = Vec::new(host.alloc());
@@ -130,17 +135,17 @@ fn keepers<R: TableRow>(
     Ok(keepers)
 }
 
-fn push<K: Drop>(keepers: &mut Vec<K>, keeper: K) -> Result<(), Failure>
+fn push<K: Drop>(keepers: &mut Vec<K>, keeper: K) -> Result<(), ServerError>
     ensures { OnOk result (length keepers.new.items ≡ length keepers.old.items + 1) }
 {
     match keepers.push(keeper) {
         Ok(()) => Ok(()),
-        Err(_refused) => Err(Failure::Memory),
+        Err(_refused) => Err(ServerError::Memory),
     }
 }
 
 // The rows of a file.
-fn keeper_at<R: TableRow>(host: &HostRuntime, path: &str) -> Result<FileRows<R>, Failure> {
+fn keeper_at<R: TableRow>(host: &HostRuntime, path: &str) -> Result<FileRows<R>, ServerError> {
     let connection = Connection::open(host, path).map_err(unopened)?;
     match SqliteKeeper::adopt(host.alloc(), connection) {
         Ok(keeper) => Ok(keeper),
@@ -148,16 +153,16 @@ fn keeper_at<R: TableRow>(host: &HostRuntime, path: &str) -> Result<FileRows<R>,
     }
 }
 
-fn unopened(error: Error) -> Failure {
+fn unopened(error: Error) -> ServerError {
     match error {
-        Error::SqliteFailure(ErrorCode::OutOfMemory) => Failure::Memory,
-        _ => Failure::Storage,
+        Error::SqliteFailure(ErrorCode::OutOfMemory) => ServerError::Memory,
+        _ => ServerError::Storage,
     }
 }
 
-fn fault_of(fault: KeeperFault) -> Failure {
+fn fault_of(fault: KeeperFault) -> ServerError {
     match fault {
-        KeeperFault::Memory => Failure::Memory,
-        KeeperFault::Store | KeeperFault::Table => Failure::Storage,
+        KeeperFault::Memory => ServerError::Memory,
+        KeeperFault::Store | KeeperFault::Table => ServerError::Storage,
     }
 }

@@ -1,0 +1,116 @@
+// Connections that are served as they come.
+ghost use Rattle.std.specs.Prelude.{IfOk, IfSome, IsSomeAnd};
+ghost use Rattle.futures.specs.Runs.{ItemsWhere};
+
+use futures::task::{Context, Poll};
+use futures::{Future, Stream, ready};
+use std::alloc::AllocGlobal;
+use std::io;
+use std::net::Net;
+use std::random::RandomSource;
+use std::sync::Wait;
+use std::time::Clock;
+use tokio::runtime::{Handle, LocalRuntime};
+
+/// What makes of each source a future that serves it.
+pub trait Opener<S>: Drop {
+    type Served: Future;
+
+    /// The future that serves it, on an event loop with this handle.
+    fn open(&self, source: S, handle: &Handle) -> io::Result<Self::Served>
+        ensures { IfOk result Self.Served.can_poll };
+}
+
+// Ends when its connection does, and at once where there is none. It keeps its place until then.
+#[derive(Drop)]
+struct Held<C, P> {
+    connection: Option<C>,
+    place: P,
+}
+
+impl<C: Future<Output = T>, T: Drop, P: Drop> Future for Held<C, P> {
+    type Output = ();
+
+    ghost can_poll = { λ held. IfSome held.connection C.can_poll };
+
+    ghost needs = { λ held source. IsSomeAnd held.connection (λ c. C.needs c source) };
+
+    fn poll(&mut self, cx: &mut Context<'_>) -> Poll<()> {
+        let Some(connection) = &mut self.connection else {
+            return Poll::Ready(());
+        };
+        let _ = ready!(connection.poll(cx));
+        Poll::Ready(())
+    }
+}
+
+// The futures that serve what comes.
+#[derive(Drop)]
+struct Served<S, O> {
+    arrivals: S,
+    opener: O,
+    handle: Handle,
+}
+
+impl<S, T, P, O> Stream for Served<S, O>
+where
+    S: Stream<Item = (T, P)>,
+    P: Drop,
+    O: Opener<T>,
+    <O::Served as Future>::Output: Drop,
+{
+    type Item = Held<O::Served, P>;
+
+    ghost can_poll = { λ served. S.can_poll served.arrivals };
+
+    ghost needs = { λ served. S.needs served.arrivals };
+
+    ghost yields = { λ _. ItemsWhere (λ held. IfSome held.connection O.Served.can_poll) };
+
+    fn poll_next(&mut self, cx: &mut Context<'_>) -> Poll<Option<Held<O::Served, P>>> {
+        match ready!(self.arrivals.poll_next(cx)) {
+            Some((source, place)) => {
+                let connection = self.opener.open(source, &self.handle).ok();
+                Poll::Ready(Some(Held { connection, place }))
+            }
+            None => Poll::Ready(None),
+        }
+    }
+}
+
+/// Serves all that come, side by side on one event loop, until no more will come and each has ended. Each keeps its place
+/// until then.
+pub fn serve_each<R, S, T, P, O>(rt: &R, arrivals: S, opener: O) -> io::Result<()>
+where
+    R: Wait + Clock + Net + RandomSource + AllocGlobal,
+    S: Stream<Item = (T, P)>,
+    P: Drop,
+    O: Opener<T>,
+    <O::Served as Future>::Output: Drop,
+    requires { S.can_poll arrivals }
+{
+    let mut runtime = LocalRuntime::new(rt)?;
+    let handle = runtime.handle().clone()?;
+    let served = Served {
+        arrivals,
+        opener,
+        handle,
+    };
+    runtime.run_all(rt, served)
+}
+
+/// Serves one until it has ended.
+pub fn serve_alone<R, S, O>(
+    rt: &R,
+    source: S,
+    opener: O,
+) -> io::Result<<O::Served as Future>::Output>
+where
+    R: Wait + Clock + Net + RandomSource + AllocGlobal,
+    S: Drop,
+    O: Opener<S>,
+{
+    let mut runtime = LocalRuntime::new(rt)?;
+    let connection = opener.open(source, runtime.handle())?;
+    runtime.block_on(rt, connection)
+}

@@ -1,0 +1,36 @@
+// What a server runs on.
+use std::alloc::AllocGlobal;
+use std::net::{Net, TcpListener, TcpStream};
+use std::random::RandomSource;
+use std::sync::Wait;
+use std::thread::Threads;
+use std::time::Clock;
+
+/// What a server of connections runs on: threads that may wait, a clock, sockets, random numbers, memory, and standard
+/// error.
+pub trait ServerRuntime: Threads
+    + Wait
+    + Clock
+    + Eprint
+    + Net<Listener = TcpListener, Stream = TcpStream>
+    + RandomSource
+    + AllocGlobal
+    + Copy
+    + Drop
+    + Send
+    + Sync {}
+
+impl<R> ServerRuntime for R
+where
+    R: Threads
+        + Wait
+        + Clock
+        + Eprint
+        + Net<Listener = TcpListener, Stream = TcpStream>
+        + RandomSource
+        + AllocGlobal
+        + Copy
+        + Drop
+        + Send
+        + Sync,
+{}

@@ -1,0 +1,12 @@
+//! The server on loopback: its rows in the files of a directory, its engine, and the connections that its workers answer.
+#![tactic(auto)]
+
+mod directories;
+mod errors;
+mod options;
+mod serving;
+mod workers;
+
+pub use errors::ServerError;
+pub use options::{SeatCount, ServeOptions};
+pub use serving::serve;

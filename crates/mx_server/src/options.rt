@@ -1,0 +1,40 @@
+// What a server is told when it starts.
+ghost use Rattle.std.specs.Prelude.{◌≤◌};
+
+use mx_ident::ServerName;
+use mx_wire::ShardCount;
+
+/// What a server is to serve, and how.
+#[derive(Debug, Drop)]
+pub struct ServeOptions {
+    pub name: ServerName,
+    // The directory of its files.
+    pub data: String,
+    // The port on loopback; 0 for a free one.
+    pub port: u16,
+    pub threads: SeatCount,
+    pub shards: ShardCount,
+    // How many connections may be open.
+    pub connections: usize,
+    // A file of lines, each of which hosts a room.
+    pub rooms: Option<String>,
+}
+
+/// How many workers a server has: 1 to 64.
+#[derive(Clone, Copy, Debug)]
+pub struct SeatCount {
+    pub(crate) count: u32,
+    ghost some: { 1 ≤ count },
+    ghost few: { count ≤ 64 },
+}
+
+impl SeatCount {
+    /// So many workers; none where that is 0 or more than 64.
+    pub fn of(count: u32) -> Option<SeatCount> {
+        if 1 <= count && count <= 64 {
+            Some(SeatCount { count })
+        } else {
+            None
+        }
+    }
+}
