@@ -64,70 +64,6 @@ fn word(answer: &Answer) -> &'static str {
     }
 }
 
-// The rows are the events that were kept, with the callers that offered them. A shard is opened again over them after
-// each call, and goes on.
-#[test]
-fn reopened_over_its_rows(rt: HostRuntime) -> Result<(), Fail> {
-    let alloc = rt.alloc();
-    let place = Place::new(0, 1);
-    let mut shard = Shard::reopen(alloc, MemoryKeeper::new(alloc), place)?;
-    assert!(rt; shard.is_empty());
-    for (caller, call, told) in [
-        (3, "host create", "hosted"),
-        (4, "host create", "already"),
-        (5, "offer join", "kept"),
-        (6, "ask join", "event"),
-    ] {
-        assert_eq!(rt; tell(alloc, &mut shard, caller, call)?, told);
-        shard = Shard::reopen(alloc, shard.into_keeper(), place)?;
-    }
-    let mut lines = String::new(alloc);
-    for row in &shard.into_keeper().rows()? {
-        lines.push_str(format!(in alloc;
-            "{} {}\n",
-            row.event.kind(),
-            row.caller.number()
-        )?.as_str())?;
-    }
-    assert_eq!(rt; lines.as_str(), "m.room.create 3\nm.room.member 5\n");
-    Ok(())
-}
-
-// What becomes of a shard at a place over the rows of these events.
-fn reopen_over(alloc: Global, names: &[&str], place: Place) -> Result<bool, CallError> {
-    let mut keeper = MemoryKeeper::new(alloc);
-    for name in names {
-        let event = offered(alloc, name)?.pdu;
-        let room = event.room_id().clone()?;
-        let caller = Caller::new(0);
-        let row = ShardRow {
-            room,
-            event,
-            caller,
-        };
-        keeper.append(&row).map_err(refused)?;
-    }
-    let shard = Shard::reopen(alloc, keeper, place)?;
-    Ok(shard.is_empty())
-}
-
-// An event that is refused behind others, a first one that makes no room, and one of a room of another place.
-#[test]
-fn rows_that_no_shard_has(rt: HostRuntime) -> Result<(), Fail> {
-    let alloc = rt.alloc();
-    let own = Place::new(0, 2);
-    let other = Place::new(1, 2);
-    for (names, place, told) in [
-        (&["create", "join"], own, Ok(false)),
-        (&["create", "create"], own, Err(CallError::Storage)),
-        (&["join", "create"], own, Err(CallError::Storage)),
-        (&["create", "join"], other, Err(CallError::Storage)),
-    ] {
-        assert_eq!(rt; reopen_over(alloc, names, place), told);
-    }
-    Ok(())
-}
-
 // A keeper that takes so many rows, and then fails each time. It holds none.
 #[derive(Drop)]
 struct FailingKeeper {
@@ -191,46 +127,5 @@ fn refused_from_the_first_failure(rt: HostRuntime) -> Result<(), Fail> {
         assert_eq!(rt; tell(alloc, &mut shard, 0, call).err(), wanted, "at {call}");
     }
     assert_eq!(rt; shard.into_keeper().failures(), 1);
-    Ok(())
-}
-
-// A keeper that holds what does not read as rows.
-#[derive(Drop)]
-struct UnreadableKeeper;
-
-impl Keeper for UnreadableKeeper {
-    ghost use Rattle.std.specs.Prelude.{None, ⊤};
-
-    type Row = ShardRow;
-
-    ghost rows = { λ _. None };
-
-    ghost is_open = { λ _. ⊤ };
-
-    ghost is_honest = { λ _. ⊥ };
-
-    ghost may_leave = { λ _ _. ⊤ };
-
-    ghost failed = { λ _. 0 };
-
-    fn append(&mut self, _row: &ShardRow) -> Result<(), KeeperFault> {
-        Ok(())
-    }
-
-    fn rows(&mut self) -> Result<Vec<ShardRow>, KeeperFault> {
-        Err(KeeperFault::Table)
-    }
-
-    fn failures(&self) -> u64 {
-        0
-    }
-
-    ghost settled = { λ _ _ honest _ _. absurd honest };
-}
-
-#[test]
-fn no_shard_over_an_unreadable_table(rt: HostRuntime) -> Result<(), Fail> {
-    let unreadable = Shard::reopen(rt.alloc(), UnreadableKeeper, Place::new(0, 1));
-    assert_eq!(rt; unreadable.err(), Some(CallError::Storage));
     Ok(())
 }
