@@ -97,7 +97,7 @@ impl Snapshots {
         ensures err { OnErr result (self.new ≡ self.old) }
     {
         let number = StateNo::at(self.stored.len());
-        let next = with_changes(self.alloc, &self.stored, parent.index(), changes)?;
+        let next = with_changes(self.alloc, &self.stored, parent, changes)?;
         self.stored.push(next)?;
         Ok(number)
     }

@@ -7,6 +7,7 @@ ghost use Rattle.mx_state_res.specs.SnapshotChains.{depth_of, step_of, IsSound, 
 
 use crate::snapshots::snapshot_edits::{change_at, change_entries, value_in};
 use crate::states::key_numbers::KeyNo;
+use crate::states::state_numbers::StateNo;
 use mx_graph::EventNo;
 use std::alloc::{AllocError, Global};
 
@@ -19,13 +20,13 @@ pub(crate) enum Stored {
     Whole(Vec<(KeyNo, EventNo)>),
     // The entries, and also what they are: changes to an earlier snapshot.
     Rebuilt {
-        parent: usize,
+        parent: StateNo,
         changes: Vec<(KeyNo, Option<EventNo>)>,
         entries: Vec<(KeyNo, EventNo)>,
     },
     // Changes to an earlier snapshot, and how many deltas there are down to a whole map.
     Delta {
-        parent: usize,
+        parent: StateNo,
         depth: u8,
         changes: Vec<(KeyNo, Option<EventNo>)>,
     },
@@ -40,7 +41,7 @@ fn depth(stored: &Stored) -> u8
     }
 }
 
-// The earlier snapshot that a stored one is over, and the changes to it.
+// The place of the earlier snapshot that a stored one is over, and the changes to it.
 pub(crate) fn step(stored: &Stored) -> Option<(usize, &[(KeyNo, Option<EventNo>)])>
     ensures { option_map (λ s. (s.0, s.1.now)) result ≡ step_of stored.now }
 {
@@ -50,12 +51,12 @@ pub(crate) fn step(stored: &Stored) -> Option<(usize, &[(KeyNo, Option<EventNo>)
             parent,
             changes,
             ..
-        } => Some((*parent, changes.as_slice())),
+        } => Some((parent.index(), changes.as_slice())),
         Stored::Delta {
             parent,
             changes,
             ..
-        } => Some((*parent, changes.as_slice())),
+        } => Some((parent.index(), changes.as_slice())),
     }
 }
 
@@ -78,7 +79,7 @@ pub(crate) fn value_at(stored: &[Stored], place: usize, key: KeyNo) -> Option<Ev
                 if let Some(value) = change_at(changes, key) {
                     return value;
                 }
-                at = *parent;
+                at = parent.index();
             }
         }
     }
@@ -102,7 +103,7 @@ pub(crate) fn entries_at(
             changes,
             ..
         } => {
-            let mut entries = entries_at(alloc, stored, *parent)?;
+            let mut entries = entries_at(alloc, stored, parent.index())?;
             change_entries(&mut entries, changes)?;
             Ok(entries)
         }
@@ -113,7 +114,7 @@ pub(crate) fn entries_at(
 pub(crate) fn with_changes(
     alloc: Global,
     stored: &[Stored],
-    parent: usize,
+    parent: StateNo,
     changes: Vec<(KeyNo, Option<EventNo>)>,
 ) -> Result<Stored, AllocError>
     requires sound { AllSound stored.now }
@@ -122,7 +123,8 @@ pub(crate) fn with_changes(
     ensures meant { IfOk result (λ s. meaning (meanings [] stored.now) s
         ≡ changed changes.items (snapshot (meanings [] stored.now) parent)) }
 {
-    let depth = depth(&stored[parent]);
+    let place = parent.index();
+    let depth = depth(&stored[place]);
     if depth < LONGEST_CHAIN {
         return Ok(Stored::Delta {
             parent,
@@ -130,7 +132,7 @@ pub(crate) fn with_changes(
             changes,
         });
     }
-    let mut entries = entries_at(alloc, stored, parent)?;
+    let mut entries = entries_at(alloc, stored, place)?;
     change_entries(&mut entries, &changes)?;
     Ok(Stored::Rebuilt {
         parent,
