@@ -1,6 +1,6 @@
 """Worked rows of states: what a room's states are where branches meet, which events count, and what rests on what.
 
-The answers are written by hand, by the rules of receipt and by state resolution of room version 2 as docs/DEFINITIONS.md
+The answers are written by hand, by the rules of receipt and by state resolution version 2, as docs/DEFINITIONS.md
 names them; nothing here was taken from what the program prints. `make_rows.py` writes the logs."""
 
 from request_rows import (

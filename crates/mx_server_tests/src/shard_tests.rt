@@ -1,7 +1,7 @@
 use crate::values::{event, event_id, refused, server};
 use mx_keeper::{Caller, Keeper, KeeperFault, MemoryKeeper, Place, ShardRow};
 use mx_pdu::Offered;
-use mx_room::{Moment, Outcome, Query};
+use mx_room::{Moment, Outcome, Query, Refusal, Room};
 use mx_shard::{Answer, CallError, Shard};
 use std::alloc::{AllocError, Global};
 use std::test::Fail;
@@ -127,5 +127,28 @@ fn refused_from_the_first_failure(rt: HostRuntime) -> Result<(), Fail> {
         assert_eq!(rt; tell(alloc, &mut shard, 0, call).err(), wanted, "at {call}");
     }
     assert_eq!(rt; shard.into_keeper().failures(), 1);
+    Ok(())
+}
+
+fn received(alloc: Global, room: &mut Room, signed: bool) -> Result<Outcome, AllocError> {
+    let mut join = offered(alloc, "join")?;
+    join.signed = signed;
+    let origin = server(alloc, "a.example")?;
+    room.receive(alloc, &origin, &join)
+}
+
+// A room with no shard around it. A shard prepares each event, and keeps it before the room has it.
+#[test]
+fn events_received_by_a_room(rt: HostRuntime) -> Result<(), Fail> {
+    let alloc = rt.alloc();
+    let create = offered(alloc, "create")?;
+    let mut room = Room::host(alloc, &create).map_err(refused)?;
+    let unsigned = received(alloc, &mut room, false)?;
+    assert!(rt; matches!(unsigned, Outcome::Refused(Refusal::Signature)));
+    let signed = received(alloc, &mut room, true)?;
+    assert!(rt; matches!(signed, Outcome::Kept(_)));
+    let again = received(alloc, &mut room, false)?;
+    assert!(rt; matches!(again, Outcome::Known(_)));
+    assert_eq!(rt; room.len(), 2);
     Ok(())
 }
