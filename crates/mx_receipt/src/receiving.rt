@@ -57,7 +57,7 @@ fn state_before(
     resolutions: &mut ResolutionCache,
     judgements: &[Judgement],
     prev_events: &[EventNo],
-    latest: Latest<'_>,
+    latest: &Latest<'_>,
 ) -> Result<StateNo, AllocError>
     requires rows { length graph.now ≡ length judgements.now }
     requires prev { All (λ prev. prev < length graph.now) prev_events.now }
@@ -65,9 +65,9 @@ fn state_before(
     requires sorted { AreSorted states.old judgements.now }
     requires known { AreKnown graph.now states.old }
     requires right { AreRight graph.now states.old resolutions.old }
-    requires current { state_at states.old latest.current
-        ≡ resolution.resolve graph.now (definition.states_at (afters (judged_in states.old judgements.now)) latest.extremities.now) }
-    requires below_current { latest.current < length states.old }
+    requires current { state_at states.old latest.now.current
+        ≡ resolution.resolve graph.now (definition.states_at (afters (judged_in states.old judgements.now)) latest.now.extremities.now) }
+    requires below_current { latest.now.current < length states.old }
     ensures resolved { IfOk result (λ before. state_at states.new before ≡ resolution.resolve graph.now
         (definition.states_at (afters (judged_in states.old judgements.now)) (record_of.events_where graph.now (record_of.is_in prev_events.now)))) }
     ensures below { IfOk result (λ before. before < length states.new) }
@@ -127,29 +127,29 @@ fn judged_event(
     states: &mut States,
     resolutions: &mut ResolutionCache,
     judgements: &[Judgement],
-    latest: Latest<'_>,
-    citing: CitingEvent<'_>,
+    latest: &Latest<'_>,
+    citing: &CitingEvent<'_>,
 ) -> Result<JudgedEvent, AllocError>
-    requires held { IsHeld graph.now states.old judgements.now latest.extremities.now latest.current }
+    requires held { IsHeld graph.now states.old judgements.now latest.now.extremities.now latest.now.current }
     requires right { AreRight graph.now states.old resolutions.old }
-    requires prev { citing.cited.now.prev_events.items ≡ record_of.prev_events graph.now citing.event.now }
-    requires auth { citing.cited.now.auth_events.items ≡ record_of.auth_events graph.now citing.event.now }
-    requires known_prev { All (λ number. number < length graph.now) citing.cited.now.prev_events.items }
-    requires known_auth { All (λ number. number < length graph.now) citing.cited.now.auth_events.items }
+    requires prev { citing.now.cited.now.prev_events.items ≡ record_of.prev_events graph.now citing.now.event.now }
+    requires auth { citing.now.cited.now.auth_events.items ≡ record_of.auth_events graph.now citing.now.event.now }
+    requires known_prev { All (λ number. number < length graph.now) citing.now.cited.now.prev_events.items }
+    requires known_auth { All (λ number. number < length graph.now) citing.now.cited.now.auth_events.items }
     ensures verdict { IfOk result (λ judged. judged.judgement.verdict
-        ≡ definition.verdict (kept_of graph.now (judged_in states.old judgements.now)) citing.event.now) }
+        ≡ definition.verdict (kept_of graph.now (judged_in states.old judgements.now)) citing.now.event.now) }
     ensures judged { IfOk result (λ judged. (id : List ℕ)
-        → IsJudged graph.now (judged_in states.old judgements.now) latest.extremities.now
-        (record { id = id; event = citing.event.now; rejected = definition.is_rejected judged.judgement.verdict })
+        → IsJudged graph.now (judged_in states.old judgements.now) latest.now.extremities.now
+        (record { id = id; event = citing.now.event.now; rejected = definition.is_rejected judged.judgement.verdict })
         (judged_by states.new judged.judgement) judged.extremities.items) }
     ensures unmarked { IfOk result (λ judged. judged.judgement.covered ≡ false) }
-    ensures covered { IfOk result (λ judged. AreCovered graph.now judgements.now (record_of.prev_events graph.now citing.event.now)
+    ensures covered { IfOk result (λ judged. AreCovered graph.now judgements.now (record_of.prev_events graph.now citing.now.event.now)
         judged.judgement.verdict judged.covered.items) }
     ensures below { IfOk result (λ judged. (judged.judgement.before < length states.new) × (judged.judgement.after < length states.new)) }
     ensures added { (rows : List Row) → length graph.now < length rows → AreAdded rows states.old states.new }
     ensures right { OnOk result (AreRight graph.now states.new resolutions.new) }
 {
-    let CitingEvent { event, cited } = citing;
+    let CitingEvent { event, cited } = *citing;
     let before = state_before(
         alloc,
         graph,
@@ -293,10 +293,10 @@ pub(crate) fn prepare_checked_in(
     states: &mut States,
     resolutions: &mut ResolutionCache,
     judgements: &mut Vec<Judgement>,
-    latest: Latest<'_>,
+    latest: &Latest<'_>,
     taken: TakenEvent,
 ) -> Result<(Verdict, Prepared), AllocError>
-    requires held { IsHeld graph.old states.old judgements.old.items latest.extremities.now latest.current }
+    requires held { IsHeld graph.old states.old judgements.old.items latest.now.extremities.now latest.now.current }
     requires right { AreRight graph.old states.old resolutions.old }
     requires free { definition.offer_error graph.old taken.id taken.event ≡ None }
     ensures verdict { IfOk result (λ made. made.0
@@ -320,7 +320,7 @@ pub(crate) fn prepare_checked_in(
         resolutions,
         judgements,
         latest,
-        CitingEvent {
+        &CitingEvent {
             event: &event,
             cited: &cited,
         },

@@ -336,7 +336,7 @@ impl Timeline {
             &mut self.states,
             &mut self.resolutions,
             &mut self.judgements,
-            Latest {
+            &Latest {
                 extremities: &self.extremities,
                 current: self.current,
             },

@@ -19,7 +19,7 @@ fn random_state(alloc: Global, graph: &Graph, seed: u64) -> Result<StateMap, Fai
     for (kind, count) in [("a", 2), ("b", 4), ("c", 14)] {
         let place = 13 - digits % count;
         digits /= 16;
-        let event = event_at(alloc, graph, place as u32)?;
+        let event = event_at(alloc, graph, place as u32).ok_or("no event")?;
         state.insert(kind, "", event)?;
     }
     Ok(state)

@@ -28,7 +28,7 @@ pub(crate) fn random_graph(alloc: Global, first: u64) -> Result<Graph, Fail> {
         let row = row(
             alloc,
             number,
-            Written {
+            &Written {
                 kind,
                 state_key: "",
                 sender: "@a:a.example",
@@ -70,19 +70,19 @@ pub(crate) fn random_events(
     ensures known { IfSome result (λ found. All (λ event. event < length graph.now) found.items) }
     ensures distinct { IfSome result (λ found. Distinct found.items) }
 {
-    let places = random_places(alloc, count, seed).ok()?;
+    let places = random_places(alloc, count, seed)?;
     events_at(alloc, graph, &places)
 }
 
 // So many places of a graph, which do not rise.
-fn random_places(alloc: Global, count: u32, seed: u64) -> Result<Vec<u32>, Fail> {
+fn random_places(alloc: Global, count: u32, seed: u64) -> Option<Vec<u32>> {
     let mut places = Vec::new(alloc);
     let mut place = (seed / 65_536 % 1_000) as u32;
     for _ in 0..count {
-        places.push(place % EVENTS)?;
+        places.push(place % EVENTS).ok()?;
         place = place.wrapping_add(5);
     }
-    Ok(places)
+    Some(places)
 }
 
 // The events at these places, or nothing where one is not there or is there twice, or no memory is left.
@@ -92,7 +92,7 @@ fn events_at(alloc: Global, graph: &Graph, places: &[u32]) -> Option<Vec<EventNo
 {
     let mut found = Vec::new(alloc);
     for place in places {
-        let event = event_at(alloc, graph, *place).ok()?;
+        let event = event_at(alloc, graph, *place)?;
         if stands_in(&found, event) {
             return None;
         }

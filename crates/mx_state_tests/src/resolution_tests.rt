@@ -15,7 +15,7 @@ fn add_row(
     alloc: Global,
     graph: &mut Graph,
     number: u32,
-    written: Written<'_>,
+    written: &Written<'_>,
 ) -> Result<(), Fail> {
     let row = row(alloc, number, written)?;
     graph.add(row)?;
@@ -78,7 +78,7 @@ fn room(alloc: Global) -> Result<Graph, Fail> {
             content,
             auth_events,
         };
-        add_row(alloc, &mut graph, number, written)?;
+        add_row(alloc, &mut graph, number, &written)?;
     }
     Ok(graph)
 }
@@ -125,7 +125,7 @@ fn random_row(alloc: Global, number: u32, digits: u64) -> Result<GraphRow, Fail>
         content,
         auth_events: auth_events.as_str(),
     };
-    row(alloc, number, written)
+    row(alloc, number, &written)
 }
 
 // A state of the first events, and of some of the further ones.
@@ -147,7 +147,7 @@ fn put_event(alloc: Global, state: &mut StateMap, graph: &Graph, number: u32) ->
     requires { All (λ e. e.1 < length graph.now) state.old }
     ensures { OnOk result (All (λ e. e.1 < length graph.now) state.new) }
 {
-    let number = event_at(alloc, graph, number)?;
+    let number = event_at(alloc, graph, number).ok_or("no event")?;
     let event = &graph.row(number).event;
     let state_key = event.state_key().ok_or("no state event")?;
     state.insert(event.kind(), state_key, number)?;

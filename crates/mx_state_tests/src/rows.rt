@@ -1,5 +1,5 @@
 // Rows of graphs, and numbers that look random.
-ghost use Rattle.std.specs.Prelude.{◌<◌, IfOk, length};
+ghost use Rattle.std.specs.Prelude.{◌<◌, IfSome, length};
 
 use mx_graph::{EventNo, Graph, GraphRow};
 use mx_ident::EventId;
@@ -9,6 +9,7 @@ use std::alloc::Global;
 use std::test::Fail;
 
 // What a state event has, with its content and its auth events as JSON.
+#[derive(Clone, Copy)]
 pub(crate) struct Written<'e> {
     pub kind: &'e str,
     pub state_key: &'e str,
@@ -19,7 +20,7 @@ pub(crate) struct Written<'e> {
 }
 
 // The row of an event, whose id is a number.
-pub(crate) fn row(alloc: Global, number: u32, written: Written<'_>) -> Result<GraphRow, Fail> {
+pub(crate) fn row(alloc: Global, number: u32, written: &Written<'_>) -> Result<GraphRow, Fail> {
     let Written {
         kind,
         state_key,
@@ -27,7 +28,7 @@ pub(crate) fn row(alloc: Global, number: u32, written: Written<'_>) -> Result<Gr
         time,
         content,
         auth_events,
-    } = written;
+    } = *written;
     let json = format!(in alloc;
         "{{\"auth_events\":{auth_events},\"content\":{content},\"depth\":1,\"hashes\":{{}},\"origin_server_ts\":{time},\"prev_events\":[],\"room_id\":\"!r:a.example\",\"sender\":\"{sender}\",\"signatures\":{{}},\"state_key\":\"{state_key}\",\"type\":\"{kind}\"}}"
     )?;
@@ -42,14 +43,13 @@ pub(crate) fn row(alloc: Global, number: u32, written: Written<'_>) -> Result<Gr
     })
 }
 
-// The event whose id is this number.
-pub(crate) fn event_at(alloc: Global, graph: &Graph, number: u32) -> Result<EventNo, Fail>
-    ensures { IfOk result (λ event. event < length graph.now) }
+// The event whose id is this number, or nothing where it is not there or no memory is left.
+pub(crate) fn event_at(alloc: Global, graph: &Graph, number: u32) -> Option<EventNo>
+    ensures { IfSome result (λ event. event < length graph.now) }
 {
-    let id = format!(in alloc; "${number}")?;
-    let id = EventId::parse(alloc, id.as_str())?;
-    let event = graph.find(&id).ok_or("no event")?;
-    Ok(event)
+    let id = format!(in alloc; "${number}").ok()?;
+    let id = EventId::parse(alloc, id.as_str()).ok()?;
+    graph.find(&id)
 }
 
 // The next number of a sequence that looks random.

@@ -21,21 +21,21 @@ add-requires-clause-free c = taken-free c.args.graph.now c.args.taken.id c.args.
 
 pub add-requires-clause-known : goal.add-requires-clause-known
 add-requires-clause-known c =
-    known-mid c.args.graph.now c.args.states.now c.args.judgements.now.items c.args.latest.extremities.now c.args.latest.current c.requires.held
+    known-mid c.args.graph.now c.args.states.now c.args.judgements.now.items c.args.latest.now.extremities.now c.args.latest.now.current c.requires.held
     (record { id = c.args.taken.id; event = c.args.taken.event; rejected = c.is_rejected.result }) c.in_ok-judged.judged.judgement c.in_ok-judged.judged.extremities.items c.judged_event.new.states
-    (subst (λ b. IsJudged c.args.graph.now (judged_in c.args.states.now c.args.judgements.now.items) c.args.latest.extremities.now (record { id = c.args.taken.id; event = c.args.taken.event; rejected = b }) (judged_by c.judged_event.new.states c.in_ok-judged.judged.judgement) c.in_ok-judged.judged.extremities.items)
+    (subst (λ b. IsJudged c.args.graph.now (judged_in c.args.states.now c.args.judgements.now.items) c.args.latest.now.extremities.now (record { id = c.args.taken.id; event = c.args.taken.event; rejected = b }) (judged_by c.judged_event.new.states c.in_ok-judged.judged.judgement) c.in_ok-judged.judged.extremities.items)
     (sym c.is_rejected.ensures)
-    (subst (λ (js : List Judgement). IsJudged c.args.graph.now (judged_in c.args.states.now js) c.args.latest.extremities.now (record { id = c.args.taken.id; event = c.args.taken.event; rejected = is_rejected c.in_ok-judged.judged.judgement.verdict }) (judged_by c.judged_event.new.states c.in_ok-judged.judged.judgement) c.in_ok-judged.judged.extremities.items)
+    (subst (λ (js : List Judgement). IsJudged c.args.graph.now (judged_in c.args.states.now js) c.args.latest.now.extremities.now (record { id = c.args.taken.id; event = c.args.taken.event; rejected = is_rejected c.in_ok-judged.judged.judgement.verdict }) (judged_by c.judged_event.new.states c.in_ok-judged.judged.judgement) c.in_ok-judged.judged.extremities.items)
     c.deref.ensures.value (c.in_ok-judged.ensures.judged c.args.taken.id)))
     c.in_ok-judged.ensures.below c.in_ok-judged.ensures.added
 
 pub add-requires-clause-numbers : goal.add-requires-clause-numbers
 add-requires-clause-numbers c =
-    numbers-mid c.args.graph.now c.args.states.now c.args.judgements.now.items c.args.latest.extremities.now c.args.latest.current c.requires.held
+    numbers-mid c.args.graph.now c.args.states.now c.args.judgements.now.items c.args.latest.now.extremities.now c.args.latest.now.current c.requires.held
     (record { id = c.args.taken.id; event = c.args.taken.event; rejected = c.is_rejected.result }) c.in_ok-judged.judged.judgement c.in_ok-judged.judged.extremities.items c.judged_event.new.states
-    (subst (λ b. IsJudged c.args.graph.now (judged_in c.args.states.now c.args.judgements.now.items) c.args.latest.extremities.now (record { id = c.args.taken.id; event = c.args.taken.event; rejected = b }) (judged_by c.judged_event.new.states c.in_ok-judged.judged.judgement) c.in_ok-judged.judged.extremities.items)
+    (subst (λ b. IsJudged c.args.graph.now (judged_in c.args.states.now c.args.judgements.now.items) c.args.latest.now.extremities.now (record { id = c.args.taken.id; event = c.args.taken.event; rejected = b }) (judged_by c.judged_event.new.states c.in_ok-judged.judged.judgement) c.in_ok-judged.judged.extremities.items)
     (sym c.is_rejected.ensures)
-    (subst (λ (js : List Judgement). IsJudged c.args.graph.now (judged_in c.args.states.now js) c.args.latest.extremities.now (record { id = c.args.taken.id; event = c.args.taken.event; rejected = is_rejected c.in_ok-judged.judged.judgement.verdict }) (judged_by c.judged_event.new.states c.in_ok-judged.judged.judgement) c.in_ok-judged.judged.extremities.items)
+    (subst (λ (js : List Judgement). IsJudged c.args.graph.now (judged_in c.args.states.now js) c.args.latest.now.extremities.now (record { id = c.args.taken.id; event = c.args.taken.event; rejected = is_rejected c.in_ok-judged.judged.judgement.verdict }) (judged_by c.judged_event.new.states c.in_ok-judged.judged.judgement) c.in_ok-judged.judged.extremities.items)
     c.deref.ensures.value (c.in_ok-judged.ensures.judged c.args.taken.id)))
     c.in_ok-judged.ensures.below c.in_ok-judged.ensures.added
 
@@ -43,21 +43,21 @@ pub add-requires-clause-sorted : goal.add-requires-clause-sorted
 add-requires-clause-sorted c =
     let js = c.args.judgements.now.items in
     let r : Row = record { id = c.args.taken.id; event = c.args.taken.event; rejected = is_rejected c.in_ok-judged.judged.judgement.verdict } in
-    let same : IsJudged c.args.graph.now (judged_in c.args.states.now js) c.args.latest.extremities.now r (judged_by c.judged_event.new.states c.in_ok-judged.judged.judgement) c.in_ok-judged.judged.extremities.items =
-    subst (λ (is : List Judgement). IsJudged c.args.graph.now (judged_in c.args.states.now is) c.args.latest.extremities.now r (judged_by c.judged_event.new.states c.in_ok-judged.judged.judgement) c.in_ok-judged.judged.extremities.items)
+    let same : IsJudged c.args.graph.now (judged_in c.args.states.now js) c.args.latest.now.extremities.now r (judged_by c.judged_event.new.states c.in_ok-judged.judged.judgement) c.in_ok-judged.judged.extremities.items =
+    subst (λ (is : List Judgement). IsJudged c.args.graph.now (judged_in c.args.states.now is) c.args.latest.now.extremities.now r (judged_by c.judged_event.new.states c.in_ok-judged.judged.judgement) c.in_ok-judged.judged.extremities.items)
     c.deref.ensures.value (c.in_ok-judged.ensures.judged c.args.taken.id) in
     sorted-push (c.args.graph.now ++ r ∷ []) c.args.states.now c.judged_event.new.states js c.in_ok-judged.judged.judgement
     (c.in_ok-judged.ensures.added (c.args.graph.now ++ r ∷ []) (one-longer c.args.graph.now r)) c.requires.held.below
-    (held-sorted c.args.graph.now c.args.states.now js c.args.latest.extremities.now c.args.latest.current c.requires.held)
-    (judged-sorted c.args.graph.now c.args.states.now js c.args.latest.extremities.now c.args.latest.current c.requires.held r (judged_by c.judged_event.new.states c.in_ok-judged.judged.judgement) c.in_ok-judged.judged.extremities.items same)
+    (held-sorted c.args.graph.now c.args.states.now js c.args.latest.now.extremities.now c.args.latest.now.current c.requires.held)
+    (judged-sorted c.args.graph.now c.args.states.now js c.args.latest.now.extremities.now c.args.latest.now.current c.requires.held r (judged_by c.judged_event.new.states c.in_ok-judged.judged.judgement) c.in_ok-judged.judged.extremities.items same)
 
 pub add-requires-clause-below : goal.add-requires-clause-below
 add-requires-clause-below c =
-    extremities-mid c.args.graph.now c.args.states.now c.args.judgements.now.items c.args.latest.extremities.now c.args.latest.current c.requires.held
+    extremities-mid c.args.graph.now c.args.states.now c.args.judgements.now.items c.args.latest.now.extremities.now c.args.latest.now.current c.requires.held
     (record { id = c.args.taken.id; event = c.args.taken.event; rejected = c.is_rejected.result }) c.in_ok-judged.judged.judgement c.in_ok-judged.judged.extremities.items c.judged_event.new.states
-    (subst (λ b. IsJudged c.args.graph.now (judged_in c.args.states.now c.args.judgements.now.items) c.args.latest.extremities.now (record { id = c.args.taken.id; event = c.args.taken.event; rejected = b }) (judged_by c.judged_event.new.states c.in_ok-judged.judged.judgement) c.in_ok-judged.judged.extremities.items)
+    (subst (λ b. IsJudged c.args.graph.now (judged_in c.args.states.now c.args.judgements.now.items) c.args.latest.now.extremities.now (record { id = c.args.taken.id; event = c.args.taken.event; rejected = b }) (judged_by c.judged_event.new.states c.in_ok-judged.judged.judgement) c.in_ok-judged.judged.extremities.items)
     (sym c.is_rejected.ensures)
-    (subst (λ (js : List Judgement). IsJudged c.args.graph.now (judged_in c.args.states.now js) c.args.latest.extremities.now (record { id = c.args.taken.id; event = c.args.taken.event; rejected = is_rejected c.in_ok-judged.judged.judgement.verdict }) (judged_by c.judged_event.new.states c.in_ok-judged.judged.judgement) c.in_ok-judged.judged.extremities.items)
+    (subst (λ (js : List Judgement). IsJudged c.args.graph.now (judged_in c.args.states.now js) c.args.latest.now.extremities.now (record { id = c.args.taken.id; event = c.args.taken.event; rejected = is_rejected c.in_ok-judged.judged.judgement.verdict }) (judged_by c.judged_event.new.states c.in_ok-judged.judged.judgement) c.in_ok-judged.judged.extremities.items)
     c.deref.ensures.value (c.in_ok-judged.ensures.judged c.args.taken.id)))
     c.in_ok-judged.ensures.below c.in_ok-judged.ensures.added
 
@@ -72,19 +72,19 @@ returns-clause-added c =
     let js = c.args.judgements.now.items in
     let verdicts : verdicts_in c.deref.result.now ≡ verdicts_in js = ap verdicts_in c.deref.ensures.value in
     let past : ArePast (c.args.graph.now ++ row ∷ []) (verdicts_in (js ++ c.in_ok-judged.judged.judgement ∷ [])) c.in_ok-judged.judged.extremities.items (λ p. is_marked (js ++ c.in_ok-judged.judged.judgement ∷ []) p || is_in c.in_ok-judged.judged.covered.items p) =
-    past-push c.args.graph.now row js c.in_ok-judged.judged.judgement c.args.latest.extremities.now c.in_ok-judged.judged.extremities.items
+    past-push c.args.graph.now row js c.in_ok-judged.judged.judgement c.args.latest.now.extremities.now c.in_ok-judged.judged.extremities.items
     (c.requires.held.is_kept.count ∙ judged-length c.args.states.now js) c.graph_is_sound.ensures (subst IsSound rows c.graph_is_sound-2.ensures) c.requires.held.past c.in_ok-judged.ensures.unmarked
     c.in_ok-judged.judged.judgement.verdict c.in_ok-judged.judged.covered.items
-    (subst (λ vs. AreAfter c.args.graph.now vs (prev_events c.args.graph.now c.args.taken.event) c.args.latest.extremities.now (length c.args.graph.now) c.in_ok-judged.judged.judgement.verdict c.in_ok-judged.judged.extremities.items)
+    (subst (λ vs. AreAfter c.args.graph.now vs (prev_events c.args.graph.now c.args.taken.event) c.args.latest.now.extremities.now (length c.args.graph.now) c.in_ok-judged.judged.judgement.verdict c.in_ok-judged.judged.extremities.items)
     (same-verdicts c.args.states.now c.deref.result.now ∙ verdicts) (c.in_ok-judged.ensures.judged c.args.taken.id).are_next)
     (subst (λ (is : List Judgement). AreCovered c.args.graph.now is (prev_events c.args.graph.now c.args.taken.event) c.in_ok-judged.judged.judgement.verdict c.in_ok-judged.judged.covered.items) c.deref.ensures.value c.in_ok-judged.ensures.covered)
     (λ p e. in-all (λ q. q < length c.args.graph.now) (prev_events c.args.graph.now c.args.taken.event) p (subst (All (λ q. q < length c.args.graph.now)) c.in_ok-cited.ensures.prev c.in_ok-cited.ensures.known_prev) e) in
     let base : IsHeld (c.args.graph.now ++ row ∷ []) c.add.new.states (c.args.judgements.now.items ++ c.in_ok-judged.judged.judgement ∷ []) c.in_ok-judged.judged.extremities.items c.in_ok-prepared.prepared.current =
-    held-push c.args.graph.now c.args.states.now c.args.judgements.now.items c.args.latest.extremities.now c.args.latest.current c.requires.held
+    held-push c.args.graph.now c.args.states.now c.args.judgements.now.items c.args.latest.now.extremities.now c.args.latest.now.current c.requires.held
     (record { id = c.args.taken.id; event = c.args.taken.event; rejected = c.is_rejected.result }) c.in_ok-judged.judged.judgement c.in_ok-judged.judged.extremities.items c.judged_event.new.states
-    (subst (λ b. IsJudged c.args.graph.now (judged_in c.args.states.now c.args.judgements.now.items) c.args.latest.extremities.now (record { id = c.args.taken.id; event = c.args.taken.event; rejected = b }) (judged_by c.judged_event.new.states c.in_ok-judged.judged.judgement) c.in_ok-judged.judged.extremities.items)
+    (subst (λ b. IsJudged c.args.graph.now (judged_in c.args.states.now c.args.judgements.now.items) c.args.latest.now.extremities.now (record { id = c.args.taken.id; event = c.args.taken.event; rejected = b }) (judged_by c.judged_event.new.states c.in_ok-judged.judged.judgement) c.in_ok-judged.judged.extremities.items)
     (sym c.is_rejected.ensures)
-    (subst (λ (js : List Judgement). IsJudged c.args.graph.now (judged_in c.args.states.now js) c.args.latest.extremities.now (record { id = c.args.taken.id; event = c.args.taken.event; rejected = is_rejected c.in_ok-judged.judged.judgement.verdict }) (judged_by c.judged_event.new.states c.in_ok-judged.judged.judgement) c.in_ok-judged.judged.extremities.items)
+    (subst (λ (js : List Judgement). IsJudged c.args.graph.now (judged_in c.args.states.now js) c.args.latest.now.extremities.now (record { id = c.args.taken.id; event = c.args.taken.event; rejected = is_rejected c.in_ok-judged.judged.judgement.verdict }) (judged_by c.judged_event.new.states c.in_ok-judged.judged.judgement) c.in_ok-judged.judged.extremities.items)
     c.deref.ensures.value (c.in_ok-judged.ensures.judged c.args.taken.id)))
     c.in_ok-judged.ensures.below c.in_ok-judged.ensures.added
     c.graph_is_sound.ensures (subst IsSound rows c.graph_is_sound-2.ensures) c.add.new.states c.in_ok-prepared.ensures.added c.in_ok-prepared.prepared.current c.in_ok-prepared.ensures.below_current
