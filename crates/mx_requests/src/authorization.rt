@@ -10,15 +10,15 @@ use std::alloc::{AllocError, Global};
 use std::mem::replace;
 
 // One `name=value` of a header.
-#[derive(Debug, Drop)]
-pub struct Part {
+#[derive(Drop)]
+pub(crate) struct Part {
     name: String,
     value: String,
 }
 
 // Where a reading stands in a part; `Outside` where the form is broken.
-#[derive(Clone, Copy, Debug, PartialEq, Eq, Drop)]
-pub enum Place {
+#[derive(Clone, Copy, Drop)]
+pub(crate) enum Place {
     BeforeName,
     InName,
     // Right after the `=`.
@@ -33,8 +33,8 @@ pub enum Place {
 }
 
 // What a character does to a reading.
-#[derive(Clone, Copy, Debug, PartialEq, Eq, Drop)]
-pub enum Step {
+#[derive(Clone, Copy, Drop)]
+pub(crate) enum Step {
     Move(Place),
     AddToName,
     AddToValue(Place),
@@ -42,8 +42,8 @@ pub enum Step {
 }
 
 // The parts before the one that is being read, and that one as far as it is read.
-#[derive(Debug, Drop)]
-pub struct Reader {
+#[derive(Drop)]
+pub(crate) struct Reader {
     parts: Vec<Part>,
     place: Place,
     name: String,

@@ -10,7 +10,7 @@ use mx_world::{CallError, StepReply};
 use std::alloc::AllocError;
 
 /// The answer to a line.
-#[derive(Debug, Drop)]
+#[derive(Drop)]
 pub(crate) enum LineAnswer {
     // The line has no form.
     Bad,
@@ -21,7 +21,7 @@ pub(crate) enum LineAnswer {
 }
 
 /// Why a line is refused.
-#[derive(Clone, Copy, Debug, PartialEq, Eq, Drop)]
+#[derive(Clone, Copy, Drop)]
 pub(crate) enum LineRefusal {
     Memory,
     // What keeps the rows failed.

@@ -24,7 +24,7 @@ use serde_json::{Map, Value};
 use std::alloc::{AllocError, Global};
 
 /// What a line of a log asks for.
-#[derive(Debug, Drop)]
+#[derive(Drop)]
 pub(crate) enum Line {
     // It has no form.
     Bad,

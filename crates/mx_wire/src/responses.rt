@@ -161,19 +161,14 @@ fn answer_query<
     ensures number { seat_number seat.new ≡ seat_number seat.old }
     ensures same_shards { AreSameViews (shard_views seat.old) (shard_views seat.new) }
     ensures same_books { AreSameViews (book_views seat.old) (book_views seat.new) }
-    ensures reply { IfOk result (λ reply. IsCallAnswered name.now asked.moment (seat_number seat.old) (asks asked.origin.now asked.query.now)
+    ensures reply { IfOk result (λ reply. IsCallAnswered name.now asked.entry.moment (seat_number seat.old) (asks asked.entry.origin.now asked.entry.query.now)
         (shard_views seat.old) (book_views seat.old) (shard_views seat.new) (book_views seat.new) (reply_shown reply)) }
-    ensures err { OnErr result (IsCallRefused (seat_number seat.old) (asks asked.origin.now asked.query.now)
+    ensures err { OnErr result (IsCallRefused (seat_number seat.old) (asks asked.entry.origin.now asked.entry.query.now)
         (shard_views seat.old) (book_views seat.old) (shard_views seat.new) (book_views seat.new)) }
 {
-    let AskedQuery {
-        origin,
-        moment,
-        query,
-    } = asked;
-    let told = engine.ask(rt, seat, origin, moment, query)?;
+    let told = engine.ask(rt, seat, asked.origin, asked.moment, asked.query)?;
     let last = StepReply::OfRoom(told);
-    let reply = asked_reply(alloc, name, moment, query, last)?;
+    let reply = asked_reply(alloc, name, asked.moment, asked.query, last)?;
     Ok(reply)
 }
 

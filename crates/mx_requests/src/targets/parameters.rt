@@ -7,7 +7,7 @@ use form_urlencoded::{decode, raw_pairs};
 use std::alloc::{AllocError, Global};
 
 /// One `name=value` of a query, decoded.
-#[derive(Debug, Drop)]
+#[derive(Drop)]
 pub(crate) struct Parameter {
     pub name: String,
     pub value: String,

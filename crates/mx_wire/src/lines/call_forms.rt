@@ -16,7 +16,7 @@ use serde_json::{Map, Value};
 use std::alloc::{AllocError, Global};
 
 /// A request of another server, with the moment at which it came.
-#[derive(Debug, Drop)]
+#[derive(Drop)]
 pub(crate) struct CallLine {
     pub now: Moment,
     pub request: WireRequest,

@@ -10,14 +10,14 @@ use crate::lines::keys::is_among;
 use json::{Reader, Scratch, Token};
 
 /// A member of an object whose value is a text.
-#[derive(Clone, Copy, Debug)]
+#[derive(Clone, Copy)]
 pub(crate) struct TextMember<'l> {
     pub key: &'l str,
     pub text: &'l str,
 }
 
 /// Three members of an object in their order, whose values are texts.
-#[derive(Clone, Copy, Debug)]
+#[derive(Clone, Copy)]
 pub(crate) struct ThreeMembers<'l> {
     pub first: TextMember<'l>,
     pub second: TextMember<'l>,

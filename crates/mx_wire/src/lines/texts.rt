@@ -14,7 +14,7 @@ use mx_world::Step;
 use std::alloc::{AllocError, Global};
 
 /// The texts of a line that names a transaction and nothing else.
-#[derive(Clone, Copy, Debug)]
+#[derive(Clone, Copy)]
 pub(crate) struct LineTexts<'l> {
     pub step: &'l str,
     pub origin: &'l str,
