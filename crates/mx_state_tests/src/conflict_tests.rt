@@ -30,7 +30,7 @@ fn one_set_by_both_bodies(rt: HostRuntime) -> Result<(), Fail> {
     let alloc = rt.alloc();
     let mut are_some = false;
     let mut seed = 7;
-    for _ in 0..150 {
+    for _ in 0..300 {
         let graph = random_graph(alloc, seed)?;
         let first = random_state(alloc, &graph, seed)?;
         seed = next(seed);
@@ -56,7 +56,7 @@ fn one_difference_by_both_bodies(rt: HostRuntime) -> Result<(), Fail> {
     let alloc = rt.alloc();
     let mut are_some = false;
     let mut seed = 11;
-    for _ in 0..150 {
+    for _ in 0..300 {
         let graph = random_graph(alloc, seed)?;
         let shared = random_events(alloc, &graph, 2, next(seed)).ok_or("no events")?;
         seed = next(seed);

@@ -196,7 +196,7 @@ fn one_state_by_both_bodies(rt: HostRuntime) -> Result<(), Fail> {
     let mut is_kept = false;
     let mut is_added = false;
     let mut seed = 7;
-    for _ in 0..100 {
+    for _ in 0..150 {
         let (are_same, count) = compare(alloc, seed)?;
         assert!(rt; are_same);
         if count == 3 {
