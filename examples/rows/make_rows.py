@@ -10,6 +10,7 @@ from row_events import (
     A, B, C, D, E, ACCEPTED, Base, Log, altered, canonical, create, error, event, id_of, join, levels, member,
     message, rejected, rules, sealed, topic, unsigned, without,
 )
+from state_rows import STATE_ROWS
 
 
 def host_refusals(log):
@@ -641,7 +642,7 @@ ROWS = (
     ban_and_invite_rules, auth_events_check, closed_to_other_servers, other_rules, demotion_race,
     demotion_before_the_topic, soft_failure, soft_failed_invite, rejected_parent, state_before_rejects,
     create_in_the_auth_difference, invited_after_leaving, left_after_the_invite, invited_by_newer_power_levels,
-    invited_by_equal_power_levels, resolution_of_65_states, bad_lines, *REQUEST_ROWS,
+    invited_by_equal_power_levels, resolution_of_65_states, bad_lines, *REQUEST_ROWS, *STATE_ROWS,
 )
 
 

@@ -5,3 +5,4 @@ pub mod CodePoints
 pub mod PieceLemmas
 pub mod PlainLemmas
 pub mod RunLemmas
+pub mod CanonicalRows

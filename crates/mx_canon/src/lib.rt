@@ -14,6 +14,3 @@ pub use reading::{ReadError, read};
 pub use sinks::{TextBuffer, TextLength, TextSink};
 pub use streaming::{text_length, write_key, write_object, write_string, write_text};
 pub use writing::{CanonError, text, text_of_canonical};
-
-#[cfg(test)]
-mod tests;

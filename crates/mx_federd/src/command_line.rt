@@ -105,7 +105,7 @@ fn serve_words<'a>(alloc: Global) -> Result<clap::Command<'a>, AllocError> {
         "The port on 127.0.0.1; 0 takes a free one",
     );
     let threads = number_word(alloc, "threads", "1", 1, 64).help(
-        "How many connections are served at the same time, 1 to 64",
+        "How many threads answer requests, 1 to 64",
     );
     let connections = number_word(alloc, "connections", "16", 1, 256).help(
         "How many connections may be open, 1 to 256; one more is closed unanswered",

@@ -19,6 +19,3 @@ pub use graphs::{Graph, MOST_ROWS, closures_are_least, graph_is_sound};
 pub use numbers::{EventNo, least_of};
 pub use refusals::{GraphError, NotAdded};
 pub use rows::GraphRow;
-
-#[cfg(test)]
-mod tests;

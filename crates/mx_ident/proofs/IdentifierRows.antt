@@ -1,6 +1,6 @@
 -- Worked examples of identifiers. Each computes.
 use Rattle.std.specs.Prelude.{◌≡◌, refl, ◌++◌, codes, true, false, Some, None, replicate}
-use Rattle.mx_ident.specs.Identifier.{user_id_error, room_id_error, event_id_error, server_name_error, host, is_ip_literal}
+use Rattle.mx_ident.specs.Identifier.{user_id_error, room_id_error, event_id_error, server_name_error, host, is_ip_literal, server_of}
 use Rattle.mx_ident.specs.declared.refusals.NotAnId.TheVariants.{NoSigil, NoColon, EmptyServer, NothingAfterSigil, TooLong}
 
 pub id_error-user : user_id_error (codes "@a:a.example") ≡ None
@@ -119,6 +119,70 @@ ip-long = refl
 
 pub ip-zeros : is_ip_literal (codes "001.2.3.4") ≡ true
 ip-zeros = refl
+
+pub ip-plain : is_ip_literal (codes "a.example") ≡ false
+ip-plain = refl
+
+pub ip-name_port : is_ip_literal (codes "A.EVIL.example:8448") ≡ false
+ip-name_port = refl
+
+pub ip-name_five : is_ip_literal (codes "a:12345") ≡ false
+ip-name_five = refl
+
+pub ip-six : is_ip_literal (codes "a:123456") ≡ false
+ip-six = refl
+
+pub ip-no_digits : is_ip_literal (codes "a:") ≡ false
+ip-no_digits = refl
+
+pub ip-all_digits : is_ip_literal (codes "12345") ≡ false
+ip-all_digits = refl
+
+pub ip-two_ports : is_ip_literal (codes "a:1:2") ≡ false
+ip-two_ports = refl
+
+pub ip-open : is_ip_literal (codes "[::1") ≡ true
+ip-open = refl
+
+pub ip-after_bracket : is_ip_literal (codes "[::1]x]") ≡ true
+ip-after_bracket = refl
+
+pub host-four : host (codes "1.2.3.4") ≡ codes "1.2.3.4"
+host-four = refl
+
+pub host-four_port : host (codes "1.2.3.4:80") ≡ codes "1.2.3.4"
+host-four_port = refl
+
+pub host-largest : host (codes "255.255.255.255") ≡ codes "255.255.255.255"
+host-largest = refl
+
+pub host-zeros : host (codes "001.2.3.4") ≡ codes "001.2.3.4"
+host-zeros = refl
+
+pub host-large : host (codes "1.2.3.256") ≡ codes "1.2.3.256"
+host-large = refl
+
+pub host-three : host (codes "1.2.3") ≡ codes "1.2.3"
+host-three = refl
+
+pub host-five_parts : host (codes "1.2.3.4.5") ≡ codes "1.2.3.4.5"
+host-five_parts = refl
+
+pub host-empty : host (codes "1..3.4") ≡ codes "1..3.4"
+host-empty = refl
+
+pub host-long : host (codes "1.2.3.0004") ≡ codes "1.2.3.0004"
+host-long = refl
+
+pub host-sign : host (codes "+1.2.3.4") ≡ codes "+1.2.3.4"
+host-sign = refl
+
+pub ip-sign : is_ip_literal (codes "+1.2.3.4") ≡ false
+ip-sign = refl
+
+-- the server of a room id stands after its first colon
+pub server_of-port : server_of (codes "!r:a.example:8448") ≡ codes "a.example:8448"
+server_of-port = refl
 
 -- several faults at once: the first in the order is given
 

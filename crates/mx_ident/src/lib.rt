@@ -22,6 +22,3 @@ pub use refusals::{IdError, NotAnId};
 pub use room_ids::RoomId;
 pub use server_names::ServerName;
 pub use user_ids::UserId;
-
-#[cfg(test)]
-mod tests;

@@ -27,6 +27,27 @@ use mx_pdu::Pdu;
 use mx_state_res::{StateNo, States};
 use std::alloc::{AllocError, Global};
 
+/// What stands last in a room: its forward extremities, and the current state, which they resolve to.
+#[derive(Clone, Copy, Debug)]
+pub(crate) struct Latest<'r> {
+    pub extremities: &'r [EventNo],
+    pub current: StateNo,
+}
+
+/// An event with its id, which the room takes.
+#[derive(Debug, Drop)]
+pub(crate) struct TakenEvent {
+    pub event: Pdu,
+    pub id: EventId,
+}
+
+// An event with the numbers of the events that it cites.
+#[derive(Clone, Copy, Debug)]
+struct CitingEvent<'e> {
+    event: &'e Pdu,
+    cited: &'e Cited,
+}
+
 // The state before an event that comes next: the resolution of the states after its prev events, each once. Where these
 // are the forward extremities it is the current state, and nothing is resolved.
 fn state_before(
@@ -36,8 +57,7 @@ fn state_before(
     resolutions: &mut ResolutionCache,
     judgements: &[Judgement],
     prev_events: &[EventNo],
-    extremities: &[EventNo],
-    current: StateNo,
+    latest: &Latest<'_>,
 ) -> Result<StateNo, AllocError>
     requires rows { length graph.now ≡ length judgements.now }
     requires prev { All (λ prev. prev < length graph.now) prev_events.now }
@@ -45,9 +65,9 @@ fn state_before(
     requires sorted { AreSorted states.old judgements.now }
     requires known { AreKnown graph.now states.old }
     requires right { AreRight graph.now states.old resolutions.old }
-    requires current { state_at states.old current
-        ≡ resolution.resolve graph.now (definition.states_at (afters (judged_in states.old judgements.now)) extremities.now) }
-    requires below_current { current < length states.old }
+    requires current { state_at states.old latest.now.current
+        ≡ resolution.resolve graph.now (definition.states_at (afters (judged_in states.old judgements.now)) latest.now.extremities.now) }
+    requires below_current { latest.now.current < length states.old }
     ensures resolved { IfOk result (λ before. state_at states.new before ≡ resolution.resolve graph.now
         (definition.states_at (afters (judged_in states.old judgements.now)) (record_of.events_where graph.now (record_of.is_in prev_events.now)))) }
     ensures below { IfOk result (λ before. before < length states.new) }
@@ -55,8 +75,8 @@ fn state_before(
     ensures right { OnOk result (AreRight graph.now states.new resolutions.new) }
 {
     let prev_events = rising(alloc, prev_events)?;
-    if prev_events.as_slice() == extremities {
-        return Ok(current);
+    if prev_events.as_slice() == latest.extremities {
+        return Ok(latest.current);
     }
     let before = resolved_after(alloc, graph, states, resolutions, judgements, &prev_events)?;
     Ok(before)
@@ -107,30 +127,29 @@ fn judged_event(
     states: &mut States,
     resolutions: &mut ResolutionCache,
     judgements: &[Judgement],
-    extremities: &[EventNo],
-    current: StateNo,
-    event: &Pdu,
-    cited: &Cited,
+    latest: &Latest<'_>,
+    citing: &CitingEvent<'_>,
 ) -> Result<JudgedEvent, AllocError>
-    requires held { IsHeld graph.now states.old judgements.now extremities.now current }
+    requires held { IsHeld graph.now states.old judgements.now latest.now.extremities.now latest.now.current }
     requires right { AreRight graph.now states.old resolutions.old }
-    requires prev { cited.now.prev_events.items ≡ record_of.prev_events graph.now event.now }
-    requires auth { cited.now.auth_events.items ≡ record_of.auth_events graph.now event.now }
-    requires known_prev { All (λ number. number < length graph.now) cited.now.prev_events.items }
-    requires known_auth { All (λ number. number < length graph.now) cited.now.auth_events.items }
+    requires prev { citing.now.cited.now.prev_events.items ≡ record_of.prev_events graph.now citing.now.event.now }
+    requires auth { citing.now.cited.now.auth_events.items ≡ record_of.auth_events graph.now citing.now.event.now }
+    requires known_prev { All (λ number. number < length graph.now) citing.now.cited.now.prev_events.items }
+    requires known_auth { All (λ number. number < length graph.now) citing.now.cited.now.auth_events.items }
     ensures verdict { IfOk result (λ judged. judged.judgement.verdict
-        ≡ definition.verdict (kept_of graph.now (judged_in states.old judgements.now)) event.now) }
+        ≡ definition.verdict (kept_of graph.now (judged_in states.old judgements.now)) citing.now.event.now) }
     ensures judged { IfOk result (λ judged. (id : List ℕ)
-        → IsJudged graph.now (judged_in states.old judgements.now) extremities.now
-        (record { id = id; event = event.now; rejected = definition.is_rejected judged.judgement.verdict })
+        → IsJudged graph.now (judged_in states.old judgements.now) latest.now.extremities.now
+        (record { id = id; event = citing.now.event.now; rejected = definition.is_rejected judged.judgement.verdict })
         (judged_by states.new judged.judgement) judged.extremities.items) }
     ensures unmarked { IfOk result (λ judged. judged.judgement.covered ≡ false) }
-    ensures covered { IfOk result (λ judged. AreCovered graph.now judgements.now (record_of.prev_events graph.now event.now)
+    ensures covered { IfOk result (λ judged. AreCovered graph.now judgements.now (record_of.prev_events graph.now citing.now.event.now)
         judged.judgement.verdict judged.covered.items) }
     ensures below { IfOk result (λ judged. (judged.judgement.before < length states.new) × (judged.judgement.after < length states.new)) }
     ensures added { (rows : List Row) → length graph.now < length rows → AreAdded rows states.old states.new }
     ensures right { OnOk result (AreRight graph.now states.new resolutions.new) }
 {
+    let CitingEvent { event, cited } = *citing;
     let before = state_before(
         alloc,
         graph,
@@ -138,8 +157,7 @@ fn judged_event(
         resolutions,
         judgements,
         &cited.prev_events,
-        extremities,
-        current,
+        latest,
     )?;
     let verdict = judged(
         alloc,
@@ -148,7 +166,7 @@ fn judged_event(
         &cited.auth_events,
         states,
         before,
-        current,
+        latest.current,
     )?;
     let number = next_number(graph);
     let after = state_after(states, before, event, number, verdict)?;
@@ -157,7 +175,7 @@ fn judged_event(
         graph,
         judgements,
         &cited.prev_events,
-        extremities,
+        latest.extremities,
         number,
         verdict,
     )?;
@@ -180,6 +198,16 @@ fn next_number(graph: &Graph) -> EventNo
     EventNo::at(graph.len() as u32)
 }
 
+// An event that is judged, as its row comes next: the row, the numbers of the events that it cites, what was judged, and
+// how many states there were before it.
+#[derive(Drop)]
+struct NextRow {
+    row: GraphRow,
+    cited: Cited,
+    judged: JudgedEvent,
+    states: usize,
+}
+
 // Adds an event that is judged. It gives the forward extremities and the current state with it. At an error states may
 // have been added.
 fn add(
@@ -188,37 +216,40 @@ fn add(
     states: &mut States,
     resolutions: &mut ResolutionCache,
     judgements: &mut Vec<Judgement>,
-    row: GraphRow,
-    cited: Cited,
-    event: JudgedEvent,
-    count: usize,
+    next: NextRow,
 ) -> Result<Prepared, AllocError>
-    requires free { add_error graph.old row ≡ None }
-    requires prev { cited.prev_events.items ≡ record_of.prev_events graph.old row.event }
-    requires auth { cited.auth_events.items ≡ record_of.auth_events graph.old row.event }
-    requires known { AreKnown (graph.old ++ row ∷ []) states.old }
+    requires free { add_error graph.old next.row ≡ None }
+    requires prev { next.cited.prev_events.items ≡ record_of.prev_events graph.old next.row.event }
+    requires auth { next.cited.auth_events.items ≡ record_of.auth_events graph.old next.row.event }
+    requires known { AreKnown (graph.old ++ next.row ∷ []) states.old }
     requires right { AreRight graph.old states.old resolutions.old }
-    requires numbers { AreBelow (length states.old) (judgements.old.items ++ event.judgement ∷ []) }
-    requires sorted { AreSorted states.old (judgements.old.items ++ event.judgement ∷ []) }
-    requires below { All (λ p. p < length (judgements.old.items ++ event.judgement ∷ [])) event.extremities.items }
-    ensures rows { OnOk result (graph.new ≡ graph.old ++ row ∷ []) }
-    ensures judgements { OnOk result (judgements.new.items ≡ judgements.old.items ++ event.judgement ∷ []) }
-    ensures extremities { IfOk result (λ prepared. prepared.extremities.items ≡ event.extremities.items) }
-    ensures covered { IfOk result (λ prepared. prepared.covered.items ≡ event.covered.items) }
+    requires numbers { AreBelow (length states.old) (judgements.old.items ++ next.judged.judgement ∷ []) }
+    requires sorted { AreSorted states.old (judgements.old.items ++ next.judged.judgement ∷ []) }
+    requires below { All (λ p. p < length (judgements.old.items ++ next.judged.judgement ∷ [])) next.judged.extremities.items }
+    ensures rows { OnOk result (graph.new ≡ graph.old ++ next.row ∷ []) }
+    ensures judgements { OnOk result (judgements.new.items ≡ judgements.old.items ++ next.judged.judgement ∷ []) }
+    ensures extremities { IfOk result (λ prepared. prepared.extremities.items ≡ next.judged.extremities.items) }
+    ensures covered { IfOk result (λ prepared. prepared.covered.items ≡ next.judged.covered.items) }
     ensures current { IfOk result (λ prepared. state_at states.new prepared.current ≡ resolution.resolve graph.new
-        (definition.states_at (afters (judged_in states.old judgements.new.items)) event.extremities.items)) }
+        (definition.states_at (afters (judged_in states.old judgements.new.items)) next.judged.extremities.items)) }
     ensures below_current { IfOk result (λ prepared. prepared.current < length states.new) }
-    ensures count { IfOk result (λ prepared. prepared.states ≡ count) }
-    ensures added { AreAdded (graph.old ++ row ∷ []) states.old states.new }
+    ensures count { IfOk result (λ prepared. prepared.states ≡ next.states) }
+    ensures added { AreAdded (graph.old ++ next.row ∷ []) states.old states.new }
     ensures right { OnOk result (AreRight graph.new states.new resolutions.new) }
     ensures err_rows { OnErr result (graph.new ≡ graph.old) }
     ensures err_judgements { OnErr result (judgements.new.items ≡ judgements.old.items) }
 {
+    let NextRow {
+        row,
+        cited,
+        judged,
+        states: count,
+    } = next;
     let JudgedEvent {
         judgement,
         extremities,
         covered,
-    } = event;
+    } = judged;
     judgements.reserve(1)?;
     graph_is_sound(graph);
     graph.add_checked(row, cited.prev_events, cited.auth_events)?;
@@ -256,23 +287,21 @@ pub(crate) fn remove_last(graph: &mut Graph, judgements: &mut Vec<Judgement>)
 }
 
 /// Judges an event that the room takes, and adds it. At an error the room stays, but for states that were added.
-pub(crate) fn prepare_in(
+pub(crate) fn prepare_checked_in(
     alloc: Global,
     graph: &mut Graph,
     states: &mut States,
     resolutions: &mut ResolutionCache,
     judgements: &mut Vec<Judgement>,
-    extremities: &[EventNo],
-    current: StateNo,
-    event: Pdu,
-    id: EventId,
+    latest: &Latest<'_>,
+    taken: TakenEvent,
 ) -> Result<(Verdict, Prepared), AllocError>
-    requires held { IsHeld graph.old states.old judgements.old.items extremities.now current }
+    requires held { IsHeld graph.old states.old judgements.old.items latest.now.extremities.now latest.now.current }
     requires right { AreRight graph.old states.old resolutions.old }
-    requires free { definition.offer_error graph.old id event ≡ None }
+    requires free { definition.offer_error graph.old taken.id taken.event ≡ None }
     ensures verdict { IfOk result (λ made. made.0
-        ≡ definition.verdict (kept_of graph.old (judged_in states.old judgements.old.items)) event) }
-    ensures added { IfOk result (λ made. IsAdded graph.old states.old judgements.old.items id event
+        ≡ definition.verdict (kept_of graph.old (judged_in states.old judgements.old.items)) taken.event) }
+    ensures added { IfOk result (λ made. IsAdded graph.old states.old judgements.old.items taken.id taken.event
         graph.new states.new judgements.new.items made.1.extremities.items made.1.covered.items made.1.current) }
     ensures count { IfOk result (λ made. made.1.states ≡ length states.old) }
     ensures right { OnOk result (AreRight graph.new states.new resolutions.new) }
@@ -281,6 +310,7 @@ pub(crate) fn prepare_in(
     ensures err_judgements { OnErr result (judgements.new.items ≡ judgements.old.items) }
 {
     graph_is_sound(graph);
+    let TakenEvent { event, id } = taken;
     let count = states.len();
     let cited = cited_by(alloc, graph, &event)?;
     let judged = judged_event(
@@ -289,10 +319,11 @@ pub(crate) fn prepare_in(
         states,
         resolutions,
         judgements,
-        extremities,
-        current,
-        &event,
-        &cited,
+        latest,
+        &CitingEvent {
+            event: &event,
+            cited: &cited,
+        },
     )?;
     let verdict = judged.judgement.verdict;
     let row = GraphRow {
@@ -306,10 +337,12 @@ pub(crate) fn prepare_in(
         states,
         resolutions,
         judgements,
-        row,
-        cited,
-        judged,
-        count,
+        NextRow {
+            row,
+            cited,
+            judged,
+            states: count,
+        },
     )?;
     graph_is_sound(graph);
     Ok((verdict, prepared))
@@ -362,10 +395,12 @@ pub(crate) fn begin_in(
         states,
         resolutions,
         judgements,
-        row,
-        cited,
-        judged,
-        0,
+        NextRow {
+            row,
+            cited,
+            judged,
+            states: 0,
+        },
     )?;
     graph_is_sound(graph);
     Ok(prepared)

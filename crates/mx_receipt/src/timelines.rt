@@ -15,7 +15,7 @@ ghost use Rattle.mx_receipt.specs.declared.refusals.NotReceived.{NotReceived as 
 
 use crate::closures::{earlier_ancestors, earlier_auth_chain};
 use crate::covering::mark_covered;
-use crate::receiving::{begin_in, last_event, prepare_in, remove_last};
+use crate::receiving::{Latest, TakenEvent, begin_in, last_event, prepare_checked_in, remove_last};
 use crate::redactions::below_count;
 use crate::refusals::{NotReceived, OfferError};
 use crate::resolution_cache::ResolutionCache;
@@ -330,16 +330,17 @@ impl Timeline {
     {
         self.discard();
         let count = self.states.len();
-        match prepare_in(
+        match prepare_checked_in(
             self.alloc,
             &mut self.graph,
             &mut self.states,
             &mut self.resolutions,
             &mut self.judgements,
-            &self.extremities,
-            self.current,
-            event,
-            id,
+            &Latest {
+                extremities: &self.extremities,
+                current: self.current,
+            },
+            TakenEvent { event, id },
         ) {
             Ok((verdict, prepared)) => {
                 self.prepared = Some(prepared);

@@ -1,9 +1,12 @@
 -- Worked examples of redaction, hashes and ids. Each computes.
-use Rattle.std.specs.Prelude.{◌≡◌, refl, ◌++◌, List, ℕ, [], ◌∷◌, codes, true, false}
+use Rattle.std.specs.Prelude.{◌≡◌, refl, List, ℕ, [], ◌∷◌, codes, true, false, Option, Some, option_map}
 use Prim.Native.String.{String}
+use Rattle.std.specs.Str.{chars}
 use Rattle.std.specs.Fmt.{digits}
 use Rattle.sha2.specs.Sha256.{sha256, hash_after, digest_bytes, compress, rounds, schedule, first_words}
 use Rattle.base64.specs.Rfc4648.{encode_symbols}
+use Rattle.serde_json.proofs.OnLiterals.{serde_json_on_literals}
+use Rattle.serde_json.specs.Read.{read}
 use Rattle.serde_json.specs.Data.{Data, null, string, number, unsigned, object, Members, no_members, member}
 use Rattle.mx_canon.specs.Canonical.{canonical_text}
 use Rattle.mx_redact.specs.Fields.{words, object_keys, value_at}
@@ -114,3 +117,26 @@ holds-padded = refl
 holds-none : hash_holds (object no_members) ≡ false
 unfolding hash_holds content_hash canonical_text encode_symbols sha256 hash_after digest_bytes compress rounds schedule first_words
 holds-none = refl
+
+-- ---- what is signed of power levels, whose id is $T88qUID58cSwgtjrzS_C35dNVOdZei7Dk6AJtTNbu9U
+
+abbrev power_levels : Option Data
+power_levels = read (codes "{\"auth_events\":[],\"content\":{\"ban\":50,\"invite\":50,\"notifications\":{\"room\":50},\"users\":{\"@a:a.example\":100}},\"depth\":4,\"hashes\":{\"sha256\":\"x\"},\"origin_server_ts\":40,\"prev_events\":[],\"room_id\":\"!r:a.example\",\"sender\":\"@a:a.example\",\"signatures\":{\"a.example\":{\"ed25519:1\":\"s\"}},\"state_key\":\"\",\"type\":\"m.room.power_levels\",\"unsigned\":{\"age\":5}}")
+
+signed-power_levels : option_map signing_text power_levels
+    ≡ Some (codes "{\"auth_events\":[],\"content\":{\"ban\":50,\"users\":{\"@a:a.example\":100}},\"depth\":4,\"hashes\":{\"sha256\":\"x\"},\"origin_server_ts\":40,\"prev_events\":[],\"room_id\":\"!r:a.example\",\"sender\":\"@a:a.example\",\"state_key\":\"\",\"type\":\"m.room.power_levels\"}")
+unfolding signing_text redact canonical_text serde_json_on_literals chars digits
+signed-power_levels = refl
+
+-- redaction changes nothing of it
+signed-redacted : option_map (λ e. signing_text (redact e)) power_levels ≡ option_map signing_text power_levels
+unfolding signing_text redact canonical_text serde_json_on_literals chars digits
+signed-redacted = refl
+
+-- a content that is no object is signed as it is, and what lies beyond 2^53 - 1 in `unsigned` is left out
+abbrev create_without_content : Option Data
+create_without_content = read (codes "{\"content\":7,\"type\":\"m.room.create\",\"unsigned\":{\"x\":9007199254740992}}")
+
+signed-no_object : option_map signing_text create_without_content ≡ Some (codes "{\"content\":7,\"type\":\"m.room.create\"}")
+unfolding signing_text redact canonical_text serde_json_on_literals chars digits
+signed-no_object = refl

@@ -8,13 +8,9 @@ mod hashers;
 mod hashing;
 mod kinds;
 mod parts;
-#[cfg(test)]
-mod plain;
 mod redacting;
 mod selections;
 mod signing;
-#[cfg(test)]
-mod tests;
 
 pub use digests::{Digests, event_digests};
 pub use fields::{field, is_text, text_field};

@@ -28,6 +28,3 @@ pub use moments::{LATEST_MILLISECONDS, Moment};
 pub use outcomes::{Outcome, Refusal};
 pub use queries::{Denied, Query, QueryReply};
 pub use rooms::Room;
-
-#[cfg(test)]
-mod tests;

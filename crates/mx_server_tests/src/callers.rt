@@ -108,12 +108,10 @@ pub fn after_a_turn<R: Threads + Wait + Sync>(
     callers
 }
 
-// What a caller is to do: it hosts and fills the room, where it is the first to speak of it, and sends so many messages
-// in a transaction with this number.
+// What a caller is to do: it hosts and fills the room, and sends so many messages in a transaction with this number.
 #[derive(Drop)]
 pub struct Plan {
     pub room: RoomEvents,
-    pub is_first: bool,
     pub txn: &'static str,
     pub messages: u32,
 }
@@ -130,14 +128,10 @@ fn messages(alloc: Global, plan: &Plan) -> Result<Vec<Pdu>, AllocError> {
 // Three turns, the last one first.
 fn turns_of(alloc: Global, plan: &Plan) -> Result<Vec<Turn>, AllocError> {
     let last = Turn::Send(key_of(alloc, plan.txn)?, messages(alloc, plan)?);
-    if plan.is_first {
-        let create = event(alloc, plan.room.create)?;
-        let others = events(alloc, &plan.room.others)?;
-        let filling = Turn::Send(key_of(alloc, plan.room.room)?, others);
-        Ok(vec![in alloc; last, filling, Turn::Host(create)]?)
-    } else {
-        Ok(vec![in alloc; last, Turn::Rest, Turn::Rest]?)
-    }
+    let create = event(alloc, plan.room.create)?;
+    let others = events(alloc, &plan.room.others)?;
+    let filling = Turn::Send(key_of(alloc, plan.room.room)?, others);
+    Ok(vec![in alloc; last, filling, Turn::Host(create)]?)
 }
 
 // A caller at the seat, with what it is to do.

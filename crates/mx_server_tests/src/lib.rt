@@ -1,9 +1,8 @@
-//! Tests of keepers, books, shards and servers, and of an engine whose callers are in threads of their own: what no
-//! contract says of them. They stand in a crate of their own, since a crate with tests is proved twice.
+//! Tests of what neither a contract says nor a log, a file or a socket tells: hashes by plain bodies, a keeper's refusal,
+//! a shard whose keeper fails, all steps of a server, and an engine whose callers are in threads of their own. They stand
+//! in a crate of their own, since a crate with tests is proved twice.
 #![tactic(auto)]
 
-#[cfg(test)]
-mod book_tests;
 #[cfg(test)]
 mod callers;
 #[cfg(test)]
@@ -12,6 +11,8 @@ mod engine_tests;
 mod engines;
 #[cfg(test)]
 mod gates;
+#[cfg(test)]
+mod hash_tests;
 #[cfg(test)]
 mod keeper_tests;
 #[cfg(test)]

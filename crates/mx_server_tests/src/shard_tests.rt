@@ -1,7 +1,7 @@
 use crate::values::{event, event_id, refused, server};
 use mx_keeper::{Caller, Keeper, KeeperFault, MemoryKeeper, Place, ShardRow};
 use mx_pdu::Offered;
-use mx_room::{Moment, Outcome, Query};
+use mx_room::{Moment, Outcome, Query, Refusal, Room};
 use mx_shard::{Answer, CallError, Shard};
 use std::alloc::{AllocError, Global};
 use std::test::Fail;
@@ -62,70 +62,6 @@ fn word(answer: &Answer) -> &'static str {
         Answer::ToAsked(Ok(_)) => "event",
         _ => "another answer",
     }
-}
-
-// The rows are the events that were kept, with the callers that offered them. A shard is opened again over them after
-// each call, and goes on.
-#[test]
-fn reopened_over_its_rows(rt: HostRuntime) -> Result<(), Fail> {
-    let alloc = rt.alloc();
-    let place = Place::new(0, 1);
-    let mut shard = Shard::reopen(alloc, MemoryKeeper::new(alloc), place)?;
-    assert!(rt; shard.is_empty());
-    for (caller, call, told) in [
-        (3, "host create", "hosted"),
-        (4, "host create", "already"),
-        (5, "offer join", "kept"),
-        (6, "ask join", "event"),
-    ] {
-        assert_eq!(rt; tell(alloc, &mut shard, caller, call)?, told);
-        shard = Shard::reopen(alloc, shard.into_keeper(), place)?;
-    }
-    let mut lines = String::new(alloc);
-    for row in &shard.into_keeper().rows()? {
-        lines.push_str(format!(in alloc;
-            "{} {}\n",
-            row.event.kind(),
-            row.caller.number()
-        )?.as_str())?;
-    }
-    assert_eq!(rt; lines.as_str(), "m.room.create 3\nm.room.member 5\n");
-    Ok(())
-}
-
-// What becomes of a shard at a place over the rows of these events.
-fn reopen_over(alloc: Global, names: &[&str], place: Place) -> Result<bool, CallError> {
-    let mut keeper = MemoryKeeper::new(alloc);
-    for name in names {
-        let event = offered(alloc, name)?.pdu;
-        let room = event.room_id().clone()?;
-        let caller = Caller::new(0);
-        let row = ShardRow {
-            room,
-            event,
-            caller,
-        };
-        keeper.append(&row).map_err(refused)?;
-    }
-    let shard = Shard::reopen(alloc, keeper, place)?;
-    Ok(shard.is_empty())
-}
-
-// An event that is refused behind others, a first one that makes no room, and one of a room of another place.
-#[test]
-fn rows_that_no_shard_has(rt: HostRuntime) -> Result<(), Fail> {
-    let alloc = rt.alloc();
-    let own = Place::new(0, 2);
-    let other = Place::new(1, 2);
-    for (names, place, told) in [
-        (&["create", "join"], own, Ok(false)),
-        (&["create", "create"], own, Err(CallError::Storage)),
-        (&["join", "create"], own, Err(CallError::Storage)),
-        (&["create", "join"], other, Err(CallError::Storage)),
-    ] {
-        assert_eq!(rt; reopen_over(alloc, names, place), told);
-    }
-    Ok(())
 }
 
 // A keeper that takes so many rows, and then fails each time. It holds none.
@@ -194,43 +130,25 @@ fn refused_from_the_first_failure(rt: HostRuntime) -> Result<(), Fail> {
     Ok(())
 }
 
-// A keeper that holds what does not read as rows.
-#[derive(Drop)]
-struct UnreadableKeeper;
-
-impl Keeper for UnreadableKeeper {
-    ghost use Rattle.std.specs.Prelude.{None, ⊤};
-
-    type Row = ShardRow;
-
-    ghost rows = { λ _. None };
-
-    ghost is_open = { λ _. ⊤ };
-
-    ghost is_honest = { λ _. ⊥ };
-
-    ghost may_leave = { λ _ _. ⊤ };
-
-    ghost failed = { λ _. 0 };
-
-    fn append(&mut self, _row: &ShardRow) -> Result<(), KeeperFault> {
-        Ok(())
-    }
-
-    fn rows(&mut self) -> Result<Vec<ShardRow>, KeeperFault> {
-        Err(KeeperFault::Table)
-    }
-
-    fn failures(&self) -> u64 {
-        0
-    }
-
-    ghost settled = { λ _ _ honest _ _. absurd honest };
+fn received(alloc: Global, room: &mut Room, signed: bool) -> Result<Outcome, AllocError> {
+    let mut join = offered(alloc, "join")?;
+    join.signed = signed;
+    let origin = server(alloc, "a.example")?;
+    room.receive(alloc, &origin, &join)
 }
 
+// A room with no shard around it. A shard prepares each event, and keeps it before the room has it.
 #[test]
-fn no_shard_over_an_unreadable_table(rt: HostRuntime) -> Result<(), Fail> {
-    let unreadable = Shard::reopen(rt.alloc(), UnreadableKeeper, Place::new(0, 1));
-    assert_eq!(rt; unreadable.err(), Some(CallError::Storage));
+fn events_received_by_a_room(rt: HostRuntime) -> Result<(), Fail> {
+    let alloc = rt.alloc();
+    let create = offered(alloc, "create")?;
+    let mut room = Room::host(alloc, &create).map_err(refused)?;
+    let unsigned = received(alloc, &mut room, false)?;
+    assert!(rt; matches!(unsigned, Outcome::Refused(Refusal::Signature)));
+    let signed = received(alloc, &mut room, true)?;
+    assert!(rt; matches!(signed, Outcome::Kept(_)));
+    let again = received(alloc, &mut room, false)?;
+    assert!(rt; matches!(again, Outcome::Known(_)));
+    assert_eq!(rt; room.len(), 2);
     Ok(())
 }

@@ -8,12 +8,15 @@ mod conflicts;
 mod entries;
 mod laws;
 mod numbered_resolution;
-mod plain;
+pub mod plain;
 mod resolving;
 mod snapshots;
 mod state_maps;
 mod states;
 
+pub use chains::chain_difference::sparse_chain_difference;
+pub use chains::dense_difference::dense_chain_difference;
+pub use conflicts::{full_conflicted, unconflicted};
 pub use entries::StateEntry;
 pub use laws::{equal_states_resolve_to_themselves, one_state_resolves_to_itself};
 pub use numbered_resolution::resolve_numbered;
@@ -23,10 +26,3 @@ pub use states::States;
 pub use states::entry_tests::EntryTest;
 pub use states::state_numbers::StateNo;
 pub use states::state_refs::StateRef;
-
-#[cfg(test)]
-mod conflict_tests;
-#[cfg(test)]
-mod numbered_tests;
-#[cfg(test)]
-mod states_tests;

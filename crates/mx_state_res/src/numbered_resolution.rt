@@ -5,13 +5,13 @@ ghost use Rattle.mx_state_res.specs.Numbered.{AreAdded, AreKnown, IsDiffering, e
 ghost use Rattle.mx_state_res.specs.Resolution as definition;
 
 use crate::checks::conflict_checks::check_conflicted;
-use crate::states::number_sets::each_once;
-use crate::conflicts::numbered_conflicts::{all_are_sorted, full_conflicted_at};
-use crate::states::state_changes::{StateChange, least_change, restored_puts};
-use crate::state_maps::StateMap;
-use crate::states::state_numbers::StateNo;
-use crate::states::States;
 use crate::checks::working_states::WorkingState;
+use crate::conflicts::numbered_conflicts::{all_are_sorted, full_conflicted_at};
+use crate::state_maps::StateMap;
+use crate::states::States;
+use crate::states::number_sets::each_once;
+use crate::states::state_changes::{StateChange, least_change, restored_puts};
+use crate::states::state_numbers::StateNo;
 use mx_graph::Graph;
 use std::alloc::{AllocError, Global};
 

@@ -4,9 +4,9 @@ ghost use Rattle.mx_state_res.specs.Resolution as definition;
 
 use crate::checks::auth_checks::overwrite;
 use crate::checks::conflict_checks::check_conflicted;
+use crate::checks::working_states::WorkingState;
 use crate::conflicts::{full_conflicted, unconflicted};
 use crate::state_maps::StateMap;
-use crate::checks::working_states::WorkingState;
 use mx_graph::Graph;
 use std::alloc::{AllocError, Global};
 

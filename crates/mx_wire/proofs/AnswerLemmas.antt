@@ -7,14 +7,14 @@ use Rattle.mx_world.specs.View.{WorldView}
 use Rattle.mx_world.specs.Worlds.{IsAfter}
 use Rattle.mx_world.specs.declared.steps.Step.{Step}
 use Rattle.mx_world.specs.declared.steps.StepReply.{StepReply}
-use Rattle.mx_wire.specs.Calls.{Call, Request, call_under}
+use Rattle.mx_requests.specs.Calls.{Call, Request, call_under}
 use Rattle.mx_wire.specs.LineOutputs.{response_output, step_output}
 use Rattle.mx_wire.specs.LineRuns.{IsCalled, IsDone, IsTaken}
 use Rattle.mx_wire.specs.Lines.{Line, step_line, call_line}
 use Rattle.mx_wire.specs.LineSteps.{call_reply, call_steps, first_of, line_output, line_steps, step_shown}
-use Rattle.mx_world.specs.Offers.{Offered}
-use Rattle.mx_wire.specs.ReplyBodies.{Response, failure}
-use Rattle.mx_wire.specs.declared.faults.Fault.{Fault}
+use Rattle.mx_pdu.specs.declared.offering.Offered.{Offered}
+use Rattle.mx_requests.specs.ReplyBodies.{Response, failure}
+use Rattle.mx_requests.specs.declared.faults.Fault.{Fault}
 use Rattle.mx_wire.proofs.CallStepLemmas.{none_done, one_done}
 
 -- a line with no steps

@@ -9,12 +9,12 @@ use Rattle.mx_world.specs.declared.steps.Step.{Step}
 use Rattle.mx_world.specs.declared.steps.Step.TheVariants.{Host, Open, Next, Close, Join, Ask}
 use Rattle.mx_world.specs.declared.steps.StepReply.{StepReply}
 use Rattle.mx_world.specs.declared.steps.StepReply.TheVariants.{OfRoom, Opened, Replayed, Busy, NotOpen, NoMore, OfEvent, MoreLeft, Closed}
-use Rattle.mx_wire.specs.Calls.{Call}
+use Rattle.mx_requests.specs.Calls.{Call}
 use Rattle.mx_wire.specs.LineRuns.{AreDone, AreFollowed, AreTaken, AreTakenFrom, AreTurned, IsCalled, IsTaken, nexts}
 use Rattle.mx_wire.specs.LineSteps.{first_of, first_step, following, last_of, once_open, reply_to, step_shown, steps_from, turns}
 use Rattle.mx_wire.specs.Lines.{StepView, open_step, next_step, close_step}
-use Rattle.mx_world.specs.Offers.{Offered}
-use Rattle.mx_wire.specs.ReplyBodies.{Response}
+use Rattle.mx_pdu.specs.declared.offering.Offered.{Offered}
+use Rattle.mx_requests.specs.ReplyBodies.{Response}
 use Rattle.mx_wire.proofs.LineRunLemmas.{map_one, replies_append}
 
 pub none_done : {K L : Type 0} (s : Start) (earlier : List Step) (w : WorldView K L) → IsAfter s earlier w → AreDone earlier [] [] s w

@@ -7,8 +7,8 @@ use Rattle.serde_json.specs.Find.{as_str}
 use Rattle.mx_redact.specs.Fields.{Event, field}
 use Rattle.mx_book.specs.declared.transaction_keys.TransactionKey.{TransactionKey}
 use Rattle.mx_wire.specs.Lines.{Line, bad_line, has_only, formed, or_bad, key_in, host_of, host_form, opening, events_of, open_in, open_form, body_of, line_in, read_line}
-use Rattle.mx_world.specs.Offers.{Offered}
-use Rattle.mx_wire.specs.Requests.{json_of}
+use Rattle.mx_pdu.specs.declared.offering.Offered.{Offered}
+use Rattle.mx_requests.specs.Requests.{json_of}
 
 -- ---- a line that is JSON, and one that is not
 

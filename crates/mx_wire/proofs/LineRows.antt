@@ -5,8 +5,8 @@ use Rattle.serde_json.proofs.OnLiterals.{serde_json_on_literals}
 use Rattle.mx_redact.specs.Fields.{Event}
 use Rattle.mx_pdu.specs.Format.{format_error, is_well_formed}
 use Rattle.mx_wire.specs.Lines.{Line, bad_line, malformed_host, step_line, call_line, open_step, next_step, close_step, read_line}
-use Rattle.mx_world.specs.Offers.{Offered}
-use Rattle.mx_wire.proofs.OnExamples.{wire_on_examples}
+use Rattle.mx_pdu.specs.declared.offering.Offered.{Offered}
+use Rattle.mx_requests.proofs.OnExamples.{wire_on_examples}
 
 unfoldable pub lines_on_examples : ⊤
 unfolding wire_on_examples serde_json_on_literals format_error is_well_formed read_line

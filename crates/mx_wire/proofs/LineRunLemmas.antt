@@ -15,7 +15,7 @@ use Rattle.mx_world.specs.declared.steps.StepReply.{StepReply}
 use Rattle.mx_wire.specs.Lines.{lines_of, read_line}
 use Rattle.mx_wire.specs.LineRuns.{IsDone, AreRunSoFar}
 use Rattle.mx_wire.specs.LineSteps.{AreExchanges, Exchange, IsExchange, line_output, outputs}
-use Rattle.mx_world.specs.Offers.{Offered}
+use Rattle.mx_pdu.specs.declared.offering.Offered.{Offered}
 
 -- what is appended after something is appended
 pub appends_more : (a b c : Option (List ℕ)) (xs ys : List ℕ) → Appends a b xs → Appends b c ys → Appends a c (xs ++ ys)

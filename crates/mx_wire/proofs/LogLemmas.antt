@@ -12,10 +12,11 @@ use Rattle.mx_world.specs.Worlds.{IsAfter}
 use Rattle.mx_wire.specs.LineOutputs.{has_refusal}
 use Rattle.mx_wire.specs.LineRuns.{AreAnswered, IsDone, IsEnded, IsWritten, answered, not_answered}
 use Rattle.mx_wire.specs.Lines.{lines_of, read_line}
-use Rattle.mx_wire.specs.declared.line_answers.LineRefusal.TheVariants.{Memory}
+use Rattle.mx_wire.specs.declared.answers.LineRefusal.TheVariants.{Memory}
 use Rattle.mx_wire.specs.LinesShown.{refusal_output}
 use Rattle.mx_wire.specs.LineSteps.{AreRun, IsAnswered, nothing_yet}
-use Rattle.mx_world.specs.Offers.{Judge, Offered, offer_by}
+use Rattle.mx_pdu.specs.Offers.{Judge, offer_by}
+use Rattle.mx_pdu.specs.declared.offering.Offered.{Offered}
 use Rattle.mx_wire.proofs.LineRunLemmas.{appends_more, appends_none, none_so_far, one_more}
 use Rattle.mx_wire.proofs.RefusalLineLemmas.{ended-more, ended-none, refusal-stays, refused}
 

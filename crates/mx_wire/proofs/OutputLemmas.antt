@@ -2,7 +2,7 @@
 use Rattle.std.proofs.Common.{◌≡◌, ℕ, List, ◌++◌, codes, append_assoc}
 use Rattle.std.specs.Str.{chars}
 use Rattle.mx_wire.specs.LineOutputs.{with_body}
-use Rattle.mx_wire.proofs.ReplyLemmas.{with_first}
+use Rattle.mx_requests.proofs.ReplyLemmas.{with_first}
 
 pub around : (taken key body : List ℕ) → with_first taken key body ++ codes "}" ≡ taken ++ with_body key body
 unfolding chars

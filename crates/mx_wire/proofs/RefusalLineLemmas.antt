@@ -6,8 +6,8 @@ use Rattle.std.proofs.lemmas.List.Folds.{list_any-append}
 use Rattle.std.specs.Str.{chars}
 use Rattle.std.specs.Fmt.{digits}
 use Rattle.mx_canon.specs.Canonical.{canonical_text}
-use Rattle.mx_wire.specs.declared.line_answers.LineRefusal.{LineRefusal}
-use Rattle.mx_wire.specs.declared.line_answers.LineRefusal.TheVariants.{Memory, Storage, CallMemory, CallStorage}
+use Rattle.mx_wire.specs.declared.answers.LineRefusal.{LineRefusal}
+use Rattle.mx_wire.specs.declared.answers.LineRefusal.TheVariants.{Memory, Storage, CallMemory, CallStorage}
 use Rattle.mx_wire.specs.Lines.{lines_of}
 use Rattle.mx_wire.specs.LineOutputs.{has_refusal, refusals}
 use Rattle.mx_wire.specs.LinesShown.{refusal_output}

@@ -1,15 +1,15 @@
 -- What a request is answered by an engine, and what a refused one leaves.
 use Rattle.std.proofs.Common.{◌≡◌, ℕ, List, refl, sym, subst, inl}
 use Rattle.std.specs.Prelude.{Ok, Err}
-use Rattle.mx_world.specs.Offers.{Judge}
+use Rattle.mx_pdu.specs.Offers.{Judge}
 use Rattle.mx_engine.specs.Views.{BerthView, AreSameViews}
 use Rattle.mx_engine.proofs.TurnLemmas.{nothing_refl}
 use Rattle.mx_engine.proofs.OfferingLemmas.{same_refl}
-use Rattle.mx_wire.specs.Calls.{Call, Request, sends, asks, joins, call_of}
-use Rattle.mx_wire.specs.ReplyBodies.{Response, failure}
-use Rattle.mx_wire.specs.Requests.{Read}
+use Rattle.mx_requests.specs.Calls.{Call, Request, sends, asks, joins, call_of}
+use Rattle.mx_requests.specs.ReplyBodies.{Response, failure}
+use Rattle.mx_requests.specs.Requests.{Read}
 use Rattle.mx_wire.specs.Responses.{ShardViews, BookViews, IsCallAnswered, IsCallRefused, IsReadAnswered, IsReadRefused, IsResponse, IsUnanswered}
-use Rattle.mx_wire.specs.declared.faults.Fault.{Fault}
+use Rattle.mx_requests.specs.declared.faults.Fault.{Fault}
 
 -- a request that makes a call is answered as the call
 pub call_answered : (judges : Judge) (server : List ℕ) (now caller : ℕ) (shards : ShardViews) (books : BookViews) (shards' : ShardViews) (books' : BookViews) (r : Request) (call : Call) (response : Response) → call_of judges server r ≡ Ok call → IsCallAnswered server now caller call shards books shards' books' response → IsResponse judges server now caller shards books shards' books' r response

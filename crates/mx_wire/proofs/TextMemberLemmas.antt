@@ -14,8 +14,8 @@ use Rattle.serde_json.specs.Read.{of_json, max_depth}
 use Rattle.serde_json.proofs.Views.{get_member-put, get_member-put_other}
 use Rattle.mx_redact.specs.Fields.{keys_of}
 use Rattle.mx_pdu.proofs.FormatLemmas.{and-left, and-right}
-use Rattle.mx_wire.specs.Requests.{json_of}
-use Rattle.mx_wire.proofs.JsonLemmas.{has_json}
+use Rattle.mx_requests.specs.Requests.{json_of}
+use Rattle.mx_requests.proofs.JsonLemmas.{has_json}
 
 -- the tokens of an object of three texts
 abbrev pub three_tokens : (a x b y c z : List ℕ) → List Token

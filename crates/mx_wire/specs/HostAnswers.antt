@@ -2,14 +2,14 @@
 -- What a line of a file of rooms is answered.
 use Rattle.std.specs.Prelude.{ℕ, ◌≡◌, ◌⊎◌, Bool, false, List}
 use Rattle.mx_redact.specs.Fields.{Event}
-use Rattle.mx_world.specs.Offers.{Offered}
+use Rattle.mx_pdu.specs.declared.offering.Offered.{Offered}
 use Rattle.mx_world.specs.View.{WorldView}
 use Rattle.mx_world.specs.Worlds.{Stays}
 use Rattle.mx_world.specs.declared.steps.StepReply.{StepReply}
 use Rattle.mx_wire.specs.HostLines.{IsHosting, asks_to_host, tells_hosted}
 use Rattle.mx_wire.specs.Lines.{read_line}
-use Rattle.mx_wire.specs.declared.line_answers.LineAnswer.{LineAnswer}
-use Rattle.mx_wire.specs.declared.line_answers.LineAnswer.TheVariants.{Step}
+use Rattle.mx_wire.specs.declared.answers.LineAnswer.{LineAnswer}
+use Rattle.mx_wire.specs.declared.answers.LineAnswer.TheVariants.{Step}
 
 abbrev pub answer_hosts : LineAnswer → Bool
 answer_hosts (Step reply) = tells_hosted reply

@@ -4,7 +4,7 @@ use Rattle.mx_redact.specs.Fields.{Event}
 use Rattle.mx_shard.specs.declared.answers.Answer.{Answer}
 use Rattle.mx_shard.specs.declared.answers.Answer.TheVariants.{Hosted, AlreadyHosted}
 use Rattle.mx_world.specs.Calls.{Start, record_after}
-use Rattle.mx_world.specs.Offers.{Offered}
+use Rattle.mx_pdu.specs.declared.offering.Offered.{Offered}
 use Rattle.mx_world.specs.Replies.{IsReply, status_after}
 use Rattle.mx_world.specs.View.{WorldView}
 use Rattle.mx_world.specs.Worlds.{IsAfter, Stays}

@@ -4,10 +4,10 @@ use Rattle.mx_keeper.specs.declared.refusals.CallError.{CallError}
 use Rattle.mx_keeper.specs.declared.refusals.CallError.TheVariants as call
 use Rattle.mx_wire.specs.declared.input.InputError.{InputError}
 use Rattle.mx_wire.specs.declared.input.InputError.TheVariants as input
-use Rattle.mx_wire.specs.declared.line_answers.LineRefusal.{LineRefusal}
-use Rattle.mx_wire.specs.declared.line_answers.LineRefusal.TheVariants as refusal
-use Rattle.mx_wire.specs.declared.line_runs.LinesError.{LinesError}
-use Rattle.mx_wire.specs.declared.line_runs.LinesError.TheVariants.{Memory, Storage, Read}
+use Rattle.mx_wire.specs.declared.answers.LineRefusal.{LineRefusal}
+use Rattle.mx_wire.specs.declared.answers.LineRefusal.TheVariants as refusal
+use Rattle.mx_wire.specs.declared.logs.LinesError.{LinesError}
+use Rattle.mx_wire.specs.declared.logs.LinesError.TheVariants.{Memory, Storage, Read}
 
 abbrev pub of_input : InputError → LinesError
 of_input input.Memory = Memory

@@ -14,9 +14,9 @@ use Rattle.mx_world.specs.Replies.{text_of}
 use Rattle.mx_world.specs.declared.steps.StepReply.{StepReply}
 use Rattle.mx_world.specs.declared.steps.StepReply.TheVariants.{OfRoom, Opened, Replayed, Busy, NotOpen, NoMore, OfEvent, MoreLeft, Closed}
 use Rattle.mx_wire.specs.Lines.{lines_of}
-use Rattle.mx_wire.specs.ReplyBodies.{Response, failure}
-use Rattle.mx_wire.specs.declared.faults.Fault.{Fault}
-use Rattle.mx_wire.specs.declared.faults.Fault.TheVariants.{Memory, Storage}
+use Rattle.mx_requests.specs.ReplyBodies.{Response, failure}
+use Rattle.mx_requests.specs.declared.faults.Fault.{Fault}
+use Rattle.mx_requests.specs.declared.faults.Fault.TheVariants.{Memory, Storage}
 
 abbrev pub one_member : List ℕ → Data → List ℕ
 one_member key d = canonical_text (object (member key d no_members))

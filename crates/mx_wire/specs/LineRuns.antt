@@ -10,14 +10,14 @@ use Rattle.mx_world.specs.View.{WorldView}
 use Rattle.mx_world.specs.Worlds.{IsAfter}
 use Rattle.mx_world.specs.declared.steps.Step.{Step}
 use Rattle.mx_world.specs.declared.steps.StepReply.{StepReply}
-use Rattle.mx_wire.specs.Calls.{Call}
+use Rattle.mx_requests.specs.Calls.{Call}
 use Rattle.mx_wire.specs.LineOutputs.{has_refusal}
 use Rattle.mx_wire.specs.Lines.{Line, StepView, next_step, close_step, read_line}
-use Rattle.mx_world.specs.Offers.{Offered}
+use Rattle.mx_pdu.specs.declared.offering.Offered.{Offered}
 use Rattle.mx_wire.specs.LineSteps.{AreRun, Exchange, first_of, first_step, last_of, line_output, line_steps, once_open, reply_to, step_shown, steps_from}
 use Rattle.mx_wire.specs.LinesShown.{refusal_output}
-use Rattle.mx_wire.specs.ReplyBodies.{Response}
-use Rattle.mx_wire.specs.declared.line_answers.LineRefusal.{LineRefusal}
+use Rattle.mx_requests.specs.ReplyBodies.{Response}
+use Rattle.mx_wire.specs.declared.answers.LineRefusal.{LineRefusal}
 
 -- a step was taken after others, with its reply, and this is what is kept
 pub record IsTaken {K L : Type 0} (start : Start) (earlier : List Step) (step : Step) (reply : StepReply) (w : WorldView K L) : Type 0 where

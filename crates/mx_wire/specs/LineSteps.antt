@@ -9,14 +9,15 @@ use Rattle.mx_world.specs.declared.steps.Step.{Step}
 use Rattle.mx_world.specs.declared.steps.Step.TheVariants.{Host, Open, Next, Close, Join, Ask}
 use Rattle.mx_world.specs.declared.steps.StepReply.{StepReply}
 use Rattle.mx_world.specs.declared.steps.StepReply.TheVariants.{OfRoom, Opened, Replayed, NotOpen, Closed}
-use Rattle.mx_wire.specs.Calls.{Call, sends, asks, joins, call_under}
-use Rattle.mx_wire.specs.JoinReplies.{join_reply}
+use Rattle.mx_requests.specs.Calls.{Call, sends, asks, joins, call_under}
+use Rattle.mx_requests.specs.JoinReplies.{join_reply}
 use Rattle.mx_wire.specs.LineOutputs.{bad_output, refused_output, response_output, step_output}
 use Rattle.mx_wire.specs.Lines.{Line, bad_line, malformed_host, step_line, call_line, lines_of, read_line, StepView, host_step, open_step, next_step, close_step, join_step, ask_step}
-use Rattle.mx_world.specs.Offers.{Judge, Offered, offer_by}
-use Rattle.mx_wire.specs.ReplyBodies.{Response, success, failure, query_reply}
-use Rattle.mx_wire.specs.Requests.{Read}
-use Rattle.mx_wire.specs.declared.faults.Fault.TheVariants.{NotFound, Busy as TransactionBusy}
+use Rattle.mx_pdu.specs.Offers.{Judge, offer_by}
+use Rattle.mx_pdu.specs.declared.offering.Offered.{Offered}
+use Rattle.mx_requests.specs.ReplyBodies.{Response, success, failure, query_reply}
+use Rattle.mx_requests.specs.Requests.{Read}
+use Rattle.mx_requests.specs.declared.faults.Fault.TheVariants.{NotFound, Busy as TransactionBusy}
 
 abbrev pub step_shown : Step → StepView
 step_shown (Host o) = host_step o

@@ -10,9 +10,9 @@ use Rattle.mx_pdu.specs.Format.{is_well_formed}
 use Rattle.mx_book.specs.declared.transaction_keys.TransactionKey.{TransactionKey}
 use Rattle.mx_room.specs.declared.moments.TheConstants.{LATEST_MILLISECONDS}
 use Rattle.mx_room.specs.declared.queries.Query.{Query}
-use Rattle.mx_wire.specs.Calls.{Request}
-use Rattle.mx_world.specs.Offers.{Offered}
-use Rattle.mx_wire.specs.Requests.{entries_up_to, json_of, natural_of}
+use Rattle.mx_requests.specs.Calls.{Request}
+use Rattle.mx_pdu.specs.declared.offering.Offered.{Offered}
+use Rattle.mx_requests.specs.Requests.{entries_up_to, json_of, natural_of}
 
 -- the lines of a text; the last may lack its newline
 unfoldable pub lines_of : List ℕ → List (List ℕ)

@@ -1,18 +1,18 @@
 -- Lines of the program, and its answers to them, as the definitions'.
 use Rattle.std.specs.Prelude.{ℕ, List, codes}
-use Rattle.mx_wire.specs.declared.call_lines.CallLine.{CallLine}
+use Rattle.mx_wire.specs.declared.lines.call_forms.CallLine.{CallLine}
 use Rattle.mx_wire.specs.declared.lines.Line as program
 use Rattle.mx_wire.specs.declared.lines.Line.TheVariants as line
-use Rattle.mx_wire.specs.declared.line_answers.LineAnswer.{LineAnswer}
-use Rattle.mx_wire.specs.declared.line_answers.LineAnswer.TheVariants as answer
-use Rattle.mx_wire.specs.declared.line_answers.LineRefusal.{LineRefusal}
-use Rattle.mx_wire.specs.declared.line_answers.LineRefusal.TheVariants as refusal
-use Rattle.mx_wire.specs.declared.faults.Fault.TheVariants as fault
-use Rattle.mx_wire.specs.CallsShown.{request_shown}
+use Rattle.mx_wire.specs.declared.answers.LineAnswer.{LineAnswer}
+use Rattle.mx_wire.specs.declared.answers.LineAnswer.TheVariants as answer
+use Rattle.mx_wire.specs.declared.answers.LineRefusal.{LineRefusal}
+use Rattle.mx_wire.specs.declared.answers.LineRefusal.TheVariants as refusal
+use Rattle.mx_requests.specs.declared.faults.Fault.TheVariants as fault
+use Rattle.mx_requests.specs.CallsShown.{request_shown}
 use Rattle.mx_wire.specs.LineOutputs.{bad_output, error_output, fault_output, refused_output, response_output, step_output}
 use Rattle.mx_wire.specs.Lines.{Line, bad_line, malformed_host, step_line, call_line}
 use Rattle.mx_wire.specs.LineSteps.{step_shown}
-use Rattle.mx_wire.specs.RepliesShown.{reply_shown}
+use Rattle.mx_requests.specs.RepliesShown.{reply_shown}
 
 abbrev pub call_line_shown : CallLine → Line
 call_line_shown call = call_line call.now (request_shown call.request)

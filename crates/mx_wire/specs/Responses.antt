@@ -7,7 +7,7 @@ use Rattle.mx_shard.specs.LoneRoom.{to_ask, to_join}
 use Rattle.mx_shard.specs.Journal.{Entry}
 use Rattle.mx_shard.specs.declared.answers.Answer.{Answer}
 use Rattle.mx_book.specs.declared.entries.BookEntry.{BookEntry}
-use Rattle.mx_world.specs.Offers.{Judge}
+use Rattle.mx_pdu.specs.Offers.{Judge}
 use Rattle.mx_world.specs.declared.steps.StepReply.{StepReply}
 use Rattle.mx_world.specs.declared.steps.StepReply.TheVariants as step
 use Rattle.mx_engine.specs.Views.{BerthView, AddsNothing}
@@ -15,10 +15,10 @@ use Rattle.mx_engine.specs.Calls.{IsAnswered, IsAsked}
 use Rattle.mx_engine.specs.Transactions.{IsRefused, IsReplied}
 use Rattle.mx_engine.specs.declared.replies.TransactionReply.{TransactionReply}
 use Rattle.mx_engine.specs.declared.replies.TransactionReply.TheVariants as reply
-use Rattle.mx_wire.specs.Calls.{Call, Request, sends, asks, joins, call_of}
+use Rattle.mx_requests.specs.Calls.{Call, Request, sends, asks, joins, call_of}
 use Rattle.mx_wire.specs.LineSteps.{first_step, reply_to}
-use Rattle.mx_wire.specs.ReplyBodies.{Response, failure}
-use Rattle.mx_wire.specs.Requests.{Read}
+use Rattle.mx_requests.specs.ReplyBodies.{Response, failure}
+use Rattle.mx_requests.specs.Requests.{Read}
 
 abbrev pub ShardViews : Type 0
 ShardViews = List (BerthView Entry)

@@ -2,11 +2,11 @@
 use Rattle.std.specs.Prelude.{◌≡◌, ℕ, true, List, codes, Some}
 use Rattle.serde_json.specs.Data.{Data, object, string, Members, no_members, put}
 use Rattle.mx_redact.specs.Fields.{text_field}
-use Rattle.mx_wire.specs.declared.text_members.TextMember.{TextMember}
-use Rattle.mx_wire.specs.declared.text_members.ThreeMembers.{ThreeMembers}
-use Rattle.mx_wire.specs.declared.line_texts.LineTexts.{LineTexts}
+use Rattle.mx_wire.specs.declared.lines.members.TextMember.{TextMember}
+use Rattle.mx_wire.specs.declared.lines.members.ThreeMembers.{ThreeMembers}
+use Rattle.mx_wire.specs.declared.lines.texts.LineTexts.{LineTexts}
 use Rattle.mx_wire.specs.Lines.{has_only}
-use Rattle.mx_wire.specs.Requests.{json_of}
+use Rattle.mx_requests.specs.Requests.{json_of}
 
 -- the members, with one that is a text
 abbrev pub with_text : TextMember → Members → Members

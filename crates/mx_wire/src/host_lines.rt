@@ -1,6 +1,6 @@
 // The lines of a file of rooms that a server is to host.
 ghost use Rattle.std.specs.Prelude.{◌≡◌, ◌⊎◌, false, IfErr, IfNone, IfOk, IfSome, OnErr};
-ghost use Rattle.mx_world.specs.Offers.{offer_by};
+ghost use Rattle.mx_pdu.specs.Offers.{offer_by};
 ghost use Rattle.mx_world.specs.Worlds.{Stays};
 ghost use Rattle.mx_world.specs.declared.steps.Step.TheVariants.{Host};
 ghost use Rattle.mx_wire.specs.HostAnswers.{IsHostAnswer, answer_hosts};
@@ -9,8 +9,8 @@ ghost use Rattle.mx_wire.specs.LineSteps.{step_shown};
 ghost use Rattle.mx_wire.specs.Lines.{host_step, step_line};
 ghost use Rattle.mx_wire.specs.LinesShown.{line_shown};
 
-use crate::line_answers::{LineAnswer, LineRefusal};
-use crate::line_writing::{write_answer, write_refusal};
+use crate::answers::writing::{write_answer, write_refusal};
+use crate::answers::{LineAnswer, LineRefusal};
 use crate::lines::{Line, read_line};
 use json::Scratch;
 use mx_keeper::{BookRow, Keeper, ShardRow};

@@ -6,7 +6,7 @@ use std::alloc::{AllocError, Global};
 use std::io::{ErrorKind, Read};
 
 /// How many reads one input may take. A reader that never ends counts as one that fails.
-pub const MOST_READS: u64 = 1 << 32;
+pub(crate) const MOST_READS: u64 = 1 << 32;
 
 /// Why an input was not read.
 #[derive(Clone, Copy, Debug, PartialEq, Eq, Drop)]
@@ -28,7 +28,7 @@ impl From<AllocError> for InputError {
 
 /// All bytes of the input.
 ///
-/// `Memory` where they find no memory, `Read` where a read fails, or where there is no end after [`MOST_READS`] of them.
+/// `Memory` where they find no memory, `Read` where a read fails, or where there is no end after 2^32 of them.
 pub fn read_all<R: Read>(alloc: Global, input: &mut R) -> Result<Vec<u8>, InputError>
     ensures { IfOk result (λ bytes. IfSome (R.remaining input.old) (λ all. bytes.items ≡ all)) }
 {

@@ -4,11 +4,18 @@ ghost use Rattle.serde_json.specs.Data.{object};
 ghost use Rattle.serde_json.specs.View.{view, members_view};
 ghost use Rattle.mx_wire.specs.Lines as definition;
 ghost use Rattle.mx_wire.specs.LinesShown.{line_shown};
-ghost use Rattle.mx_world.specs.Offers.{offer_by};
+ghost use Rattle.mx_pdu.specs.Offers.{offer_by};
 
-use crate::call_lines::{CallLine, call_line};
-use crate::line_texts::text_line;
-use crate::step_lines::{close_line, host_line, next_line, open_line};
+pub(crate) mod call_forms;
+mod keys;
+mod members;
+pub(crate) mod splitting;
+mod step_forms;
+mod texts;
+
+use crate::lines::call_forms::{CallLine, call_line};
+use crate::lines::step_forms::{close_line, host_line, next_line, open_line};
+use crate::lines::texts::text_line;
 use json::Scratch;
 use mx_pdu::Verifier;
 use mx_redact::text_field;
@@ -17,7 +24,7 @@ use serde_json::{Map, Value};
 use std::alloc::{AllocError, Global};
 
 /// What a line of a log asks for.
-#[derive(Debug, Drop)]
+#[derive(Drop)]
 pub(crate) enum Line {
     // It has no form.
     Bad,

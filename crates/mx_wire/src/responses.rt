@@ -2,28 +2,24 @@
 ghost use Rattle.std.specs.Prelude.{◌≡◌, ◌≢◌, ℕ, IfOk, OnErr};
 ghost use Rattle.mx_engine.specs.Seats.{IsSeatOf, book_views, seat_number, shard_views, verifier_of};
 ghost use Rattle.mx_engine.specs.Views.{AreSameViews};
-ghost use Rattle.mx_wire.specs.Calls.{asks, joins, sends};
-ghost use Rattle.mx_wire.specs.CallsShown.{call_shown, request_shown};
-ghost use Rattle.mx_wire.specs.RepliesShown.{reply_shown};
-ghost use Rattle.mx_wire.specs.ReplyBodies.{failure};
+ghost use Rattle.mx_requests.specs.Calls.{asks, joins, sends};
+ghost use Rattle.mx_requests.specs.CallsShown.{call_shown, request_shown};
+ghost use Rattle.mx_requests.specs.RepliesShown.{reply_shown};
+ghost use Rattle.mx_requests.specs.ReplyBodies.{failure};
 ghost use Rattle.mx_wire.specs.Responses.{IsCallAnswered, IsCallRefused, IsResponse, IsUnanswered, last_step_reply};
 
-use crate::calls::WireCall;
-use crate::faults::Fault;
-use crate::query_replies::{WireReply, fault_reply};
-use crate::requests::{WireRequest, read_request};
-use crate::routes::Routes;
-use crate::step_replies::{asked_reply, joined_reply, sent_reply};
+use crate::steps::replies::{asked_reply, joined_reply, sent_reply};
 use mx_engine::{Engine, Gate, Seat, TransactionReply};
 use mx_ident::ServerName;
 use mx_keeper::{BookRow, CallError, Keeper, ShardRow, TransactionId};
 use mx_pdu::{Offered, Verifier};
+use mx_requests::{Fault, WireCall, WireReply, WireRequest, WireServer, fault_reply, read_request};
 use mx_room::{Moment, Query};
 use mx_world::{StepReply, TransactionKey};
 use std::alloc::Global;
 use std::sync::Wait;
 
-/// The reply of the server of this name to a request at this moment, by an engine that callers share.
+/// The reply of this server to a request at this moment, by an engine that callers share.
 ///
 /// A request with a fault is told it, and the engine is not called. Else the engine is called once, and the reply is the
 /// one by its answer. `Memory` where no memory is left, `Storage` where what keeps rows failed, now or before. Then a
@@ -41,10 +37,9 @@ pub fn respond<
 >(
     rt: &R,
     alloc: Global,
-    routes: &Routes,
+    server: &WireServer,
     engine: &Engine<K, L, V, G>,
     seat: &mut Seat<K, L>,
-    name: &ServerName,
     now: Moment,
     request: &WireRequest,
 ) -> Result<WireReply, CallError>
@@ -53,15 +48,15 @@ pub fn respond<
     ensures number { seat_number seat.new ≡ seat_number seat.old }
     ensures same_shards { AreSameViews (shard_views seat.old) (shard_views seat.new) }
     ensures same_books { AreSameViews (book_views seat.old) (book_views seat.new) }
-    ensures reply { IfOk result (λ reply. IsResponse (V.judges (verifier_of engine.now)) name.now now (seat_number seat.old)
+    ensures reply { IfOk result (λ reply. IsResponse (V.judges (verifier_of engine.now)) server.now.name now (seat_number seat.old)
         (shard_views seat.old) (book_views seat.old) (shard_views seat.new) (book_views seat.new) (request_shown request.now) (reply_shown reply)) }
-    ensures err { OnErr result (IsUnanswered (V.judges (verifier_of engine.now)) name.now (seat_number seat.old)
+    ensures err { OnErr result (IsUnanswered (V.judges (verifier_of engine.now)) server.now.name (seat_number seat.old)
         (shard_views seat.old) (book_views seat.old) (shard_views seat.new) (book_views seat.new) (request_shown request.now)) }
 {
     let verifier = engine.verifier();
-    match read_request(alloc, routes, name, verifier, request) {
+    match read_request(alloc, server, verifier, request) {
         Ok(call) => {
-            let reply = answer_call(rt, alloc, engine, seat, name, now, call)?;
+            let reply = answer_call(rt, alloc, engine, seat, &server.name, now, call)?;
             Ok(reply)
         }
         Err(fault) => {
@@ -123,7 +118,12 @@ fn answer_call<
             Ok(reply)
         }
         WireCall::Asks { origin, query } => {
-            let reply = answer_query(rt, alloc, engine, seat, name, &origin, now, &query)?;
+            let asked = AskedQuery {
+                origin: &origin,
+                moment: now,
+                query: &query,
+            };
+            let reply = answer_query(rt, alloc, engine, seat, name, asked)?;
             Ok(reply)
         }
         WireCall::Joins { origin, event } => {
@@ -131,6 +131,14 @@ fn answer_call<
             Ok(reply)
         }
     }
+}
+
+// What a server asks at a moment.
+#[derive(Clone, Copy)]
+struct AskedQuery<'a> {
+    origin: &'a ServerName,
+    moment: Moment,
+    query: &'a Query,
 }
 
 // The reply to a query.
@@ -146,23 +154,21 @@ fn answer_query<
     engine: &Engine<K, L, V, G>,
     seat: &mut Seat<K, L>,
     name: &ServerName,
-    origin: &ServerName,
-    now: Moment,
-    query: &Query,
+    asked: AskedQuery<'_>,
 ) -> Result<WireReply, CallError>
     requires { IsSeatOf engine.now seat.old }
     ensures seat { IsSeatOf engine.now seat.new }
     ensures number { seat_number seat.new ≡ seat_number seat.old }
     ensures same_shards { AreSameViews (shard_views seat.old) (shard_views seat.new) }
     ensures same_books { AreSameViews (book_views seat.old) (book_views seat.new) }
-    ensures reply { IfOk result (λ reply. IsCallAnswered name.now now (seat_number seat.old) (asks origin.now query.now)
+    ensures reply { IfOk result (λ reply. IsCallAnswered name.now asked.entry.moment (seat_number seat.old) (asks asked.entry.origin.now asked.entry.query.now)
         (shard_views seat.old) (book_views seat.old) (shard_views seat.new) (book_views seat.new) (reply_shown reply)) }
-    ensures err { OnErr result (IsCallRefused (seat_number seat.old) (asks origin.now query.now)
+    ensures err { OnErr result (IsCallRefused (seat_number seat.old) (asks asked.entry.origin.now asked.entry.query.now)
         (shard_views seat.old) (book_views seat.old) (shard_views seat.new) (book_views seat.new)) }
 {
-    let told = engine.ask(rt, seat, origin, now, query)?;
+    let told = engine.ask(rt, seat, asked.origin, asked.moment, asked.query)?;
     let last = StepReply::OfRoom(told);
-    let reply = asked_reply(alloc, name, now, query, last)?;
+    let reply = asked_reply(alloc, name, asked.moment, asked.query, last)?;
     Ok(reply)
 }
 

@@ -73,12 +73,14 @@ pub(crate) fn walked_chain_difference(
     dense_chain_difference(alloc, graph, shared, apart)
 }
 
-/// The same, of any number of sets, by a map of the events that wait.
+/// The events that are in the auth chains of some of these sets, and not of all, and not in the chain of what all sets
+/// share, rising: of any number of sets, by a map of the events that wait.
 ///
 /// It walks from the last event down, and ends where every set reaches all that is left: no event is visited below the
 /// place where the chains meet. The time is that of the edges from there up, times the sets and a logarithm, and that of
-/// a sort of the shared events.
-pub(crate) fn sparse_chain_difference(
+/// a sort of the shared events. `AllocError` where no memory is left. Source: the Matrix specification, Room Version 2,
+/// "State resolution", auth difference.
+pub fn sparse_chain_difference(
     alloc: Global,
     graph: &Graph,
     shared: &[EventNo],

@@ -16,7 +16,9 @@ use std::alloc::{AllocError, Global};
 ///
 /// It walks from the last row down, and ends where each row that is left is reached by every set or by none. The time is
 /// that of the edges of the rows from there up and of the shared events, and a few steps for each row of the graph.
-pub(crate) fn dense_chain_difference(
+/// `AllocError` where no memory is left. Source: the Matrix specification, Room Version 2, "State resolution", auth
+/// difference.
+pub fn dense_chain_difference(
     alloc: Global,
     graph: &Graph,
     shared: &[EventNo],

@@ -4,8 +4,8 @@ ghost use Rattle.mx_state_res.specs.Numbered.{shown_by};
 ghost use Rattle.mx_state_res.specs.Resolution as definition;
 
 use crate::checks::judged_states::is_allowed;
-use crate::state_maps::StateMap;
 use crate::checks::working_states::WorkingState;
+use crate::state_maps::StateMap;
 use mx_graph::{EventNo, Graph};
 use std::alloc::AllocError;
 

@@ -5,8 +5,8 @@ ghost use Rattle.mx_state_res.specs.Numbered.{checked, shown_by};
 
 use crate::checks::auth_checks::check_each;
 use crate::checks::powers::power_events;
-use crate::conflicts::rising_lists::without;
 use crate::checks::working_states::WorkingState;
+use crate::conflicts::rising_lists::without;
 use mx_graph::{EventNo, Graph};
 use mx_orders::{mainline_order, power_order};
 use std::alloc::{AllocError, Global};

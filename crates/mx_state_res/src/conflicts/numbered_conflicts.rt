@@ -10,8 +10,8 @@ ghost use Rattle.mx_state_res.specs.Resolution as definition;
 use crate::chains::chain_difference::chain_difference;
 use crate::conflicts::joined;
 use crate::state_maps::StateMap;
-use crate::states::state_numbers::StateNo;
 use crate::states::States;
+use crate::states::state_numbers::StateNo;
 use mx_graph::{EventNo, Graph, graph_is_sound, rising};
 use std::alloc::{AllocError, Global};
 

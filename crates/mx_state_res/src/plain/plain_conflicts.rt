@@ -8,14 +8,15 @@ ghost use Rattle.mx_orders.specs.StateMap.{events_of as events_in};
 ghost use Rattle.mx_state_res.specs.Agreed.{IsAgreed};
 ghost use Rattle.mx_state_res.specs.Resolution as definition;
 
-use crate::conflicts::{conflicted_events, events_of, joined};
 use crate::conflicts::rising_lists::stands_in;
+use crate::conflicts::{conflicted_events, events_of, joined};
 use crate::state_maps::StateMap;
 use mx_graph::{EventNo, Graph, rising};
 use std::alloc::{AllocError, Global};
 
-// The set of `full_conflicted`. It joins the whole auth chains of whole states, and stands beside that one for the tests.
-pub(crate) fn plain_full_conflicted(
+/// The set of [`full_conflicted`](crate::full_conflicted), by a plain body under the same contract: it joins the whole
+/// auth chains of whole states. `AllocError` where no memory is left.
+pub fn plain_full_conflicted(
     alloc: Global,
     graph: &Graph,
     agreed: &StateMap,

@@ -15,9 +15,10 @@ use mx_graph::EventNo;
 use std::alloc::{AllocError, Global};
 use std::marker::Model;
 
-// A room's states by number. A state stays as it was added.
+/// A room's states by number, by plain bodies under the contracts of [`States`](crate::States): each state is a map of its
+/// own, and stays as it was added.
 #[derive(Debug, Drop)]
-pub(crate) struct PlainStates {
+pub struct PlainStates {
     alloc: Global,
     maps: Vec<StateMap>,
 }
@@ -35,8 +36,8 @@ impl Model for PlainStates {
 }
 
 impl PlainStates {
-    // No states.
-    pub(crate) fn new(alloc: Global) -> PlainStates
+    /// No states.
+    pub fn new(alloc: Global) -> PlainStates
         ensures { result ≡ [] }
     {
         PlainStates {
@@ -45,8 +46,8 @@ impl PlainStates {
         }
     }
 
-    // Adds the state with no events. At an error the states stay.
-    pub(crate) fn add_empty(&mut self) -> Result<StateNo, AllocError>
+    /// Adds the state with no events. At an error the states stay.
+    pub fn add_empty(&mut self) -> Result<StateNo, AllocError>
         ensures number { IfOk result (λ number. number ≡ length self.old) }
         ensures added { OnOk result (self.new ≡ self.old ++ [] ∷ []) }
         ensures err { OnErr result (self.new ≡ self.old) }
@@ -56,8 +57,8 @@ impl PlainStates {
         Ok(number)
     }
 
-    // Adds a state with these entries. At an error the states stay.
-    pub(crate) fn add(&mut self, map: &StateMap) -> Result<StateNo, AllocError>
+    /// Adds a state with these entries. At an error the states stay.
+    pub fn add(&mut self, map: &StateMap) -> Result<StateNo, AllocError>
         ensures number { IfOk result (λ number. number ≡ length self.old) }
         ensures added { OnOk result (self.new ≡ self.old ++ map.now ∷ []) }
         ensures err { OnErr result (self.new ≡ self.old) }
@@ -68,9 +69,9 @@ impl PlainStates {
         Ok(number)
     }
 
-    // Adds the state that is another one with an event put at a type and a state key, in place of one that is there. At
-    // an error the states stay.
-    pub(crate) fn with(
+    /// Adds the state that is another one with an event put at a type and a state key, in place of one that is there. At
+    /// an error the states stay.
+    pub fn with(
         &mut self,
         parent: StateNo,
         kind: &str,
@@ -90,30 +91,30 @@ impl PlainStates {
         Ok(number)
     }
 
-    // How many states there are.
-    pub(crate) fn len(&self) -> usize
+    /// How many states there are.
+    pub fn len(&self) -> usize
         ensures { result ≡ length self.now }
     {
         self.maps.len()
     }
 
-    // Gives up all states but the first of them, so many. It takes no memory.
-    pub(crate) fn truncate(&mut self, count: usize)
+    /// Gives up all states but the first of them, so many. It takes no memory.
+    pub fn truncate(&mut self, count: usize)
         ensures { self.new ≡ take count self.old }
     {
         self.maps.truncate(count);
     }
 
-    // The event at a type and a state key of a state. It takes no memory.
-    pub(crate) fn get(&self, number: StateNo, kind: &str, state_key: &str) -> Option<EventNo>
+    /// The event at a type and a state key of a state. It takes no memory.
+    pub fn get(&self, number: StateNo, kind: &str, state_key: &str) -> Option<EventNo>
         requires { number < length self.now }
         ensures { result ≡ entry (state_at self.now number) (kind.now, state_key.now) }
     {
         self.maps[number.index()].get(kind, state_key)
     }
 
-    // A state as a map of its own.
-    pub(crate) fn map(&self, alloc: Global, number: StateNo) -> Result<StateMap, AllocError>
+    /// A state as a map of its own.
+    pub fn map(&self, alloc: Global, number: StateNo) -> Result<StateMap, AllocError>
         requires { number < length self.now }
         ensures { IfOk result (λ map. map ≡ state_at self.now number) }
     {
@@ -121,12 +122,8 @@ impl PlainStates {
         self.maps[number.index()].clone()
     }
 
-    // The keys at which states are not all alike: it has an event at each of them, and none elsewhere.
-    pub(crate) fn differing(
-        &self,
-        alloc: Global,
-        numbers: &[StateNo],
-    ) -> Result<StateMap, AllocError>
+    /// The keys at which states are not all alike: it has an event at each of them, and none elsewhere.
+    pub fn differing(&self, alloc: Global, numbers: &[StateNo]) -> Result<StateMap, AllocError>
         requires { All (λ number. number < length self.now) numbers.now }
         ensures { IfOk result (λ found. (key : Key)
             → (entry found key ≡ None) ↔ AllAlike key (map (state_at self.now) numbers.now)) }
@@ -160,9 +157,9 @@ impl PlainStates {
         put_differing(found, first, other)
     }
 
-    // Adds the state that is another one without the keys of `taken`, with the entries of `puts` put over it. At an
-    // error the states stay.
-    pub(crate) fn apply(
+    /// Adds the state that is another one without the keys of `taken`, with the entries of `puts` put over it. At an
+    /// error the states stay.
+    pub fn apply(
         &mut self,
         parent: StateNo,
         taken: &StateMap,

@@ -6,6 +6,8 @@ ghost use Rattle.mx_state_res.specs.SnapshotEntries.{changed, snapshot};
 ghost use Rattle.mx_state_res.specs.SnapshotChains.{depth_of, step_of, IsSound, AllSound, meaning, meanings};
 
 use crate::snapshots::snapshot_edits::{change_at, change_entries, value_in};
+use crate::states::key_numbers::KeyNo;
+use crate::states::state_numbers::StateNo;
 use mx_graph::EventNo;
 use std::alloc::{AllocError, Global};
 
@@ -15,18 +17,18 @@ pub(crate) const LONGEST_CHAIN: u8 = 63;
 #[derive(Debug, Drop)]
 pub(crate) enum Stored {
     // The entries, whose keys rise.
-    Whole(Vec<(u32, EventNo)>),
+    Whole(Vec<(KeyNo, EventNo)>),
     // The entries, and also what they are: changes to an earlier snapshot.
     Rebuilt {
-        parent: usize,
-        changes: Vec<(u32, Option<EventNo>)>,
-        entries: Vec<(u32, EventNo)>,
+        parent: StateNo,
+        changes: Vec<(KeyNo, Option<EventNo>)>,
+        entries: Vec<(KeyNo, EventNo)>,
     },
     // Changes to an earlier snapshot, and how many deltas there are down to a whole map.
     Delta {
-        parent: usize,
+        parent: StateNo,
         depth: u8,
-        changes: Vec<(u32, Option<EventNo>)>,
+        changes: Vec<(KeyNo, Option<EventNo>)>,
     },
 }
 
@@ -39,8 +41,8 @@ fn depth(stored: &Stored) -> u8
     }
 }
 
-// The earlier snapshot that a stored one is over, and the changes to it.
-pub(crate) fn step(stored: &Stored) -> Option<(usize, &[(u32, Option<EventNo>)])>
+// The place of the earlier snapshot that a stored one is over, and the changes to it.
+pub(crate) fn step(stored: &Stored) -> Option<(usize, &[(KeyNo, Option<EventNo>)])>
     ensures { option_map (λ s. (s.0, s.1.now)) result ≡ step_of stored.now }
 {
     match stored {
@@ -49,17 +51,17 @@ pub(crate) fn step(stored: &Stored) -> Option<(usize, &[(u32, Option<EventNo>)])
             parent,
             changes,
             ..
-        } => Some((*parent, changes.as_slice())),
+        } => Some((parent.index(), changes.as_slice())),
         Stored::Delta {
             parent,
             changes,
             ..
-        } => Some((*parent, changes.as_slice())),
+        } => Some((parent.index(), changes.as_slice())),
     }
 }
 
 // The value at a key of the snapshot at a place.
-pub(crate) fn value_at(stored: &[Stored], place: usize, key: u32) -> Option<EventNo>
+pub(crate) fn value_at(stored: &[Stored], place: usize, key: KeyNo) -> Option<EventNo>
     requires sound { AllSound stored.now }
     requires in_range { place < length stored.now }
     ensures { result ≡ find nat_cmp key (snapshot (meanings [] stored.now) place) }
@@ -77,7 +79,7 @@ pub(crate) fn value_at(stored: &[Stored], place: usize, key: u32) -> Option<Even
                 if let Some(value) = change_at(changes, key) {
                     return value;
                 }
-                at = *parent;
+                at = parent.index();
             }
         }
     }
@@ -88,7 +90,7 @@ pub(crate) fn entries_at(
     alloc: Global,
     stored: &[Stored],
     place: usize,
-) -> Result<Vec<(u32, EventNo)>, AllocError>
+) -> Result<Vec<(KeyNo, EventNo)>, AllocError>
     requires sound { AllSound stored.now }
     requires in_range { place < length stored.now }
     ensures { IfOk result (λ entries. entries.items ≡ snapshot (meanings [] stored.now) place) }
@@ -101,7 +103,7 @@ pub(crate) fn entries_at(
             changes,
             ..
         } => {
-            let mut entries = entries_at(alloc, stored, *parent)?;
+            let mut entries = entries_at(alloc, stored, parent.index())?;
             change_entries(&mut entries, changes)?;
             Ok(entries)
         }
@@ -112,8 +114,8 @@ pub(crate) fn entries_at(
 pub(crate) fn with_changes(
     alloc: Global,
     stored: &[Stored],
-    parent: usize,
-    changes: Vec<(u32, Option<EventNo>)>,
+    parent: StateNo,
+    changes: Vec<(KeyNo, Option<EventNo>)>,
 ) -> Result<Stored, AllocError>
     requires sound { AllSound stored.now }
     requires in_range { parent < length stored.now }
@@ -121,7 +123,8 @@ pub(crate) fn with_changes(
     ensures meant { IfOk result (λ s. meaning (meanings [] stored.now) s
         ≡ changed changes.items (snapshot (meanings [] stored.now) parent)) }
 {
-    let depth = depth(&stored[parent]);
+    let place = parent.index();
+    let depth = depth(&stored[place]);
     if depth < LONGEST_CHAIN {
         return Ok(Stored::Delta {
             parent,
@@ -129,7 +132,7 @@ pub(crate) fn with_changes(
             changes,
         });
     }
-    let mut entries = entries_at(alloc, stored, parent)?;
+    let mut entries = entries_at(alloc, stored, place)?;
     change_entries(&mut entries, &changes)?;
     Ok(Stored::Rebuilt {
         parent,

@@ -6,11 +6,12 @@ ghost use Rattle.mx_state_res.specs.SnapshotEntries.{AgreeAt, DifferAt, snapshot
 ghost use Rattle.mx_state_res.specs.SnapshotChains.{AllSound, meanings, step_of};
 
 use crate::snapshots::snapshot_chains::{Stored, entries_at, step, value_at};
+use crate::states::key_numbers::KeyNo;
 use mx_graph::EventNo;
 use std::alloc::{AllocError, Global};
 
 // Adds the keys of entries or changes.
-fn push_keys<V>(keys: &mut Vec<u32>, entries: &[(u32, V)]) -> Result<(), AllocError>
+fn push_keys<V>(keys: &mut Vec<KeyNo>, entries: &[(KeyNo, V)]) -> Result<(), AllocError>
     ensures { OnOk result (keys.new.items ≡ keys.old.items ++ keys_of entries.now) }
 {
     for entry in entries {
@@ -20,7 +21,7 @@ fn push_keys<V>(keys: &mut Vec<u32>, entries: &[(u32, V)]) -> Result<(), AllocEr
 }
 
 // What a stored snapshot is over, and the changes to it, where the way up goes on.
-fn step_if(stored: &Stored, goes_on: bool) -> Option<(usize, &[(u32, Option<EventNo>)])>
+fn step_if(stored: &Stored, goes_on: bool) -> Option<(usize, &[(KeyNo, Option<EventNo>)])>
     ensures { IfSome result (λ s. step_of stored.now ≡ Some (s.0, s.1.now)) }
 {
     if goes_on {
@@ -37,7 +38,7 @@ fn candidates(
     first: usize,
     second: usize,
     most: usize,
-) -> Result<Vec<u32>, AllocError>
+) -> Result<Vec<KeyNo>, AllocError>
     requires sound { AllSound stored.now }
     requires first_in_range { first < length stored.now }
     requires second_in_range { second < length stored.now }
@@ -68,7 +69,7 @@ fn candidates(
     Ok(keys)
 }
 
-fn differ_at(stored: &[Stored], first: usize, second: usize, key: u32) -> bool
+fn differ_at(stored: &[Stored], first: usize, second: usize, key: KeyNo) -> bool
     requires sound { AllSound stored.now }
     requires first_in_range { first < length stored.now }
     requires second_in_range { second < length stored.now }
@@ -78,7 +79,7 @@ fn differ_at(stored: &[Stored], first: usize, second: usize, key: u32) -> bool
     value_at(stored, first, key) != value_at(stored, second, key)
 }
 
-fn push_if(keys: &mut Vec<u32>, key: u32, wanted: bool) -> Result<(), AllocError>
+fn push_if(keys: &mut Vec<KeyNo>, key: KeyNo, wanted: bool) -> Result<(), AllocError>
     ensures { OnOk result (keys.new.items ≡ keys.old.items ++ cond wanted (key ∷ []) []) }
 {
     if wanted {
@@ -93,8 +94,8 @@ fn kept_keys(
     stored: &[Stored],
     first: usize,
     second: usize,
-    candidates: &[u32],
-) -> Result<Vec<u32>, AllocError>
+    candidates: &[KeyNo],
+) -> Result<Vec<KeyNo>, AllocError>
     requires sound { AllSound stored.now }
     requires first_in_range { first < length stored.now }
     requires second_in_range { second < length stored.now }
@@ -116,7 +117,7 @@ pub(crate) fn differing_keys(
     first: usize,
     second: usize,
     most: usize,
-) -> Result<Vec<u32>, AllocError>
+) -> Result<Vec<KeyNo>, AllocError>
     requires sound { AllSound stored.now }
     requires first_in_range { first < length stored.now }
     requires second_in_range { second < length stored.now }

@@ -4,11 +4,12 @@ ghost use Rattle.std.specs.FinMap.Entries.{find, is_sorted};
 ghost use Rattle.std.specs.Ordering.{nat_cmp};
 ghost use Rattle.mx_state_res.specs.SnapshotEntries.{change, changed, IsAt, IsGapFor};
 
+use crate::states::key_numbers::KeyNo;
 use mx_graph::EventNo;
 use std::alloc::AllocError;
 
 // The place of the entry at a key, or the one where it would stand.
-fn place_of(entries: &[(u32, EventNo)], key: u32) -> Result<usize, usize>
+fn place_of(entries: &[(KeyNo, EventNo)], key: KeyNo) -> Result<usize, usize>
     requires { T (is_sorted nat_cmp entries.now) }
     ensures found { IfOk result (IsAt key entries.now) }
     ensures absent { IfErr result (IsGapFor key entries.now) }
@@ -17,7 +18,7 @@ fn place_of(entries: &[(u32, EventNo)], key: u32) -> Result<usize, usize>
 }
 
 // The value at a key. The time is logarithmic.
-pub(crate) fn value_in(entries: &[(u32, EventNo)], key: u32) -> Option<EventNo>
+pub(crate) fn value_in(entries: &[(KeyNo, EventNo)], key: KeyNo) -> Option<EventNo>
     requires { T (is_sorted nat_cmp entries.now) }
     ensures { result ≡ find nat_cmp key entries.now }
 {
@@ -28,7 +29,7 @@ pub(crate) fn value_in(entries: &[(u32, EventNo)], key: u32) -> Option<EventNo>
 }
 
 // What the first change at a key gives: a value, or that the key goes.
-pub(crate) fn change_at(changes: &[(u32, Option<EventNo>)], key: u32) -> Option<Option<EventNo>>
+pub(crate) fn change_at(changes: &[(KeyNo, Option<EventNo>)], key: KeyNo) -> Option<Option<EventNo>>
     ensures { result ≡ find nat_cmp key changes.now }
 {
     for &(changed_key, value) in changes {
@@ -41,8 +42,8 @@ pub(crate) fn change_at(changes: &[(u32, Option<EventNo>)], key: u32) -> Option<
 
 // Puts a value at a key, or takes the key out.
 pub(crate) fn change_entry(
-    entries: &mut Vec<(u32, EventNo)>,
-    key: u32,
+    entries: &mut Vec<(KeyNo, EventNo)>,
+    key: KeyNo,
     value: Option<EventNo>,
 ) -> Result<(), AllocError>
     requires { T (is_sorted nat_cmp entries.old.items) }
@@ -66,8 +67,8 @@ pub(crate) fn change_entry(
 
 // Makes all the changes. Where two are at one key, the first of them counts.
 pub(crate) fn change_entries(
-    entries: &mut Vec<(u32, EventNo)>,
-    changes: &[(u32, Option<EventNo>)],
+    entries: &mut Vec<(KeyNo, EventNo)>,
+    changes: &[(KeyNo, Option<EventNo>)],
 ) -> Result<(), AllocError>
     requires { T (is_sorted nat_cmp entries.old.items) }
     ensures { OnOk result (entries.new.items ≡ changed changes.now entries.old.items) }

@@ -4,8 +4,9 @@ ghost use Rattle.std.specs.List.{list_any};
 ghost use Rattle.mx_state_res.specs.KeyNumbers.{AreShown, passes_at, shown};
 ghost use Rattle.mx_state_res.specs.SnapshotEntries.{snapshot};
 
-use crate::states::entry_tests::EntryTest;
 use crate::snapshots::Snapshots;
+use crate::states::entry_tests::EntryTest;
+use crate::states::key_numbers::KeyNo;
 use crate::states::state_keys::Keys;
 use crate::states::state_numbers::StateNo;
 
@@ -36,7 +37,7 @@ fn is_match<T: EntryTest>(
     snapshots: &Snapshots,
     number: StateNo,
     test: &T,
-    key: u32,
+    key: KeyNo,
 ) -> bool
     requires keys { AreShown keys.now snapshots.now }
     requires number { number < length snapshots.now }

@@ -8,10 +8,11 @@ ghost use Rattle.mx_orders.specs.StateMap.{entry as entry_at, key_cmp};
 ghost use Rattle.mx_state_res.specs.KeyNumbers.{AllBelow, AreChanges, AreDistinct, AreGrown, AreShown, changes_at, has_number_in, shown};
 ghost use Rattle.mx_state_res.specs.SnapshotEntries.{DifferAt, snapshot};
 
-use crate::snapshots::snapshot_edits::{change_entry, value_in};
 use crate::snapshots::Snapshots;
-use crate::states::state_keys::Keys;
+use crate::snapshots::snapshot_edits::{change_entry, value_in};
 use crate::state_maps::StateMap;
+use crate::states::key_numbers::KeyNo;
+use crate::states::state_keys::Keys;
 use crate::states::state_numbers::StateNo;
 use mx_graph::EventNo;
 use std::alloc::{AllocError, Global};
@@ -22,7 +23,7 @@ pub(crate) fn entries_of(
     alloc: Global,
     keys: &mut Keys,
     map: &StateMap,
-) -> Result<Vec<(u32, EventNo)>, AllocError>
+) -> Result<Vec<(KeyNo, EventNo)>, AllocError>
     requires distinct { AreDistinct keys.old }
     ensures grown { AreGrown keys.old keys.new }
     ensures distinct { AreDistinct keys.new }
@@ -42,7 +43,7 @@ pub(crate) fn entries_of(
 pub(crate) fn map_of(
     alloc: Global,
     keys: &Keys,
-    entries: &[(u32, EventNo)],
+    entries: &[(KeyNo, EventNo)],
 ) -> Result<StateMap, AllocError>
     requires distinct { AreDistinct keys.now }
     requires below { AllBelow (length keys.now) entries.now }
@@ -67,7 +68,7 @@ pub(crate) fn put_differing(
     snapshots: &Snapshots,
     first: StateNo,
     other: StateNo,
-    differing: &[u32],
+    differing: &[KeyNo],
 ) -> Result<(), AllocError>
     requires shown { AreShown keys.now snapshots.now }
     requires first { first < length snapshots.now }
@@ -96,7 +97,7 @@ pub(crate) fn changes_of(
     keys: &mut Keys,
     taken: &StateMap,
     puts: &StateMap,
-) -> Result<Vec<(u32, Option<EventNo>)>, AllocError>
+) -> Result<Vec<(KeyNo, Option<EventNo>)>, AllocError>
     requires { AreDistinct keys.old }
     ensures grown { AreGrown keys.old keys.new }
     ensures distinct { AreDistinct keys.new }
@@ -115,7 +116,7 @@ pub(crate) fn changes_of(
 // Adds the changes that put the entries of a state. Keys that are new are added, at an error too.
 fn push_puts(
     keys: &mut Keys,
-    changes: &mut Vec<(u32, Option<EventNo>)>,
+    changes: &mut Vec<(KeyNo, Option<EventNo>)>,
     puts: &StateMap,
 ) -> Result<(), AllocError>
     requires distinct { AreDistinct keys.old }
@@ -136,7 +137,7 @@ fn push_puts(
 // Adds the changes that take the keys of a state away. Keys that are new are added, at an error too.
 fn push_removals(
     keys: &mut Keys,
-    changes: &mut Vec<(u32, Option<EventNo>)>,
+    changes: &mut Vec<(KeyNo, Option<EventNo>)>,
     taken: &StateMap,
 ) -> Result<(), AllocError>
     requires distinct { AreDistinct keys.old }

@@ -8,8 +8,9 @@ ghost use Rattle.mx_orders.specs.StateMap.{entry as entry_at, events_of as event
 ghost use Rattle.mx_state_res.specs.KeyNumbers.{AllBelow, AreDistinct, key_at, shown};
 ghost use Rattle.mx_state_res.specs.Numbered.{without};
 
-use crate::states::state_keys::Keys;
 use crate::state_maps::StateMap;
+use crate::states::key_numbers::KeyNo;
+use crate::states::state_keys::Keys;
 use mx_graph::EventNo;
 use std::alloc::{AllocError, Global};
 use std::collections::BTreeSet;
@@ -19,7 +20,7 @@ use std::collections::BTreeSet;
 pub(crate) fn events_at_other_keys(
     alloc: Global,
     keys: &Keys,
-    entries: &[(u32, EventNo)],
+    entries: &[(KeyNo, EventNo)],
     taken: &StateMap,
 ) -> Result<Vec<EventNo>, AllocError>
     requires distinct { AreDistinct keys.now }
@@ -34,7 +35,7 @@ pub(crate) fn events_at_other_keys(
 }
 
 // The numbers of a map's keys.
-fn numbers_of(alloc: Global, keys: &Keys, map: &StateMap) -> Result<BTreeSet<u32>, AllocError>
+fn numbers_of(alloc: Global, keys: &Keys, map: &StateMap) -> Result<BTreeSet<KeyNo>, AllocError>
     requires { AreDistinct keys.now }
     ensures { IfOk result (λ numbers. (n : ℕ) → n < length keys.now
         → contains nat_cmp numbers n ≡ is_some (entry_at map.now (key_at keys.now n))) }
@@ -48,7 +49,7 @@ fn numbers_of(alloc: Global, keys: &Keys, map: &StateMap) -> Result<BTreeSet<u32
 
 // Adds the number of a key, if it has one.
 fn add_number(
-    numbers: &mut BTreeSet<u32>,
+    numbers: &mut BTreeSet<KeyNo>,
     keys: &Keys,
     kind: &str,
     state_key: &str,
@@ -66,8 +67,8 @@ fn add_number(
 // The events of the entries that are at no key of a set.
 fn events_without(
     alloc: Global,
-    entries: &[(u32, EventNo)],
-    numbers: &BTreeSet<u32>,
+    entries: &[(KeyNo, EventNo)],
+    numbers: &BTreeSet<KeyNo>,
 ) -> Result<Vec<EventNo>, AllocError>
     ensures { IfOk result (λ found. found.items
         ≡ map (λ e. e.1) (filter (λ e. not (contains nat_cmp numbers.now e.0)) entries.now)) }

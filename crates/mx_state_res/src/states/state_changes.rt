@@ -3,8 +3,8 @@ ghost use Rattle.std.specs.Prelude.{◌≡◌, ◌<◌, ◌≤◌, ◌+◌, ◌�
 ghost use Rattle.mx_state_res.specs.Numbered.{change_size, edited, really_put, really_taken, restored, state_at, without};
 
 use crate::state_maps::StateMap;
-use crate::states::state_numbers::StateNo;
 use crate::states::States;
+use crate::states::state_numbers::StateNo;
 use std::alloc::{AllocError, Global};
 
 // The state that is another one without the keys of `taken`, with the entries of `puts` put over it.

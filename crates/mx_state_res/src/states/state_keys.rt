@@ -4,6 +4,7 @@ ghost use Rattle.mx_orders.specs.StateMap.{key_cmp};
 ghost use Rattle.mx_state_res.specs.KeyNumbers.{AreInOrder, in_order, key_at, number_of, order_at, with_key};
 ghost use Rattle.mx_state_res.specs.Places.{IsAt, IsGapFor};
 
+use crate::states::key_numbers::KeyNo;
 use std::alloc::{AllocError, Global};
 use std::cmp::Ordering;
 use std::marker::Model;
@@ -63,7 +64,7 @@ pub(crate) struct Keys {
     alloc: Global,
     keys: Vec<StateKey>,
     // Their numbers in the order of the keys.
-    order: Vec<u32>,
+    order: Vec<KeyNo>,
 }
 
 impl Model for Keys {
@@ -101,22 +102,22 @@ impl Keys {
     }
 
     // The key with this number.
-    pub(crate) fn key(&self, number: u32) -> &StateKey
+    pub(crate) fn key(&self, number: KeyNo) -> &StateKey
         requires { number < length self.now }
         ensures { result.now ≡ key_at self.now number }
     {
-        &self.keys[number as usize]
+        &self.keys[number.index()]
     }
 
     // The numbers of all keys, in the order of the keys.
-    pub(crate) fn in_order(&self) -> &[u32]
+    pub(crate) fn in_order(&self) -> &[KeyNo]
         ensures { AreInOrder self.now result.now }
     {
         &self.order
     }
 
     // The number of a key. It takes no memory, and the time is logarithmic in the keys.
-    pub(crate) fn number_of(&self, kind: &str, state_key: &str) -> Option<u32>
+    pub(crate) fn number_of(&self, kind: &str, state_key: &str) -> Option<KeyNo>
         ensures { result ≡ number_of self.now (kind.now, state_key.now) }
     {
         match place_of(&self.keys, &self.order, kind, state_key) {
@@ -126,7 +127,7 @@ impl Keys {
     }
 
     // The number of a key, which is added where it is new. At an error the keys stay.
-    pub(crate) fn number_for(&mut self, kind: &str, state_key: &str) -> Result<u32, AllocError>
+    pub(crate) fn number_for(&mut self, kind: &str, state_key: &str) -> Result<KeyNo, AllocError>
         ensures number { IfOk result (λ number. number_of self.new (kind.now, state_key.now) ≡ Some number) }
         ensures added { OnOk result (self.new ≡ with_key self.old (kind.now, state_key.now)) }
         ensures err { OnErr result (self.new ≡ self.old) }
@@ -146,7 +147,7 @@ impl Keys {
 }
 
 // The place of a key in their order, or the one where it would stand.
-fn place_of(keys: &[StateKey], order: &[u32], kind: &str, state_key: &str) -> Result<usize, usize>
+fn place_of(keys: &[StateKey], order: &[KeyNo], kind: &str, state_key: &str) -> Result<usize, usize>
     requires { AreInOrder keys.now order.now }
     ensures found { IfOk result (IsAt (kind.now, state_key.now) (in_order keys.now order.now)) }
     ensures absent { IfErr result (IsGapFor (kind.now, state_key.now) (in_order keys.now order.now)) }
@@ -155,10 +156,10 @@ fn place_of(keys: &[StateKey], order: &[u32], kind: &str, state_key: &str) -> Re
 }
 
 // The key with a number beside another.
-fn compare_at(keys: &[StateKey], number: u32, kind: &str, state_key: &str) -> Ordering
+fn compare_at(keys: &[StateKey], number: KeyNo, kind: &str, state_key: &str) -> Ordering
     ensures { result ≡ order_at keys.now (kind.now, state_key.now) number }
 {
-    match keys.get(number as usize) {
+    match keys.get(number.index()) {
         Some(key) => key.compare(kind, state_key),
         None => Ordering::Less,
     }
@@ -168,11 +169,11 @@ fn compare_at(keys: &[StateKey], number: u32, kind: &str, state_key: &str) -> Or
 fn add_key(
     alloc: Global,
     keys: &mut Vec<StateKey>,
-    order: &mut Vec<u32>,
+    order: &mut Vec<KeyNo>,
     place: usize,
     kind: &str,
     state_key: &str,
-) -> Result<u32, AllocError>
+) -> Result<KeyNo, AllocError>
     requires ordered { AreInOrder keys.old.items order.old.items }
     requires gap { IsGapFor (kind.now, state_key.now) (in_order keys.old.items order.old.items) place }
     ensures number { IfOk result (λ number. number ≡ length keys.old.items) }
@@ -183,7 +184,7 @@ fn add_key(
     if keys.len() > MOST_KEYS {
         return Err(AllocError);
     }
-    let number = keys.len() as u32;
+    let number = KeyNo::at(keys.len() as u32);
     let key = StateKey::new(alloc, kind, state_key)?;
     // What can fail goes first, so that an error leaves the keys as they were.
     keys.reserve(1)?;

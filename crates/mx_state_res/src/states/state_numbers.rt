@@ -20,8 +20,8 @@ impl Model for StateNo {
 }
 
 impl StateNo {
-    // The number of the state at a place.
-    pub(crate) fn at(place: usize) -> StateNo
+    /// The number of the state at a place.
+    pub fn at(place: usize) -> StateNo
         ensures { result ≡ place }
     {
         StateNo { place }

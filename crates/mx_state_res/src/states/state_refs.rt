@@ -5,10 +5,10 @@ ghost use Rattle.mx_orders.specs.StateMap.{entry, events_of as events_in};
 ghost use Rattle.mx_state_res.specs.Numbered.{state_at};
 
 use crate::conflicts::events_of;
-use crate::states::entry_tests::EntryTest;
 use crate::state_maps::StateMap;
-use crate::states::state_numbers::StateNo;
 use crate::states::States;
+use crate::states::entry_tests::EntryTest;
+use crate::states::state_numbers::StateNo;
 use mx_graph::EventNo;
 use std::alloc::{AllocError, Global};
 use std::marker::Model;

@@ -17,44 +17,44 @@ use Rattle.mx_receipt.proofs.SortedStateLemmas.{held-sorted}
 use Rattle.mx_receipt.proofs.receiving.judged_event.Goals as goal
 
 pub state_before-requires-clause-sorted : goal.state_before-requires-clause-sorted
-state_before-requires-clause-sorted c = held-sorted c.args.graph.now c.args.states.now c.args.judgements.now c.args.extremities.now c.args.current c.requires.held
+state_before-requires-clause-sorted c = held-sorted c.args.graph.now c.args.states.now c.args.judgements.now c.args.latest.now.extremities.now c.args.latest.now.current c.requires.held
 
 pub state_before-requires-clause-current : goal.state_before-requires-clause-current
 state_before-requires-clause-current c =
-    current-is c.args.graph.now (judged_in c.args.states.now c.args.judgements.now) c.args.extremities.now (state_at c.args.states.now c.args.current) c.requires.held.is_kept
+    current-is c.args.graph.now (judged_in c.args.states.now c.args.judgements.now) c.args.latest.now.extremities.now (state_at c.args.states.now c.args.latest.now.current) c.requires.held.is_kept
 
 pub returns-clause-verdict : goal.returns-clause-verdict
 returns-clause-verdict c =
     let js : List Judged = judged_in c.args.states.now c.args.judgements.now in
-    let prevs : c.deref.result.now ≡ prev_events c.args.graph.now c.args.event.now = c.deref.ensures.value ∙ c.requires.prev in
-    let before : state_at c.state_before.new.states c.in_ok-before.before ≡ state_before_next (kept_of c.args.graph.now js) c.args.event.now =
+    let prevs : c.deref.result.now ≡ prev_events c.args.graph.now c.args.citing.now.event.now = c.deref.ensures.value ∙ c.requires.prev in
+    let before : state_at c.state_before.new.states c.in_ok-before.before ≡ state_before_next (kept_of c.args.graph.now js) c.args.citing.now.event.now =
     c.in_ok-before.ensures.resolved ∙ ap (λ xs. resolve c.args.graph.now (states_at (afters js) (events_where c.args.graph.now (is_in xs)))) prevs
-    ∙ before-is c.args.graph.now js c.args.extremities.now (state_at c.args.states.now c.args.current) c.requires.held.is_kept c.args.event.now in
-    let current : state_at c.state_before.new.states c.args.current ≡ state_at c.args.states.now c.args.current =
-    added-state c.args.graph.now c.args.states.now c.state_before.new.states c.args.current c.in_ok-before.ensures.added c.requires.held.below_current in
+    ∙ before-is c.args.graph.now js c.args.latest.now.extremities.now (state_at c.args.states.now c.args.latest.now.current) c.requires.held.is_kept c.args.citing.now.event.now in
+    let current : state_at c.state_before.new.states c.args.latest.now.current ≡ state_at c.args.states.now c.args.latest.now.current =
+    added-state c.args.graph.now c.args.states.now c.state_before.new.states c.args.latest.now.current c.in_ok-before.ensures.added c.requires.held.below_current in
     c.in_ok-verdict.ensures
-    ∙ ap (λ s. accept_or Rejected (auth_failure c.args.graph.now c.args.event.now) (accept_or Rejected (rules c.args.event.now (view c.args.graph.now (state_at c.state_before.new.states c.in_ok-before.before))) (accept_or SoftFailed (rules c.args.event.now (view c.args.graph.now s)) Accepted))) current
-    ∙ verdict-is c.args.graph.now js c.args.extremities.now (state_at c.args.states.now c.args.current) c.requires.held.is_kept c.args.event.now (state_at c.state_before.new.states c.in_ok-before.before) before
+    ∙ ap (λ s. accept_or Rejected (auth_failure c.args.graph.now c.args.citing.now.event.now) (accept_or Rejected (rules c.args.citing.now.event.now (view c.args.graph.now (state_at c.state_before.new.states c.in_ok-before.before))) (accept_or SoftFailed (rules c.args.citing.now.event.now (view c.args.graph.now s)) Accepted))) current
+    ∙ verdict-is c.args.graph.now js c.args.latest.now.extremities.now (state_at c.args.states.now c.args.latest.now.current) c.requires.held.is_kept c.args.citing.now.event.now (state_at c.state_before.new.states c.in_ok-before.before) before
 
 pub returns-clause-judged : goal.returns-clause-judged
 returns-clause-judged c = λ id.
     let js : List Judged = judged_in c.args.states.now c.args.judgements.now in
-    let prevs : c.deref.result.now ≡ prev_events c.args.graph.now c.args.event.now = c.deref.ensures.value ∙ c.requires.prev in
-    let prevs-3 : c.deref-3.result.now ≡ prev_events c.args.graph.now c.args.event.now = c.deref-3.ensures.value ∙ c.requires.prev in
+    let prevs : c.deref.result.now ≡ prev_events c.args.graph.now c.args.citing.now.event.now = c.deref.ensures.value ∙ c.requires.prev in
+    let prevs-3 : c.deref-3.result.now ≡ prev_events c.args.graph.now c.args.citing.now.event.now = c.deref-3.ensures.value ∙ c.requires.prev in
     let stays : state_at c.state_after.new.states c.in_ok-before.before ≡ state_at c.state_before.new.states c.in_ok-before.before =
     grown-state c.state_before.new.states c.in_ok-after.ensures.grown.0 c.state_after.new.states c.in_ok-before.before c.in_ok-after.ensures.grown.1 c.in_ok-before.ensures.below in
     record {
       flag = refl;
       before =
           stays ∙ c.in_ok-before.ensures.resolved ∙ ap (λ xs. resolve c.args.graph.now (states_at (afters js) (events_where c.args.graph.now (is_in xs)))) prevs
-          ∙ before-is c.args.graph.now js c.args.extremities.now (state_at c.args.states.now c.args.current) c.requires.held.is_kept c.args.event.now;
+          ∙ before-is c.args.graph.now js c.args.latest.now.extremities.now (state_at c.args.states.now c.args.latest.now.current) c.requires.held.is_kept c.args.citing.now.event.now;
       after =
-          c.in_ok-after.ensures.after ∙ (λ i. if is_rejected c.in_ok-verdict.verdict then sym stays i else with_event (sym stays i) c.args.event.now (c.next_number-number.ensures i));
+          c.in_ok-after.ensures.after ∙ (λ i. if is_rejected c.in_ok-verdict.verdict then sym stays i else with_event (sym stays i) c.args.citing.now.event.now (c.next_number-number.ensures i));
       knows_before = subst (Knows c.args.graph.now) (sym stays) (known-state c.args.graph.now c.args.states.now c.state_before.new.states c.in_ok-before.before c.requires.held.known c.in_ok-before.ensures.added c.in_ok-before.ensures.below);
       are_next =
-          subst (λ vs. AreAfter c.args.graph.now vs (prev_events c.args.graph.now c.args.event.now) c.args.extremities.now (length c.args.graph.now) c.in_ok-verdict.verdict c.in_ok-next.next.extremities.items) (sym (same-verdicts c.args.states.now c.args.judgements.now))
-          (subst (λ n. AreAfter c.args.graph.now (verdicts_in c.args.judgements.now) (prev_events c.args.graph.now c.args.event.now) c.args.extremities.now n c.in_ok-verdict.verdict c.in_ok-next.next.extremities.items) c.next_number-number.ensures
-          (subst (λ xs. AreAfter c.args.graph.now (verdicts_in c.args.judgements.now) xs c.args.extremities.now c.next_number-number.result c.in_ok-verdict.verdict c.in_ok-next.next.extremities.items) prevs-3 c.in_ok-next.ensures.after));
+          subst (λ vs. AreAfter c.args.graph.now vs (prev_events c.args.graph.now c.args.citing.now.event.now) c.args.latest.now.extremities.now (length c.args.graph.now) c.in_ok-verdict.verdict c.in_ok-next.next.extremities.items) (sym (same-verdicts c.args.states.now c.args.judgements.now))
+          (subst (λ n. AreAfter c.args.graph.now (verdicts_in c.args.judgements.now) (prev_events c.args.graph.now c.args.citing.now.event.now) c.args.latest.now.extremities.now n c.in_ok-verdict.verdict c.in_ok-next.next.extremities.items) c.next_number-number.ensures
+          (subst (λ xs. AreAfter c.args.graph.now (verdicts_in c.args.judgements.now) xs c.args.latest.now.extremities.now c.next_number-number.result c.in_ok-verdict.verdict c.in_ok-next.next.extremities.items) prevs-3 c.in_ok-next.ensures.after));
     }
 
 pub returns-in_err-after-clause-added : goal.returns-in_err-after-clause-added

@@ -17,8 +17,8 @@ returns-then-eq-clause-resolved c =
     let rising_are : c.in_ok-prev_events.prev_events.items ≡ events_where c.args.graph.now (is_in c.args.prev_events.now) =
     rising-is c.args.graph.now c.in_ok-prev_events.prev_events.items (is_in c.args.prev_events.now) c.in_ok-prev_events.ensures.rises
     (λ p e. in-all (λ q. q < length c.args.graph.now) c.args.prev_events.now p c.requires.prev (sym (c.in_ok-prev_events.ensures.same p) ∙ e)) c.in_ok-prev_events.ensures.same in
-    let same : c.in_ok-prev_events.prev_events.items ≡ c.args.extremities.now =
-    sym c.as_slice.ensures.value ∙ (slice_eq-Decides Decides-eqb c.as_slice.result.now c.args.extremities.now true (sym c.if-eq.true ∙ c.eq.ensures)).0 refl in
+    let same : c.in_ok-prev_events.prev_events.items ≡ c.args.latest.now.extremities.now =
+    sym c.as_slice.ensures.value ∙ (slice_eq-Decides Decides-eqb c.as_slice.result.now c.args.latest.now.extremities.now true (sym c.if-eq.true ∙ c.eq.ensures)).0 refl in
     c.requires.current ∙ ap (λ xs. resolve c.args.graph.now (states_at (afters (judged_in c.args.states.now c.args.judgements.now)) xs)) (sym same ∙ rising_are)
 
 pub returns-then-eq-clause-added : goal.returns-then-eq-clause-added

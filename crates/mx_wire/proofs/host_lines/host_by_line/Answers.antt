@@ -1,6 +1,6 @@
 use Rattle.std.proofs.Common.{◌∙◌, inl, sym}
 use Rattle.mx_world.proofs.RefusalLemmas.{on_err}
-use Rattle.mx_world.specs.Offers.{offer_by}
+use Rattle.mx_pdu.specs.Offers.{offer_by}
 use Rattle.mx_wire.proofs.HostLineLemmas.{hosts_none}
 use Rattle.mx_wire.proofs.host_lines.host_by_line.Goals as goal
 

@@ -2,8 +2,8 @@ use Rattle.std.proofs.Common.{◌≡◌, sym, subst, IfOk, rules}
 use Rattle.serde_json.specs.View.{view}
 use Rattle.mx_wire.specs.Lines.{Line}
 use Rattle.mx_wire.specs.LinesShown.{line_shown}
-use Rattle.mx_world.specs.Offers.{offer_by}
-use Rattle.mx_wire.proofs.JsonLemmas.{has_json, has_no_json}
+use Rattle.mx_pdu.specs.Offers.{offer_by}
+use Rattle.mx_requests.proofs.JsonLemmas.{has_json, has_no_json}
 use Rattle.mx_wire.proofs.LineLemmas.{reads, reads_nothing}
 use Rattle.mx_wire.proofs.lines.value_line.Goals as goal
 

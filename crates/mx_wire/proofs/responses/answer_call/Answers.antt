@@ -2,9 +2,9 @@ use Rattle.std.proofs.Common.{◌≡◌, sym, subst}
 use Rattle.std.specs.Prelude.{string_bytes}
 use Rattle.mx_engine.specs.Seats.{book_views, seat_number, shard_views}
 use Rattle.mx_world.proofs.RefusalLemmas.{on_err}
-use Rattle.mx_wire.specs.Calls.{sends}
-use Rattle.mx_wire.specs.CallsShown.{call_shown}
-use Rattle.mx_wire.specs.RepliesShown.{reply_shown}
+use Rattle.mx_requests.specs.Calls.{sends}
+use Rattle.mx_requests.specs.CallsShown.{call_shown}
+use Rattle.mx_requests.specs.RepliesShown.{reply_shown}
 use Rattle.mx_wire.specs.Responses.{IsCallAnswered, IsCallRefused}
 use Rattle.mx_wire.proofs.responses.answer_call.Goals as goal
 

@@ -20,4 +20,4 @@ returns-clause-same_books g c = same_when (book_views c.args.seat.now) (book_vie
 
 pub returns-clause-reply : goal.returns-clause-reply
 returns-clause-reply g c =
-    (c.in_ok-told.told, c.in_ok-told.ensures.ok, c.in_ok-reply.ensures c.args.origin.now, c.in_ok-told.ensures.nothing, c.in_ok-told.ensures.books)
+    (c.in_ok-told.told, c.in_ok-told.ensures.ok, c.in_ok-reply.ensures c.args.asked.origin.now, c.in_ok-told.ensures.nothing, c.in_ok-told.ensures.books)

@@ -6,14 +6,14 @@ use Rattle.mx_receipt.specs.Timelines.{IsTimeline, kept_in}
 use Rattle.mx_receipt.proofs.TimelineLemmas.{none-prepared, is_prepared, added-kept, added-prepared}
 use Rattle.mx_receipt.proofs.timelines.Timeline.prepare_checked.Goals as goal
 
-pub prepare_in-requires-clause-held : goal.prepare_in-requires-clause-held
-prepare_in-requires-clause-held c =
+pub prepare_checked_in-requires-clause-held : goal.prepare_checked_in-requires-clause-held
+prepare_checked_in-requires-clause-held c =
     let shown = c.self.view_is ∙ c.discard.ensures in
     let none : c.self.inside.prepared ≡ None = none-prepared c.self.inside.graph c.self.inside.states c.self.inside.judgements.items c.self.inside.extremities.items c.self.inside.current c.self.inside.prepared c.self.invariant.0 (ap (λ (t : TimelineView). t.prepared) shown) in
     subst (λ es. IsHeld c.self.inside.graph c.self.inside.states c.self.inside.judgements.items es c.self.inside.current) (sym c.deref.ensures.value) (subst (IsTimeline c.self.inside.graph c.self.inside.states c.self.inside.judgements.items c.self.inside.extremities.items c.self.inside.current) none c.self.invariant.0)
 
-pub prepare_in-requires-clause-free : goal.prepare_in-requires-clause-free
-prepare_in-requires-clause-free c =
+pub prepare_checked_in-requires-clause-free : goal.prepare_checked_in-requires-clause-free
+prepare_checked_in-requires-clause-free c =
     let shown = c.self.view_is ∙ c.discard.ensures in
     let none : c.self.inside.prepared ≡ None = none-prepared c.self.inside.graph c.self.inside.states c.self.inside.judgements.items c.self.inside.extremities.items c.self.inside.current c.self.inside.prepared c.self.invariant.0 (ap (λ (t : TimelineView). t.prepared) shown) in
     let held : IsHeld c.self.inside.graph c.self.inside.states c.self.inside.judgements.items c.self.inside.extremities.items c.self.inside.current = subst (IsTimeline c.self.inside.graph c.self.inside.states c.self.inside.judgements.items c.self.inside.extremities.items c.self.inside.current) none c.self.invariant.0 in
@@ -25,7 +25,7 @@ invariant_of-self c =
     let shown = c.self.view_is ∙ c.discard.ensures in
     let none : c.self.inside.prepared ≡ None = none-prepared c.self.inside.graph c.self.inside.states c.self.inside.judgements.items c.self.inside.extremities.items c.self.inside.current c.self.inside.prepared c.self.invariant.0 (ap (λ (t : TimelineView). t.prepared) shown) in
     let held : IsHeld c.self.inside.graph c.self.inside.states c.self.inside.judgements.items c.self.inside.extremities.items c.self.inside.current = subst (IsTimeline c.self.inside.graph c.self.inside.states c.self.inside.judgements.items c.self.inside.extremities.items c.self.inside.current) none c.self.invariant.0 in (
-      is_prepared c.self.inside.graph c.self.inside.states c.self.inside.judgements.items c.self.inside.extremities.items c.self.inside.current held c.args.id c.args.event c.prepare_in.new.graph c.prepare_in.new.states c.prepare_in.new.judgements.items c.in-Ok.prepared c.in-Ok.ensures.added c.in-Ok.ensures.count,
+      is_prepared c.self.inside.graph c.self.inside.states c.self.inside.judgements.items c.self.inside.extremities.items c.self.inside.current held c.args.id c.args.event c.prepare_checked_in.new.graph c.prepare_checked_in.new.states c.prepare_checked_in.new.judgements.items c.in-Ok.prepared c.in-Ok.ensures.added c.in-Ok.ensures.count,
       c.in-Ok.ensures.right,
     )
 
@@ -43,6 +43,6 @@ returns-in-Ok-clause-prepared c =
     let held : IsHeld c.self.inside.graph c.self.inside.states c.self.inside.judgements.items c.self.inside.extremities.items c.self.inside.current = subst (IsTimeline c.self.inside.graph c.self.inside.states c.self.inside.judgements.items c.self.inside.extremities.items c.self.inside.current) none c.self.invariant.0 in
     let same : kept_of c.self.inside.graph (judged_in c.self.inside.states c.self.inside.judgements.items) ≡ c.args.self.now.kept = ap (kept_in c.self.inside.graph (judged_in c.self.inside.states c.self.inside.judgements.items)) (sym none) ∙ ap (λ (t : TimelineView). t.kept) shown in
     (λ i. record {
-      kept = added-kept c.self.inside.graph c.self.inside.states c.self.inside.judgements.items c.self.inside.extremities.items c.self.inside.current held c.args.id c.args.event c.prepare_in.new.graph c.prepare_in.new.states c.prepare_in.new.judgements.items c.in-Ok.prepared c.in-Ok.ensures.added c.in-Ok.ensures.count i;
-      prepared = added-prepared c.self.inside.graph c.self.inside.states c.self.inside.judgements.items c.self.inside.extremities.items c.self.inside.current held c.args.id c.args.event c.prepare_in.new.graph c.prepare_in.new.states c.prepare_in.new.judgements.items c.in-Ok.prepared c.in-Ok.ensures.added c.in-Ok.ensures.count i;
+      kept = added-kept c.self.inside.graph c.self.inside.states c.self.inside.judgements.items c.self.inside.extremities.items c.self.inside.current held c.args.id c.args.event c.prepare_checked_in.new.graph c.prepare_checked_in.new.states c.prepare_checked_in.new.judgements.items c.in-Ok.prepared c.in-Ok.ensures.added c.in-Ok.ensures.count i;
+      prepared = added-prepared c.self.inside.graph c.self.inside.states c.self.inside.judgements.items c.self.inside.extremities.items c.self.inside.current held c.args.id c.args.event c.prepare_checked_in.new.graph c.prepare_checked_in.new.states c.prepare_checked_in.new.judgements.items c.in-Ok.prepared c.in-Ok.ensures.added c.in-Ok.ensures.count i;
     }) ∙ λ i. record { kept = same i; prepared = Some (judged (same i) c.args.id c.args.event) }

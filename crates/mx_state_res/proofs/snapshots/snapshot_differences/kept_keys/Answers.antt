@@ -1,4 +1,4 @@
-use Rattle.std.proofs.Common.{◌≡◌, ◌+◌, ℕ, take, get_or, [], ◌++◌, ◌∷◌, sym, subst, arith}
+use Rattle.std.proofs.Common.{◌≡◌, ◌+◌, ℕ, take, [], ◌++◌, ◌∷◌, ap, sym, subst, ◌∙◌, arith}
 use Rattle.std.proofs.lemmas.List.{take_more, take_all}
 use Rattle.mx_state_res.specs.SnapshotEntries.{DifferAt, snapshot}
 use Rattle.mx_state_res.specs.SnapshotChains.{meanings}
@@ -10,9 +10,9 @@ loop-key-preserved c =
     let maps = meanings [] c.args.stored.now in
     let P : ℕ → Type 0 = λ key. DifferAt key (snapshot maps c.args.first) (snapshot maps c.args.second) in
     let all = c.args.candidates.now in
-    let x = get_or all c.loop-key.key-index 0 in
+    let x = c.key-item.result in
     let more = kept_more P (take c.loop-key.key-index all) c.loop-key.keys.items x c.differ_at-wanted.result c.loop-key.invariant c.differ_at-wanted.ensures in
-    let seen : take c.loop-key.key-index all ++ x ∷ [] ≡ take (c.loop-key.key-index + 1) all = sym (take_more all c.loop-key.key-index 0 (omega arith)) in
+    let seen : take c.loop-key.key-index all ++ x ∷ [] ≡ take (c.loop-key.key-index + 1) all = ap (λ y. take c.loop-key.key-index all ++ y ∷ []) c.key-item.is ∙ sym (take_more all c.loop-key.key-index x (omega arith)) in
     subst (λ s. HasKept P s c.push_if.new.keys.items) seen (subst (HasKept P (take c.loop-key.key-index all ++ x ∷ [])) (sym c.in_ok-push_if.ensures) more)
 
 pub returns : goal.returns

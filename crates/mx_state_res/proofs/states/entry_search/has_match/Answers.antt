@@ -12,7 +12,7 @@ returns-then-is_match g c =
     let m = snapshot maps c.args.number in
     let numbers = c.in_order-key-items.result.now in
     let test : ℕ → Bool = passes_at (g.T.EntryTest.key_test c.args.test.now) (g.T.EntryTest.event_test c.args.test.now) keys m in
-    sym (any-more test numbers c.loop-key.key-index c.loop-key-test.true (sym c.is_match.ensures ∙ c.if-is_match.true)) ∙ c.loop-key.invariant
+    sym (any-more test numbers c.loop-key.key-index c.key-item.result c.loop-key-test.true c.key-item.is (sym c.is_match.ensures ∙ c.if-is_match.true)) ∙ c.loop-key.invariant
     ∙ numbers-searched (g.T.EntryTest.key_test c.args.test.now) (g.T.EntryTest.event_test c.args.test.now) keys m numbers c.requires.keys.distinct
     (below-at (length keys) maps c.args.number c.requires.keys.below) c.in_order-key-items.ensures
 

@@ -1,4 +1,4 @@
-use Rattle.std.proofs.Common.{◌≡◌, ◌+◌, ◌∷◌, Some, None, drop, get_or, ap, sym, ◌∙◌, arith}
+use Rattle.std.proofs.Common.{◌≡◌, ◌+◌, ◌∷◌, Some, None, drop, ap, sym, ◌∙◌, arith}
 use Rattle.std.specs.FinMap.Entries.{put}
 use Rattle.std.proofs.lemmas.List.{drop_all, drop_more}
 use Rattle.mx_auth.specs.Rules.{Key}
@@ -13,9 +13,9 @@ pub loop-number-preserved : goal.loop-number-preserved
 loop-number-preserved c =
     let i = c.loop-number.number-index in
     let numbers = c.in_order-number-items.result.now in
-    let n = get_or numbers i 0 in
+    let n = c.number-item.result in
     let keys = c.args.keys.now in
-    let d : drop i numbers ≡ n ∷ drop (i + 1) numbers = drop_more numbers i 0 (omega arith) in
+    let d : drop i numbers ≡ n ∷ drop (i + 1) numbers = drop_more numbers i n (omega arith) ∙ ap (λ y. y ∷ drop (i + 1) numbers) (sym c.number-item.is) in
     elim c.match-value_in.branch [
       | in-Some+in_ok-insert w ↦
           let texts : key_at keys n ≡ (w.kind.result.now, w.state_key.result.now) =

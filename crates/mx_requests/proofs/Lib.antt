@@ -1,0 +1,17 @@
+pub mod BodyLemmas
+pub mod ReplyLemmas
+pub mod ReadingLemmas
+pub mod PartLemmas
+pub mod ParameterLemmas
+pub mod SegmentLemmas
+pub mod TextLemmas
+pub mod RouteLemmas
+pub mod OnExamples
+pub mod WireRows
+pub mod DigitLemmas
+pub mod BodyIdLemmas
+pub mod JsonLemmas
+pub mod EntryLemmas
+pub mod RequestRows
+pub mod CallRows
+pub mod ReplyRows

@@ -1,0 +1,5 @@
+use Rattle.std.proofs.Common.{[]}
+use Rattle.mx_requests.proofs.replies.joins.joined_body.Goals as goal
+
+pub returns : goal.returns
+returns c = c.in_ok-bytes.ensures.ok _ (c.write_joined.ensures [] c.new-body.ensures.text)

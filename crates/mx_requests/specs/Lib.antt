@@ -1,0 +1,13 @@
+pub mod Faults
+pub mod Bodies
+pub mod Authorization
+pub mod Reading
+pub mod Targets
+pub mod Parameters
+pub mod Requests
+pub mod BodyIds
+pub mod Calls
+pub mod CallsShown
+pub mod ReplyBodies
+pub mod RepliesShown
+pub mod JoinReplies

@@ -1,0 +1,117 @@
+-- What the parameters and the body of a request say (Matrix specification, Server-Server API: transactions, retrieving
+-- events, joining rooms).
+use Rattle.std.specs.Prelude.{ℕ, ◌==◌, nat_le, nat_lt, min, Bool, ◌&&◌, if◌then◌else◌, List, [], ◌∷◌, codes, filter, length, Option, Some, None, option_map, option_and_then, is_some, Result, Ok, Err}
+use Rattle.std.specs.List.{list_all}
+use Rattle.std.specs.Char.{is_ascii_digit}
+use Rattle.std.specs.Str.{is_utf8}
+use Rattle.serde_json.specs.Data.{Data}
+use Rattle.serde_json.specs.Read.{read}
+use Rattle.serde_json.specs.Find.{as_str, as_array, as_number, as_u64}
+use Rattle.mx_ident.specs.Identifier.{decimal_value, is_event_id}
+use Rattle.mx_redact.specs.Fields.{Event, field, is_none_or, is_object, item_list}
+use Rattle.mx_pdu.specs.Format.{is_well_formed}
+use Rattle.mx_room.specs.declared.queries.Query.{Query}
+use Rattle.mx_room.specs.declared.queries.Query.TheVariants as ask
+use Rattle.mx_requests.specs.declared.faults.Fault.{Fault}
+use Rattle.mx_requests.specs.declared.faults.Fault.TheVariants.{NotJson, Missing, Invalid}
+use Rattle.mx_requests.specs.declared.faults.MissingParameter.TheVariants as missing
+use Rattle.mx_requests.specs.declared.faults.InvalidPart.TheVariants as invalid
+use Rattle.mx_requests.specs.Targets.{all_named, first_named}
+
+abbrev pub Read : Type 0 → Type 0
+Read A = Result A Fault
+
+abbrev pub ok_or_fault : {A : Type 0} → Fault → Option A → Read A
+ok_or_fault f None = Err f
+ok_or_fault f (Some x) = Ok x
+
+abbrev pub unless : {A : Type 0} → Bool → Fault → Read A → Read A
+unless fails f rest = if fails then Err f else rest
+
+-- on success the checks go on
+abbrev pub on_ok : {A B : Type 0} → Read A → (A → Read B) → Read B
+on_ok (Ok x) rest = rest x
+on_ok (Err f) rest = Err f
+
+-- ---- the body
+
+-- JSON text is UTF-8
+abbrev pub json_of : List ℕ → Option Data
+json_of text = if is_utf8 text then read text else None
+
+abbrev pub body_value : List ℕ → Read Data
+body_value body = ok_or_fault NotJson (json_of body)
+
+-- the entries of an array of at most n
+abbrev pub entries_up_to : ℕ → Data → Option (List Data)
+entries_up_to n d =
+    option_and_then (λ ds. if nat_le (length (item_list ds)) n then Some (item_list ds) else None) (as_array d)
+
+abbrev pub is_array_up_to : ℕ → Data → Bool
+is_array_up_to n d = is_some (entries_up_to n d)
+
+-- an integer from 0 that 64 bits hold
+abbrev pub natural_of : Data → Option ℕ
+natural_of d = option_and_then as_u64 (as_number d)
+
+-- the integer at a key, or what stands for an absent one
+abbrev pub natural_or : ℕ → Option Data → Option ℕ
+natural_or default None = Some default
+natural_or default (Some d) = natural_of d
+
+abbrev pub texts_of : List Data → Option (List (List ℕ))
+texts_of [] = Some []
+texts_of (d ∷ ds) = option_and_then (λ s. option_map (λ ss. s ∷ ss) (texts_of ds)) (as_str d)
+
+abbrev pub all_event_ids : List (List ℕ) → Option (List (List ℕ))
+all_event_ids ids = if list_all is_event_id ids then Some ids else None
+
+-- a list of event ids at a key; an absent one is empty
+abbrev pub ids_or_none : Option Data → Option (List (List ℕ))
+ids_or_none None = Some []
+ids_or_none (Some d) = option_and_then all_event_ids (option_and_then (λ ds. texts_of (item_list ds)) (as_array d))
+
+-- Server-Server API, transactions: at most 50 PDUs, and at most 100 EDUs, which are not looked at; a malformed PDU has no
+-- result
+abbrev pub events_in : Data → Option (List Event)
+events_in d =
+    if is_none_or (is_array_up_to 100) (field (codes "edus") d)
+    then option_map (filter is_well_formed) (option_and_then (entries_up_to 50) (field (codes "pdus") d))
+    else None
+
+-- ---- parameters
+
+-- event ids, which all are well formed
+abbrev pub event_ids_read : List (List ℕ) → Read (List (List ℕ))
+event_ids_read ids = if list_all is_event_id ids then Ok ids else Err (Invalid invalid.EventId)
+
+abbrev pub event_id_parameter : List (List ℕ × List ℕ) → Read (List ℕ)
+event_id_parameter ps =
+    on_ok (ok_or_fault (Missing missing.EventId) (first_named (codes "event_id") ps)) (λ id.
+    if is_event_id id then Ok id else Err (Invalid invalid.EventId))
+
+-- all of `v`, of which there is one at least
+abbrev pub v_parameters : List (List ℕ × List ℕ) → Read (List (List ℕ))
+v_parameters ps = unless (length (all_named (codes "v") ps) == 0) (Missing missing.V) (event_ids_read (all_named (codes "v") ps))
+
+-- one or more decimal digits; a number over 100 counts as 100
+abbrev pub is_number : List ℕ → Bool
+is_number s = nat_lt 0 (length s) && list_all is_ascii_digit s
+
+abbrev pub limit_parameter : List (List ℕ × List ℕ) → Read ℕ
+limit_parameter ps =
+    on_ok (ok_or_fault (Missing missing.Limit) (first_named (codes "limit") ps)) (λ s.
+    if is_number s then Ok (min (decimal_value s) 100) else Err (Invalid invalid.Limit))
+
+-- ---- Server-Server API, get_missing_events
+
+-- what the body asks of a room; an absent `limit` is 10, an absent `min_depth` 0
+abbrev pub missing_query : List ℕ → Data → Option Query
+missing_query room d =
+    if is_object d
+    then option_and_then (λ earliest. option_and_then (λ latest. option_and_then (λ limit. option_map (λ min_depth. ask.Missing room earliest latest limit min_depth)
+    (natural_or 0 (field (codes "min_depth") d)))
+    (natural_or 10 (field (codes "limit") d)))
+    (ids_or_none (field (codes "latest_events") d)))
+    (ids_or_none (field (codes "earliest_events") d))
+    else None

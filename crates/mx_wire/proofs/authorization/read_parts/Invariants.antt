@@ -1,9 +1,0 @@
-use Rattle.std.proofs.Common.{◌≡◌, fold}
-use Rattle.std.specs.Str.Iter.{chars_rest}
-use Rattle.mx_wire.specs.Authorization.{feed, start}
-use Rattle.mx_wire.specs.Reading.{reading_of}
-use Rattle.mx_wire.proofs.authorization.read_parts.Given as goal
-
-abbrev pub invariant-loop-character : goal.invariant-loop-character
-invariant-loop-character l =
-    fold feed (reading_of l.reader) (chars_rest l.character-iterator) ≡ fold feed start l.fn.text

@@ -1,5 +1,0 @@
-use Rattle.std.proofs.Common.{[]}
-use Rattle.mx_wire.proofs.query_replies.state_body.Goals as goal
-
-pub returns : goal.returns
-returns c = c.in_ok-bytes.ensures.ok _ (c.write_state.ensures [] c.new-body.ensures.text)

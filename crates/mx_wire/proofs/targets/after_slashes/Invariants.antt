@@ -1,8 +1,0 @@
-use Rattle.std.proofs.Common.{◌≡◌}
-use denote.Text.{Utf8}
-use denote.Shadow.{shadow}
-use Rattle.mx_wire.specs.Targets.{after_slashes}
-use Rattle.mx_wire.proofs.targets.after_slashes.Given as goal
-
-abbrev pub invariant-loop : goal.invariant-loop
-invariant-loop l = shadow (Utf8 l.rest) × (l.rest ≡ after_slashes l.counter l.fn.text)
