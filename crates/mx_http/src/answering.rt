@@ -1,15 +1,18 @@
 // The replies to the requests of a connection of HTTP/1.1.
+use crate::bodies::{BodyError, WholeBody};
 use crate::messages::{HttpReply, HttpRequest, Responder};
+use crate::stages::{SharedStage, Stage};
 use bytes::Bytes;
 use futures::task::{Context, Poll};
 use futures::{Future, ready};
-use http_body_util::combinators::Collect;
-use http_body_util::{BodyExt, Collected, Full, Limited, LimitedError};
+use http_body_util::Full;
 use hyper::body::Incoming;
 use hyper::header::{self, HeaderValue};
 use hyper::service::Service;
 use hyper::{Request, Response, StatusCode};
 use std::alloc::{AllocError, AllocGlobal, Global};
+use std::rc::Rc;
+use std::sync::atomic::{AtomicBool, Ordering};
 use std::sync::{Arc, Mutex, Wait};
 use std::time::Clock;
 use thiserror::Error;
@@ -35,16 +38,37 @@ impl From<AllocError> for Unanswered {
     }
 }
 
+/// A responder, shared by the connections whose requests it answers, and whether it answers one now.
+#[derive(Drop)]
+pub struct SharedResponder<A> {
+    pub responder: Arc<Mutex<A>>,
+    pub is_busy: Arc<AtomicBool>,
+}
+
+impl<A: Drop> SharedResponder<A> {
+    /// The same, to another connection or request.
+    pub fn another(&self) -> Result<SharedResponder<A>, AllocError> {
+        Ok(SharedResponder {
+            responder: Arc::try_clone(&self.responder)?,
+            is_busy: Arc::try_clone(&self.is_busy)?,
+        })
+    }
+}
+
 // A request whose body has not come yet, and who answers it.
 #[derive(Drop)]
 struct Call<A> {
-    responder: Arc<Mutex<A>>,
+    shared: SharedResponder<A>,
+    stage: SharedStage,
     request: HttpRequest,
+    // Whether its body comes in a transfer coding other than `chunked`.
+    has_other_coding: bool,
 }
 
-fn call_of<I, A>(
+fn call_of<I, A: Drop>(
     alloc: Global,
-    responder: &Arc<Mutex<A>>,
+    shared: &SharedResponder<A>,
+    stage: &SharedStage,
     request: &Request<Incoming<I>>,
 ) -> Result<Call<A>, AllocError> {
     let method = String::from_str(alloc, request.method().as_str())?;
@@ -56,38 +80,50 @@ fn call_of<I, A>(
         Some(value) => Some(value.as_bytes().to_vec(alloc)?),
         None => None,
     };
-    let request = HttpRequest {
+    let asked = HttpRequest {
         method,
         target,
         authorization,
         body: Vec::new(alloc),
     };
     Ok(Call {
-        responder: Arc::try_clone(responder)?,
-        request,
+        shared: shared.another()?,
+        stage: Rc::clone(stage)?,
+        request: asked,
+        has_other_coding: has_other_coding(request),
     })
+}
+
+// Whether the body comes in a transfer coding other than `chunked`.
+fn has_other_coding<I>(request: &Request<Incoming<I>>) -> bool {
+    match request.headers().get(header::TRANSFER_ENCODING) {
+        Some(coding) => !coding.as_bytes().eq_ignore_ascii_case(b"chunked"),
+        None => false,
+    }
 }
 
 impl<A: Responder> Call<A> {
     // The reply to the request with this body.
-    fn reply<R: Wait + Clock + Eprint>(
-        self,
-        rt: &R,
-        alloc: Global,
-        body: Collected,
-    ) -> Result<HttpReply, AllocError> {
+    fn reply<R: Wait + Clock + Eprint>(self, rt: &R, alloc: Global, body: Vec<u8>) -> HttpReply {
         let Call {
-            responder,
+            shared,
             mut request,
+            has_other_coding,
+            ..
         } = self;
-        let body = body.to_bytes()?;
-        request.body.extend_from_slice(body.as_slice())?;
-        Ok(responder.lock(rt).respond(rt, alloc, request))
+        if has_other_coding {
+            return shared.responder.lock(rt).refuse_coding(alloc);
+        }
+        request.body = body;
+        shared.is_busy.store(true, Ordering::SeqCst);
+        let reply = shared.responder.lock(rt).respond(rt, alloc, request);
+        shared.is_busy.store(false, Ordering::SeqCst);
+        reply
     }
 
     // The reply to a request whose body is too long.
     fn refusal<R: Wait>(self, rt: &R, alloc: Global) -> HttpReply {
-        self.responder.lock(rt).refuse_body(alloc)
+        self.shared.responder.lock(rt).refuse_body(alloc)
     }
 }
 
@@ -96,27 +132,25 @@ fn answered<R: Wait + Clock + Eprint, A: Responder>(
     rt: &R,
     alloc: Global,
     call: Result<Call<A>, AllocError>,
-    body: Result<Collected, LimitedError<hyper::Error>>,
+    body: Result<Vec<u8>, BodyError>,
 ) -> Result<Response<Full<Bytes>>, Unanswered> {
     let call = call?;
-    match body {
-        Ok(body) => {
-            let reply = call.reply(rt, alloc, body)?;
-            Ok(response(alloc, reply))
-        }
-        Err(LimitedError::LengthLimit) => {
-            let reply = call.refusal(rt, alloc);
-            Ok(response(alloc, reply))
-        }
-        Err(LimitedError::Body(_error)) => Err(Unanswered::Cut),
-    }
+    call.stage.set(Stage::Reply);
+    let reply = match body {
+        Ok(body) => call.reply(rt, alloc, body),
+        Err(BodyError::TooLong) => call.refusal(rt, alloc),
+        Err(BodyError::Memory) => return Err(Unanswered::Memory),
+        Err(BodyError::Cut) => return Err(Unanswered::Cut),
+    };
+    Ok(response(alloc, reply))
 }
 
 /// The requests of a connection go to a responder.
 #[derive(Drop)]
 pub struct Answers<R, A> {
     pub rt: R,
-    pub responder: Arc<Mutex<A>>,
+    pub shared: SharedResponder<A>,
+    pub stage: SharedStage,
     // How many bytes the body of a request may have.
     pub largest_body: usize,
 }
@@ -131,15 +165,16 @@ where
 
     type Error = Unanswered;
 
-    type Future = Answer<R, A, Collect<Limited<Incoming<I>>>>;
+    type Future = Answer<R, A, WholeBody<Incoming<I>>>;
 
     fn call(&self, request: Request<Incoming<I>>) -> Self::Future {
         let alloc = self.rt.alloc();
-        let call = call_of(alloc, &self.responder, &request);
+        self.stage.set(Stage::Body);
+        let call = call_of(alloc, &self.shared, &self.stage, &request);
         Answer {
             rt: self.rt,
             call: Some(call),
-            body: Limited::new(request.into_body(), self.largest_body).collect(alloc),
+            body: WholeBody::new(alloc, request.into_body(), self.largest_body),
         }
     }
 }
@@ -156,7 +191,7 @@ impl<R, A, F> Future for Answer<R, A, F>
 where
     R: Wait + Clock + Eprint + AllocGlobal + Copy + Drop,
     A: Responder,
-    F: Future<Output = Result<Collected, LimitedError<hyper::Error>>>,
+    F: Future<Output = Result<Vec<u8>, BodyError>>,
 {
     type Output = Result<Response<Full<Bytes>>, Unanswered>;
 

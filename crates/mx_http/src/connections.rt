@@ -1,24 +1,28 @@
 // Connections of HTTP/1.1, by hyper.
-use crate::answering::Answers;
+use crate::answering::{Answers, SharedResponder};
+use crate::guards::ConnectionGuard;
 use crate::making::{Opener, serve_alone, serve_each};
 use crate::messages::Responder;
-use crate::quiet::Timed;
+use crate::quiet::{Patience, Timed};
+use crate::stages::Stage;
 use bytes::Bytes;
 use http_body_util::Full;
 use hyper::rt::TokioTimer;
 use hyper::server;
 use hyper::server::conn::http1::Connection;
-use std::alloc::AllocGlobal;
+use std::alloc::{AllocError, AllocGlobal};
+use std::cell::Cell;
 use std::hash::RandomState;
 use std::io;
 use std::net::Net;
 use std::random::RandomSource;
+use std::rc::Rc;
+use std::sync::atomic::AtomicBool;
 use std::sync::{Arc, Mutex, Wait};
 use std::time::{Clock, Duration};
 use tokio::io::{AsyncRead, AsyncWrite};
 use tokio::net::TcpStream;
 use tokio::runtime::Handle;
-use tokio::sync::OwnedSemaphorePermit;
 use tokio::sync::mpsc::UnboundedReceiver;
 
 /// What a connection is made of, once there is something that waits for its bytes.
@@ -37,26 +41,20 @@ impl Source for std::net::TcpStream {
     }
 }
 
-/// How long a client is waited for.
-#[derive(Clone, Copy, Debug)]
-pub struct Patience {
-    // For the whole head of a request, from the first wait for it.
-    pub head: Duration,
-    // While it sends nothing of a body, or reads nothing of a reply.
-    pub quiet: Duration,
-}
-
 // Serves connections, each of whose requests go to one responder.
 #[derive(Drop)]
 struct Serving<R, A> {
     rt: R,
     keys: RandomState,
-    responder: Arc<Mutex<A>>,
+    shared: SharedResponder<A>,
     largest_body: usize,
     patience: Patience,
 }
 
-impl<R, S, A> Opener<S> for Serving<R, A>
+/// What a connection is made of, and what tells it to end.
+pub type Arrival<S> = (S, Option<ConnectionGuard>);
+
+impl<R, S, A> Opener<Arrival<S>> for Serving<R, A>
 where
     R: Wait + Clock + Eprint + AllocGlobal + Copy + Drop,
     S: Source,
@@ -64,15 +62,20 @@ where
 {
     type Served = Connection<Timed<S::Io, R>, Answers<R, A>, Full<Bytes>, TokioTimer<R>>;
 
-    fn open(&self, source: S, handle: &Handle) -> io::Result<Self::Served> {
+    fn open(&self, arrival: Arrival<S>, handle: &Handle) -> io::Result<Self::Served> {
+        let (source, guard) = arrival;
+        let alloc = self.rt.alloc();
         let io = source.open(handle)?;
-        let timed = Timed::new(io, self.rt, handle.time(), self.patience.quiet)?;
+        let stage = Rc::new(alloc, Cell::new(Stage::Idle)).map_err(AllocError::from)?;
+        let mine = Rc::clone(&stage)?;
+        let timed = Timed::new(io, self.rt, handle.time(), self.patience, mine, guard)?;
         let timer = TokioTimer::new(self.rt, handle.time().clone()?);
-        let mut http = server::conn::http1::Builder::new(self.rt.alloc(), self.keys).timer(timer);
-        http.header_read_timeout(Some(self.patience.head));
+        let mut http = server::conn::http1::Builder::new(alloc, self.keys).timer(timer);
+        http.header_read_timeout(None);
         let service = Answers {
             rt: self.rt,
-            responder: Arc::try_clone(&self.responder)?,
+            shared: self.shared.another()?,
+            stage,
             largest_body: self.largest_body,
         };
         Ok(http.serve_connection(timed, service))
@@ -94,21 +97,20 @@ where
     S: Source,
     A: Responder,
 {
+    let is_busy = Arc::new(rt.alloc(), AtomicBool::new(false)).map_err(AllocError::from)?;
     let serving = Serving {
         rt,
         keys: RandomState::new(&rt)?,
-        responder,
+        shared: SharedResponder { responder, is_busy },
         largest_body,
         patience: Patience {
+            idle: Duration::MAX,
             head: Duration::MAX,
             quiet: Duration::MAX,
         },
     };
-    Ok(serve_alone(&rt, source, serving)??)
+    Ok(serve_alone(&rt, (source, None), serving)??)
 }
-
-/// A connection that came, and its place among those that are open.
-pub type Arrival = (std::net::TcpStream, OwnedSemaphorePermit);
 
 /// Answers the requests of all connections that come, side by side on one event loop, each until its client is done, goes
 /// away or is waited for too long, until no more will come. A request that did not come whole is not answered, and
@@ -117,8 +119,8 @@ pub type Arrival = (std::net::TcpStream, OwnedSemaphorePermit);
 /// Source: RFC 9112.
 pub fn serve_all<R, A>(
     rt: R,
-    arrivals: UnboundedReceiver<Arrival>,
-    responder: Arc<Mutex<A>>,
+    arrivals: UnboundedReceiver<Arrival<std::net::TcpStream>>,
+    shared: SharedResponder<A>,
     largest_body: usize,
     patience: Patience,
 ) -> io::Result<()>
@@ -129,7 +131,7 @@ where
     let serving = Serving {
         rt,
         keys: RandomState::new(&rt)?,
-        responder,
+        shared,
         largest_body,
         patience,
     };

@@ -3,12 +3,16 @@
 #![tactic(auto)]
 
 mod answering;
+mod bodies;
 mod connections;
+mod guards;
 mod listening;
 mod making;
 mod messages;
+mod open_connections;
 mod quiet;
 mod runtimes;
+mod stages;
 
 pub use answering::Unanswered;
 pub use connections::{Source, serve_one};

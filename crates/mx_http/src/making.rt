@@ -21,19 +21,18 @@ pub trait Opener<S>: Drop {
         ensures { IfOk result Self.Served.can_poll };
 }
 
-// Ends when its connection does, and at once where there is none. It keeps its place until then.
+// Ends when its connection does, and at once where there is none.
 #[derive(Drop)]
-struct Held<C, P> {
+struct Opened<C> {
     connection: Option<C>,
-    place: P,
 }
 
-impl<C: Future<Output = T>, T: Drop, P: Drop> Future for Held<C, P> {
+impl<C: Future<Output = T>, T: Drop> Future for Opened<C> {
     type Output = ();
 
-    ghost can_poll = { λ held. IfSome held.connection C.can_poll };
+    ghost can_poll = { λ opened. IfSome opened.connection C.can_poll };
 
-    ghost needs = { λ held source. IsSomeAnd held.connection (λ c. C.needs c source) };
+    ghost needs = { λ opened source. IsSomeAnd opened.connection (λ c. C.needs c source) };
 
     fn poll(&mut self, cx: &mut Context<'_>) -> Poll<()> {
         let Some(connection) = &mut self.connection else {
@@ -52,40 +51,37 @@ struct Served<S, O> {
     handle: Handle,
 }
 
-impl<S, T, P, O> Stream for Served<S, O>
+impl<S, O> Stream for Served<S, O>
 where
-    S: Stream<Item = (T, P)>,
-    P: Drop,
-    O: Opener<T>,
+    S: Stream,
+    O: Opener<S::Item>,
     <O::Served as Future>::Output: Drop,
 {
-    type Item = Held<O::Served, P>;
+    type Item = Opened<O::Served>;
 
     ghost can_poll = { λ served. S.can_poll served.arrivals };
 
     ghost needs = { λ served. S.needs served.arrivals };
 
-    ghost yields = { λ _. ItemsWhere (λ held. IfSome held.connection O.Served.can_poll) };
+    ghost yields = { λ _. ItemsWhere (λ opened. IfSome opened.connection O.Served.can_poll) };
 
-    fn poll_next(&mut self, cx: &mut Context<'_>) -> Poll<Option<Held<O::Served, P>>> {
+    fn poll_next(&mut self, cx: &mut Context<'_>) -> Poll<Option<Opened<O::Served>>> {
         match ready!(self.arrivals.poll_next(cx)) {
-            Some((source, place)) => {
+            Some(source) => {
                 let connection = self.opener.open(source, &self.handle).ok();
-                Poll::Ready(Some(Held { connection, place }))
+                Poll::Ready(Some(Opened { connection }))
             }
             None => Poll::Ready(None),
         }
     }
 }
 
-/// Serves all that come, side by side on one event loop, until no more will come and each has ended. Each keeps its place
-/// until then.
-pub fn serve_each<R, S, T, P, O>(rt: &R, arrivals: S, opener: O) -> io::Result<()>
+/// Serves all that come, side by side on one event loop, until no more will come and each has ended.
+pub fn serve_each<R, S, O>(rt: &R, arrivals: S, opener: O) -> io::Result<()>
 where
     R: Wait + Clock + Net + RandomSource + AllocGlobal,
-    S: Stream<Item = (T, P)>,
-    P: Drop,
-    O: Opener<T>,
+    S: Stream,
+    O: Opener<S::Item>,
     <O::Served as Future>::Output: Drop,
     requires { S.can_poll arrivals }
 {

@@ -129,6 +129,8 @@ fn line_end(text: &[u8]) -> usize
     memchr(b'\n', text).unwrap_or(text.len())
 }
 
+// How many seconds a client may take to begin a request.
+const IDLE_SECONDS: u64 = 75;
 // How many seconds a client may take for the head of a request.
 const HEAD_SECONDS: u64 = 10;
 // For how many seconds a client may send nothing of a body, or read nothing of a reply.
@@ -165,6 +167,7 @@ where
     let limits = Limits {
         connections,
         body: LARGEST_BODY,
+        idle: Duration::from_secs(IDLE_SECONDS),
         head: Duration::from_secs(HEAD_SECONDS),
         quiet: Duration::from_secs(QUIET_SECONDS),
         stop_after: None,

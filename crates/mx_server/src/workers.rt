@@ -19,6 +19,8 @@ use std::time::Clock;
 
 // The status where a request can't be answered now.
 const UNAVAILABLE: u16 = 503;
+// The status where a body comes in a transfer coding that is not known.
+const NOT_IMPLEMENTED: u16 = 501;
 
 /// The engine of the program.
 pub type ServerEngine<K, L> = Engine<K, L, PresenceVerifier, OpenGate>;
@@ -64,6 +66,15 @@ impl<K: Keeper<Row = ShardRow>, L: Keeper<Row = BookRow>> Responder for Worker<K
         match fault_reply(alloc, Fault::TooLarge) {
             Ok(reply) => sent(reply),
             Err(_refused) => unavailable(CallError::Memory),
+        }
+    }
+
+    fn refuse_coding(&self, _alloc: Global) -> HttpReply {
+        HttpReply {
+            status: NOT_IMPLEMENTED,
+            body: Bytes::from_static(
+                b"{\"errcode\":\"M_UNRECOGNIZED\",\"error\":\"unknown transfer coding\"}",
+            ),
         }
     }
 }

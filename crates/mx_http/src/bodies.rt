@@ -1,0 +1,125 @@
+// The bodies of requests.
+ghost use Rattle.std.specs.Prelude.{◌≡◌};
+
+use bytes::Bytes;
+use futures::task::{Context, Poll};
+use futures::{Future, ready};
+use hyper::body::{Body, Frame};
+use std::alloc::{AllocError, Global};
+use std::mem;
+
+// How many pieces of a body one poll takes.
+const MOST_PIECES: usize = 64;
+// Of a body that is longer than it may be, so many times the most bytes are read, so that its client comes to read the reply.
+const READ_ON: usize = 8;
+
+/// Why a body was not had.
+#[derive(Clone, Copy, Debug, PartialEq, Eq, Drop)]
+pub enum BodyError {
+    Memory,
+    // It is longer than it may be.
+    TooLong,
+    // The client went away before it had come.
+    Cut,
+}
+
+impl From<AllocError> for BodyError {
+    ghost use Rattle.std.specs.Prelude.{◌≡◌};
+    ghost use Rattle.mx_http.specs.declared.bodies.BodyError.TheVariants.{Memory};
+
+    ghost from_gives = { λ _ error. error ≡ Memory };
+
+    fn from(_refused: AllocError) -> BodyError {
+        BodyError::Memory
+    }
+}
+
+// What has come of a body.
+#[derive(Drop)]
+struct Gathered {
+    bytes: Vec<u8>,
+    // How many bytes a body may have.
+    largest: usize,
+    // How many came once there were more.
+    past: usize,
+}
+
+impl Gathered {
+    // Of a body that is too long nothing is kept. `TooLong` where it has gone on for long enough.
+    fn add(&mut self, piece: &[u8]) -> Result<(), BodyError> {
+        if self.past == 0 && self.bytes.len().saturating_add(piece.len()) <= self.largest {
+            self.bytes.extend_from_slice(piece)?;
+            return Ok(());
+        }
+        self.bytes.clear();
+        self.past = self.past.saturating_add(piece.len());
+        if self.past > self.largest.saturating_mul(READ_ON) {
+            return Err(BodyError::TooLong);
+        }
+        Ok(())
+    }
+
+    // A body that has come to its end.
+    fn take(&mut self, alloc: Global) -> Result<Vec<u8>, BodyError> {
+        if self.past > 0 {
+            return Err(BodyError::TooLong);
+        }
+        Ok(mem::replace(&mut self.bytes, Vec::new(alloc)))
+    }
+}
+
+/// The whole of a body, once it has come.
+#[derive(Drop)]
+pub struct WholeBody<B> {
+    alloc: Global,
+    body: B,
+    gathered: Gathered,
+}
+
+impl<B> WholeBody<B> {
+    /// The whole of this body, which may have so many bytes.
+    pub fn new(alloc: Global, body: B, largest: usize) -> WholeBody<B>
+        ensures { result.body ≡ body }
+    {
+        let gathered = Gathered {
+            bytes: Vec::new(alloc),
+            largest,
+            past: 0,
+        };
+        WholeBody {
+            alloc,
+            body,
+            gathered,
+        }
+    }
+}
+
+impl<B: Body<Data = Bytes>> Future for WholeBody<B> {
+    type Output = Result<Vec<u8>, BodyError>;
+
+    ghost can_poll = { λ whole. B.can_poll whole.body };
+
+    ghost needs = { λ whole. B.needs whole.body };
+
+    fn poll(&mut self, cx: &mut Context<'_>) -> Poll<Result<Vec<u8>, BodyError>> {
+        for _ in 0..MOST_PIECES {
+            let frame = match ready!(self.body.poll_frame(cx)) {
+                Some(Ok(frame)) => frame,
+                Some(Err(_error)) => return Poll::Ready(Err(BodyError::Cut)),
+                None => return Poll::Ready(self.gathered.take(self.alloc)),
+            };
+            if let Err(error) = add_frame(&mut self.gathered, &frame) {
+                return Poll::Ready(Err(error));
+            }
+        }
+        cx.yield_now()
+    }
+}
+
+// Trailers are passed over.
+fn add_frame(gathered: &mut Gathered, frame: &Frame<Bytes>) -> Result<(), BodyError> {
+    match frame.data_ref() {
+        Some(piece) => gathered.add(piece.as_slice()),
+        None => Ok(()),
+    }
+}
