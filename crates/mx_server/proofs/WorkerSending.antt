@@ -25,9 +25,10 @@ use Rattle.mx_engine.specs.contracts.gates.OpenGate as open_gate
 use Rattle.mx_engine.proofs.gates.OpenGate.TheSendSync as gate
 use Rattle.mx_engine.proofs.Sending.{pdu_send}
 use Rattle.mx_engine.proofs.SeatSending.{docked_shard_send, docked_book_send, seat_send, engine_sync}
-use Rattle.mx_wire.specs.contracts.routes.Routes as routes
-use Rattle.mx_wire.specs.contracts.routes.Route as route
-use Rattle.mx_wire.proofs.routes.Route.TheSendSync as route_of
+use Rattle.mx_requests.specs.contracts.requests.WireServer as wire_server
+use Rattle.mx_requests.specs.contracts.targets.routes.Routes as routes
+use Rattle.mx_requests.specs.contracts.targets.routes.Route as route
+use Rattle.mx_requests.proofs.targets.routes.Route.TheSendSync as route_of
 use Rattle.matchit.specs.contracts.tree.Node as node
 use Rattle.matchit.specs.contracts.router.Router as router
 use Rattle.matchit.specs.contracts.router.Router.TheInside as router_inside
@@ -71,13 +72,13 @@ module _ (K L : RattleType) (g : Ghosts K.Denot ShardRow) (h : Ghosts L.Denot Bo
   shared_send : IsSend (shared.the_row K L g h)
   shared_send = declared_send (shared.the_type K L g h) (
     engine_send K L presence_verifier.the_row open_gate.the_row g h k l presence.the_send gate.the_send,
-    (server_name.the_send, (routes_send, tt)),
+    (declared_send wire_server.the_type (server_name.the_send, (routes_send, tt)), tt),
   )
 
   shared_sync : IsSync (shared.the_row K L g h)
   shared_sync = declared_sync (shared.the_type K L g h) (
     engine_sync K L presence_verifier.the_row open_gate.the_row g h k l presence.the_sync gate.the_sync,
-    (server_name.the_sync, (routes_sync, tt)),
+    (declared_sync wire_server.the_type (server_name.the_sync, (routes_sync, tt)), tt),
   )
 
   pub worker_send : IsSend (worker.the_row K L g h)

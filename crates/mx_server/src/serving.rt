@@ -1,17 +1,16 @@
 // `serve`: a server on loopback, over files.
-ghost use Rattle.std.specs.Prelude.{◌≡◌, ◌<◌, ◌≤◌, IfOk, length};
+ghost use Rattle.std.specs.Prelude.{◌≡◌, ◌≤◌, IfOk, length};
 
 use crate::directories::{ServerFiles, open_directory};
 use crate::errors::ServerError;
 use crate::options::{SeatCount, ServeOptions};
 use crate::workers::{ServerEngine, Shared, Worker, workers_of};
-use memchr::memchr;
 use mx_engine::{Engine, OpenGate};
 use mx_http::{Limits, ServerRuntime, serve_on};
 use mx_ident::ServerName;
 use mx_keeper::{BookRow, Keeper, MOST_PLACES, ShardRow, SqliteKeeper};
 use mx_pdu::PresenceVerifier;
-use mx_wire::{HostLineOutcome, LARGEST_BODY, Routes, ShardCount, host_by_line, read_all};
+use mx_wire::{HostLineOutcome, LARGEST_BODY, WireServer, first_line, host_by_line, read_all};
 use mx_world::World;
 use sqlite::Alter;
 use std::alloc::{AllocError, AllocGlobal, Global};
@@ -112,23 +111,6 @@ fn host_rooms<K: Keeper<Row = ShardRow>, L: Keeper<Row = BookRow>, E: Write>(
     Ok(())
 }
 
-// The first line without its newline, and what comes after it.
-fn first_line(text: &[u8]) -> (&[u8], &[u8])
-    ensures { 0 < length text.now → length result.1.now < length text.now }
-{
-    let (line, rest) = text.split_at(line_end(text));
-    match rest.split_first() {
-        Some((_newline, after)) => (line, after),
-        None => (line, rest),
-    }
-}
-
-fn line_end(text: &[u8]) -> usize
-    ensures { result ≤ length text.now }
-{
-    memchr(b'\n', text).unwrap_or(text.len())
-}
-
 // How many seconds a client may take to begin a request.
 const IDLE_SECONDS: u64 = 75;
 // How many seconds a client may take for the head of a request.
@@ -184,7 +166,7 @@ fn workers<K: Keeper<Row = ShardRow>, L: Keeper<Row = BookRow>, R: Wait + AllocG
     name: ServerName,
 ) -> Result<Vec<Worker<K, L>>, ServerError> {
     let alloc = rt.alloc();
-    let routes = Routes::new(alloc)?;
+    let wire_server = WireServer::new(alloc, name)?;
     if !server.none_open() {
         return Err(ServerError::Storage);
     }
@@ -196,7 +178,7 @@ fn workers<K: Keeper<Row = ShardRow>, L: Keeper<Row = BookRow>, R: Wait + AllocG
         OpenGate,
         threads.count,
     )?;
-    let shared = shared_of(alloc, engine, name, routes)?;
+    let shared = shared_of(alloc, engine, wire_server)?;
     Ok(workers_of(alloc, &shared, seats)?)
 }
 
@@ -204,18 +186,10 @@ fn workers<K: Keeper<Row = ShardRow>, L: Keeper<Row = BookRow>, R: Wait + AllocG
 fn shared_of<K: Keeper<Row = ShardRow>, L: Keeper<Row = BookRow>>(
     alloc: Global,
     engine: ServerEngine<K, L>,
-    name: ServerName,
-    routes: Routes,
+    server: WireServer,
 ) -> Result<Arc<Shared<K, L>>, AllocError>
     ensures { IfOk result (λ shared. shared.value.engine ≡ engine) }
 {
-    let shared = Arc::new(
-        alloc,
-        Shared {
-            engine,
-            name,
-            routes,
-        },
-    )?;
+    let shared = Arc::new(alloc, Shared { engine, server })?;
     Ok(shared)
 }

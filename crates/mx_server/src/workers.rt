@@ -5,12 +5,11 @@ ghost use Rattle.mx_engine.specs.Seats.{IsSeatOf, seat_number};
 use bytes::Bytes;
 use mx_engine::{Engine, OpenGate, Seat};
 use mx_http::{HttpReply, HttpRequest, Responder};
-use mx_ident::ServerName;
 use mx_keeper::{BookRow, CallError, Keeper, ShardRow};
 use mx_pdu::PresenceVerifier;
 use mx_room::{LATEST_MILLISECONDS, Moment};
 use mx_wire::{
-    Fault, Routes, WireReply, WireRequest, fault_reply, memory_body, respond, storage_body,
+    Fault, WireReply, WireRequest, WireServer, fault_reply, memory_body, respond, storage_body,
 };
 use std::alloc::{AllocError, Global};
 use std::marker::Model;
@@ -25,12 +24,11 @@ const NOT_IMPLEMENTED: u16 = 501;
 /// The engine of the program.
 pub type ServerEngine<K, L> = Engine<K, L, PresenceVerifier, OpenGate>;
 
-/// What all workers share: the engine, the server's name, and the routes of its requests.
+/// What all workers share: the engine, and the server's name with the routes of its requests.
 #[derive(Drop)]
 pub struct Shared<K: Keeper<Row = ShardRow>, L: Keeper<Row = BookRow>> {
     pub engine: ServerEngine<K, L>,
-    pub name: ServerName,
-    pub routes: Routes,
+    pub server: WireServer,
 }
 
 /// A worker: a seat, and what it shares with the others, whose engine it is a seat of.
@@ -109,10 +107,9 @@ fn reply_in<K: Keeper<Row = ShardRow>, L: Keeper<Row = BookRow>, R: Wait + Clock
     let replied = respond(
         rt,
         alloc,
-        &shared.routes,
+        &shared.server,
         &shared.engine,
         seat,
-        &shared.name,
         moment(rt),
         request,
     );
