@@ -7,7 +7,7 @@ use Rattle.mx_book.specs.declared.transaction_keys.TransactionKey.{TransactionKe
 use Rattle.mx_book.specs.declared.entries.BookEntry.{BookEntry}
 use Rattle.mx_book.specs.declared.entries.BookEntry.TheVariants.{Begun}
 use Rattle.mx_book.proofs.IndexLemmas.{moved_by, indexed_begun, sound_with, at_most_one}
-use Rattle.mx_book.proofs.recording.begin_in.Goals as goal
+use Rattle.mx_book.proofs.recording.record_beginning.Goals as goal
 
 pub returns-clause-indexed : goal.returns-clause-indexed
 returns-clause-indexed c =

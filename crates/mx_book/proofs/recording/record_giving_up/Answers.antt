@@ -9,7 +9,7 @@ use Rattle.mx_book.specs.declared.entries.BookEntry.{BookEntry}
 use Rattle.mx_book.specs.declared.entries.BookEntry.TheVariants.{GivenUp}
 use Rattle.mx_book.proofs.JournalLemmas.{holds_of_begun}
 use Rattle.mx_book.proofs.IndexLemmas.{begun_means, is_some_of, indexed_given_up, sound_with, may_end, same_caller}
-use Rattle.mx_book.proofs.recording.give_up_in.Goals as goal
+use Rattle.mx_book.proofs.recording.record_giving_up.Goals as goal
 
 pub take_caller-own-requires : goal.take_caller-own-requires
 take_caller-own-requires c =

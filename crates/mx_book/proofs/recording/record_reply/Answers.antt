@@ -8,7 +8,7 @@ use Rattle.mx_book.specs.declared.entries.BookEntry.{BookEntry}
 use Rattle.mx_book.specs.declared.entries.BookEntry.TheVariants.{Kept}
 use Rattle.mx_book.proofs.JournalLemmas.{holds_of_begun}
 use Rattle.mx_book.proofs.IndexLemmas.{sound_with, may_end, same_caller}
-use Rattle.mx_book.proofs.recording.keep_in.Goals as goal
+use Rattle.mx_book.proofs.recording.record_reply.Goals as goal
 
 pub returns-clause-sound : goal.returns-clause-sound
 returns-clause-sound c =
