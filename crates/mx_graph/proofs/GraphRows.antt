@@ -1,10 +1,10 @@
 -- Worked examples: ancestors and auth chains, and which rows are refused.
-use Rattle.std.specs.Prelude.{◌≡◌, List, ℕ, ◌-◌, [], ◌∷◌, map, codes, false, refl, Some, None}
+use Rattle.std.specs.Prelude.{◌≡◌, List, ℕ, ◌-◌, [], ◌∷◌, filter, map, codes, false, refl, Some, None}
 use Rattle.std.specs.List.{range_with_len}
 use Rattle.serde_json.specs.Data.{string, array, object, Items, no_items, item, no_members, member}
 use Rattle.mx_graph.specs.declared.refusals.NotAdded.TheVariants.{Known, MissingPrevEvent, MissingAuthEvent, Full}
-use Rattle.mx_graph.specs.Record.{Row}
-use Rattle.mx_graph.specs.Graph.{ancestors, auth_chain}
+use Rattle.mx_graph.specs.Record.{Row, events_where, names_in_redaction}
+use Rattle.mx_graph.specs.Graph.{ancestors, auth_chain, is_in_difference}
 use Rattle.mx_graph.specs.Adding.{add_error}
 
 abbrev texts : List (List ℕ) → Items
@@ -60,6 +60,52 @@ add-missing_auth = refl
 add-free : add_error base (a_row (codes "$7") (codes "$6" ∷ codes "$6" ∷ []) (codes "$1" ∷ [])) ≡ None
 unfolding add_error
 add-free = refl
+
+-- ---- where auth chains differ: power levels that are replaced twice in each of two branches, and a topic in each
+
+abbrev forked : List Row
+forked =
+    a_row (codes "$1") [] []
+    ∷ a_row (codes "$2") [] (codes "$1" ∷ [])
+    ∷ a_row (codes "$3") [] (codes "$1" ∷ codes "$2" ∷ [])
+    ∷ a_row (codes "$4") [] (codes "$1" ∷ codes "$2" ∷ [])
+    ∷ a_row (codes "$5") [] (codes "$1" ∷ codes "$3" ∷ [])
+    ∷ a_row (codes "$6") [] (codes "$1" ∷ codes "$4" ∷ [])
+    ∷ a_row (codes "$7") [] (codes "$1" ∷ codes "$5" ∷ [])
+    ∷ a_row (codes "$8") [] (codes "$1" ∷ codes "$6" ∷ [])
+    ∷ []
+
+auth_chain-topic : auth_chain forked (6 ∷ []) ≡ 0 ∷ 1 ∷ 2 ∷ 4 ∷ []
+unfolding auth_chain
+auth_chain-topic = refl
+
+auth_difference-topics : filter (is_in_difference forked (0 ∷ []) ((6 ∷ []) ∷ (7 ∷ []) ∷ [])) (range_with_len 0 8) ≡ 2 ∷ 3 ∷ 4 ∷ 5 ∷ []
+unfolding auth_chain
+auth_difference-topics = refl
+
+-- `$3` is in the auth chain of `$5`, which all have
+auth_difference-shared : filter (is_in_difference forked (4 ∷ []) ((6 ∷ []) ∷ (7 ∷ []) ∷ [])) (range_with_len 0 8) ≡ 3 ∷ 4 ∷ 5 ∷ []
+unfolding auth_chain
+auth_difference-shared = refl
+
+auth_difference-with_none : filter (is_in_difference forked [] ((6 ∷ []) ∷ [] ∷ [])) (range_with_len 0 8) ≡ 0 ∷ 1 ∷ 2 ∷ 4 ∷ []
+unfolding auth_chain
+auth_difference-with_none = refl
+
+-- ---- redactions of an event that is there, and of one that is not
+
+abbrev redaction : List ℕ → List ℕ → Row
+redaction id target =
+    record { id = id; event = object (member (codes "redacts") (string target) (member (codes "type") (string (codes "m.room.redaction")) no_members)); rejected = false }
+
+abbrev redacted : List Row
+redacted = a_row (codes "$1") [] [] ∷ redaction (codes "$7") (codes "$1") ∷ redaction (codes "$8") (codes "$100") ∷ redaction (codes "$9") (codes "$1") ∷ []
+
+redactions-there : events_where redacted (names_in_redaction redacted (codes "$1")) ≡ 1 ∷ 3 ∷ []
+redactions-there = refl
+
+redactions-missing : events_where redacted (names_in_redaction redacted (codes "$100")) ≡ 2 ∷ []
+redactions-missing = refl
 
 -- ---- the most rows, each after the one before it
 

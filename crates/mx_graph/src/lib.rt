@@ -20,5 +20,3 @@ pub use numbers::{EventNo, least_of};
 pub use refusals::{GraphError, NotAdded};
 pub use rows::GraphRow;
 
-#[cfg(test)]
-mod tests;

@@ -112,3 +112,51 @@ mainline_order-worked = refl
 mainline_order-none : mainline_order (join_rules "$j" 5 [] ∷ join_rules "$k" 5 [] ∷ join_rules "$l" 3 [] ∷ []) [] (1 ∷ 0 ∷ 2 ∷ []) ≡ 2 ∷ 0 ∷ 1 ∷ []
 unfolding orders_on_examples
 mainline_order-none = refl
+
+-- ---- mainlines of twenty-two events
+
+abbrev larger_rows : List Row
+larger_rows =
+    create
+    ∷ join_rules "$e1" 52 (codes "$c" ∷ [])
+    ∷ join_rules "$e2" 54 (codes "$c" ∷ codes "$e1" ∷ [])
+    ∷ join_rules "$e3" 51 (codes "$c" ∷ codes "$e1" ∷ codes "$e2" ∷ [])
+    ∷ power "$e4" 53 (codes "$c" ∷ codes "$e1" ∷ codes "$e2" ∷ [])
+    ∷ join_rules "$e5" 50 (codes "$c" ∷ codes "$e1" ∷ codes "$e2" ∷ [])
+    ∷ join_rules "$e6" 52 (codes "$c" ∷ codes "$e2" ∷ codes "$e5" ∷ [])
+    ∷ join_rules "$e7" 54 (codes "$c" ∷ codes "$e3" ∷ [])
+    ∷ power "$e8" 51 (codes "$c" ∷ codes "$e4" ∷ [])
+    ∷ join_rules "$e9" 53 (codes "$c" ∷ codes "$e5" ∷ codes "$e8" ∷ [])
+    ∷ join_rules "$e10" 50 (codes "$c" ∷ codes "$e5" ∷ codes "$e6" ∷ [])
+    ∷ join_rules "$e11" 52 (codes "$c" ∷ codes "$e5" ∷ codes "$e7" ∷ [])
+    ∷ power "$e12" 54 (codes "$c" ∷ codes "$e8" ∷ codes "$e11" ∷ [])
+    ∷ join_rules "$e13" 51 (codes "$c" ∷ codes "$e6" ∷ codes "$e9" ∷ [])
+    ∷ join_rules "$e14" 53 (codes "$c" ∷ codes "$e7" ∷ codes "$e10" ∷ [])
+    ∷ join_rules "$e15" 50 (codes "$c" ∷ codes "$e11" ∷ codes "$e14" ∷ [])
+    ∷ power "$e16" 52 (codes "$c" ∷ codes "$e8" ∷ codes "$e12" ∷ [])
+    ∷ join_rules "$e17" 51 (codes "$c" ∷ codes "$e12" ∷ [])
+    ∷ join_rules "$e18" 50 (codes "$c" ∷ codes "$e16" ∷ [])
+    ∷ power "$e19" 53 (codes "$c" ∷ [])
+    ∷ join_rules "$e20" 52 (codes "$c" ∷ codes "$e19" ∷ [])
+    ∷ join_rules "$e21" 50 (codes "$c" ∷ codes "$e4" ∷ [])
+    ∷ []
+
+-- `$e3` and `$e4` rest on no power levels event of the mainline, which is `$e16` `$e8` `$e4`
+mainline-larger : mainline larger_rows (Some 16) ≡ 16 ∷ 8 ∷ 4 ∷ []
+unfolding orders_on_examples
+mainline-larger = refl
+
+-- positions before times: $e3 $e4 $e8 $e16 $e9 $e12
+mainline_order-larger : mainline_order larger_rows (16 ∷ 8 ∷ 4 ∷ []) (16 ∷ 12 ∷ 9 ∷ 8 ∷ 4 ∷ 3 ∷ []) ≡ 3 ∷ 4 ∷ 8 ∷ 16 ∷ 9 ∷ 12 ∷ []
+unfolding orders_on_examples
+mainline_order-larger = refl
+
+-- both `$e21` and `$e8` rest on `$e4`: $e21 $e8 $e17 $e16 $e18
+mainline_order-oldest : mainline_order larger_rows (16 ∷ 8 ∷ 4 ∷ []) (18 ∷ 17 ∷ 8 ∷ 16 ∷ 21 ∷ []) ≡ 21 ∷ 8 ∷ 17 ∷ 16 ∷ 18 ∷ []
+unfolding orders_on_examples
+mainline_order-oldest = refl
+
+-- `$e20` rests on `$e19`, which is in no other's mainline: $e20 $e21 $e8 $e17 $e18
+mainline_order-other_levels : mainline_order larger_rows (16 ∷ 8 ∷ 4 ∷ []) (18 ∷ 17 ∷ 8 ∷ 20 ∷ 21 ∷ []) ≡ 20 ∷ 21 ∷ 8 ∷ 17 ∷ 18 ∷ []
+unfolding orders_on_examples
+mainline_order-other_levels = refl

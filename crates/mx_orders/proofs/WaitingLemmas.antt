@@ -13,7 +13,7 @@ use Rattle.mx_graph.proofs.Members.{in_append-left, in_append-right, in_append-c
 use Rattle.mx_orders.specs.Mainline.{sorted}
 use Rattle.mx_orders.specs.PowerOrder.{power_cmp, power_order}
 use Rattle.mx_orders.specs.Waiting.{IsWaiting, is_free}
-use Rattle.mx_orders.specs.declared.plain_ordering.Waiting.{Waiting}
+use Rattle.mx_orders.specs.declared.plain.plain_ordering.Waiting.{Waiting}
 use Rattle.mx_orders.proofs.Members.{In, Distinct, list_all-in, list_all-at, in_map, in_map-from}
 use Rattle.mx_orders.proofs.LeastOrder.{IsReady, IsNext, IsRest, lowest, lowest-ready}
 use Rattle.mx_orders.proofs.SortedLaws.{Rising, sorted-rising, sorted-permutes}

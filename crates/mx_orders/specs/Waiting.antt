@@ -3,7 +3,7 @@ use Rattle.std.specs.Prelude.{◌≡◌, Bool, not, List, [], ◌∷◌}
 use Rattle.std.specs.List.{list_all}
 use Rattle.mx_graph.specs.Record.{Row, is_in}
 use Rattle.mx_graph.specs.Graph.{auth_chain}
-use Rattle.mx_orders.specs.declared.plain_ordering.Waiting.{Waiting}
+use Rattle.mx_orders.specs.declared.plain.plain_ordering.Waiting.{Waiting}
 
 abbrev pub IsWaiting : List Row → Waiting → Type 0
 IsWaiting rows w = w.chain.items ≡ auth_chain rows (w.number ∷ [])

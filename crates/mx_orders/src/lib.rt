@@ -9,8 +9,7 @@ mod levels;
 mod mainline_ordering;
 mod mainline_walks;
 mod mainlines;
-mod plain_mainline_ordering;
-mod plain_ordering;
+pub mod plain;
 mod power_ordering;
 mod ranking;
 mod readiness;
@@ -19,6 +18,3 @@ mod tied_positions;
 pub use mainline_ordering::mainline_order;
 pub use mainlines::Mainline;
 pub use power_ordering::power_order;
-
-#[cfg(test)]
-mod tests;

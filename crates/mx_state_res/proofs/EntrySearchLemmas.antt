@@ -105,8 +105,8 @@ module _ (key_test : Key → Bool) (event_test : ℕ → Bool) (keys : List Key)
 
 -- ---- one number after another
 
-pub any-more : (test : ℕ → Bool) (numbers : List ℕ) (i : ℕ) → i < length numbers → test (get_or numbers i 0) ≡ true → list_any test (drop i numbers) ≡ true
-any-more test numbers i l h = ap (list_any test) (drop_more numbers i 0 l) ∙ or_left (test (get_or numbers i 0)) (list_any test (drop (i + 1) numbers)) h
+pub any-more : (test : ℕ → Bool) (numbers : List ℕ) (i n : ℕ) → i < length numbers → n ≡ get_or numbers i n → test n ≡ true → list_any test (drop i numbers) ≡ true
+any-more test numbers i n l is h = ap (list_any test) (drop_more numbers i n l) ∙ or_left (test (get_or numbers i n)) (list_any test (drop (i + 1) numbers)) (ap test (sym is) ∙ h)
 
 pub any-end : (test : ℕ → Bool) (numbers : List ℕ) (i : ℕ) → length numbers ≤ i → list_any test (drop i numbers) ≡ false
 any-end test numbers i l = ap (list_any test) (drop_all i numbers l)

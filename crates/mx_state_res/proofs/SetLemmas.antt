@@ -1,17 +1,15 @@
 -- Rising lists as sets of events.
-use Rattle.std.proofs.Common.{◌≡◌, ℕ, zero, suc, ◌+◌, ◌==◌, ◌≤◌, ◌<◌, Bool, true, false, cond, ◌&&◌, ◌||◌, ◌⊎◌, inl, inr, List, [], ◌∷◌, ◌++◌, length, get_or, filter, flat_map, map, Result, Ok, Err, is_ok, refl, sym, ap, ap₂, subst, ◌∙◌, append_assoc, arith, eq-eqb, eqb-true, Bor}
+use Rattle.std.proofs.Common.{◌≡◌, ℕ, zero, suc, ◌+◌, ◌==◌, ◌≤◌, ◌<◌, Bool, true, false, cond, ◌&&◌, ◌||◌, inl, inr, List, [], ◌∷◌, ◌++◌, length, get_or, filter, flat_map, map, Result, Ok, Err, is_ok, refl, sym, ap, subst, ◌∙◌, append_assoc, arith, eq-eqb, eqb-true, Bor}
 use Rattle.std.proofs.lemmas.Bool.{cases_lt}
-use Rattle.std.proofs.lemmas.Bool.Decides.{nat_tests}
 use Rattle.std.proofs.lemmas.List.Folds.{list_any-append}
 use Rattle.std.proofs.lemmas.List.Sorted.{searched}
-use Rattle.std.specs.declared.cmp.Ordering.TheVariants.{Less}
-use Rattle.std.specs.Ordering.{nat_cmp, is_eq}
-use Rattle.std.specs.List.{All, AllByRecursion, list_any, list_all}
-use Rattle.std.specs.List.Sorted.{IsStrictlySortedBy, IsBinarySearchResult}
+use Rattle.std.specs.Ordering.{nat_cmp}
+use Rattle.std.specs.List.{All, list_any, list_all}
+use Rattle.std.specs.List.Sorted.{IsBinarySearchResult}
 use Rattle.mx_graph.specs.Record.{Row, is_in, places, events_where}
 use Rattle.mx_graph.specs.Edges.{Rises}
 use Rattle.mx_graph.proofs.Members.{In, in_filter-parts}
-use Rattle.mx_graph.proofs.Closure.{or_cases, or_left, or_right, same_tests, range-parts, in_places, is_in-from, is_in-to}
+use Rattle.mx_graph.proofs.Closure.{or_left, or_right, same_tests, range-parts, in_places, is_in-from, is_in-to}
 use Rattle.mx_graph.proofs.ReachedLemmas.{rising-filter}
 use Rattle.mx_orders.specs.Lists.{Distinct}
 use Rattle.mx_orders.specs.StateMap.{State}

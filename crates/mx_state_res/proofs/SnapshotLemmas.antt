@@ -4,8 +4,8 @@ use Rattle.std.specs.Prelude.{Option, option_map, unwrap_or, slice_get, IfSome}
 use Rattle.std.specs.FinMap.Entries.{find}
 use Rattle.std.proofs.lemmas.Option.{slice_get_read}
 use Rattle.std.specs.Ordering.{nat_cmp}
-use Rattle.mx_state_res.specs.declared.snapshot_chains.Stored.{Stored}
-use Rattle.mx_state_res.specs.declared.snapshot_chains.Stored.TheVariants.{Whole, Rebuilt, Delta}
+use Rattle.mx_state_res.specs.declared.snapshots.snapshot_chains.Stored.{Stored}
+use Rattle.mx_state_res.specs.declared.snapshots.snapshot_chains.Stored.TheVariants.{Whole, Rebuilt, Delta}
 use Rattle.mx_state_res.specs.SnapshotEntries.{changed, snapshot}
 use Rattle.mx_state_res.specs.SnapshotChains.{meaning, meanings, step_of, depth_of, depth_at, IsSound, AllSound}
 use Rattle.mx_state_res.proofs.SnapshotEntryLemmas.{Sorted, sorted-changed, find-changed}

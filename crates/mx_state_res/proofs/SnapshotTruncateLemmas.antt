@@ -3,8 +3,8 @@ use Rattle.std.proofs.Common.{◌≡◌, ℕ, zero, suc, ◌+◌, ◌<◌, ◌�
 use Rattle.std.specs.Prelude.{Option, option_map, unwrap_or, slice_get, IfSome}
 use Rattle.std.proofs.lemmas.List.{take_all, take-append-drop}
 use Rattle.std.proofs.Math.Seq.{take-append_seam}
-use Rattle.mx_state_res.specs.declared.snapshot_chains.Stored.{Stored}
-use Rattle.mx_state_res.specs.declared.snapshot_chains.Stored.TheVariants.{Whole, Rebuilt, Delta}
+use Rattle.mx_state_res.specs.declared.snapshots.snapshot_chains.Stored.{Stored}
+use Rattle.mx_state_res.specs.declared.snapshots.snapshot_chains.Stored.TheVariants.{Whole, Rebuilt, Delta}
 use Rattle.mx_state_res.specs.SnapshotEntries.{changed, snapshot}
 use Rattle.mx_state_res.specs.SnapshotChains.{meaning, meanings, depth_of, depth_at, IsSound, AllSound}
 use Rattle.mx_state_res.proofs.SnapshotLemmas.{length-meanings}

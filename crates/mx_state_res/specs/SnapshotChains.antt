@@ -3,8 +3,8 @@
 use Rattle.std.specs.Prelude.{◌≡◌, ℕ, ◌+◌, ◌<◌, ◌≤◌, T, Option, Some, None, List, [], ◌∷◌, ◌++◌, slice_get, option_map, unwrap_or, IfSome}
 use Rattle.std.specs.FinMap.Entries.{is_sorted}
 use Rattle.std.specs.Ordering.{nat_cmp}
-use Rattle.mx_state_res.specs.declared.snapshot_chains.Stored.{Stored}
-use Rattle.mx_state_res.specs.declared.snapshot_chains.Stored.TheVariants.{Whole, Rebuilt, Delta}
+use Rattle.mx_state_res.specs.declared.snapshots.snapshot_chains.Stored.{Stored}
+use Rattle.mx_state_res.specs.declared.snapshots.snapshot_chains.Stored.TheVariants.{Whole, Rebuilt, Delta}
 use Rattle.mx_state_res.specs.SnapshotEntries.{changed, snapshot}
 
 -- the map that is stored, over those of the earlier snapshots

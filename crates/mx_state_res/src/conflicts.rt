@@ -7,14 +7,19 @@ ghost use Rattle.mx_orders.specs.StateMap.{events_of as events_in, key_cmp};
 ghost use Rattle.mx_state_res.specs.Agreed.{IsAgreed};
 ghost use Rattle.mx_state_res.specs.Resolution as definition;
 
-use crate::chain_difference::chain_difference;
+pub(crate) mod numbered_conflicts;
+pub(crate) mod rising_lists;
+
+use crate::chains::chain_difference::chain_difference;
 use crate::entries::StateEntry;
 use crate::state_maps::StateMap;
 use mx_graph::{EventNo, Graph, graph_is_sound, rising};
 use std::alloc::{AllocError, Global};
 
-/// The unconflicted state: the entries that every state has.
-pub(crate) fn unconflicted(alloc: Global, states: &[&StateMap]) -> Result<StateMap, AllocError>
+/// The unconflicted state: the entries that every state has. `AllocError` where no memory is left.
+///
+/// Source: the Matrix specification, Room Version 2, "State resolution", unconflicted state map.
+pub fn unconflicted(alloc: Global, states: &[&StateMap]) -> Result<StateMap, AllocError>
     ensures state { IfOk result (λ agreed. agreed ≡ definition.unconflicted (map (λ s. s.now) states.now)) }
     ensures agreed { IfOk result (λ agreed. IsAgreed agreed (map (λ s. s.now) states.now)) }
 {
@@ -117,7 +122,10 @@ pub(crate) fn joined(alloc: Global, lists: &[Vec<EventNo>]) -> Result<Vec<EventN
 
 /// The full conflicted set, rising: the events of the entries that are not in the unconflicted state, and the auth
 /// difference. Where the auth chains differ is found from these events and from those that all states share.
-pub(crate) fn full_conflicted(
+/// `AllocError` where no memory is left.
+///
+/// Source: the Matrix specification, Room Version 2, "State resolution", full conflicted set.
+pub fn full_conflicted(
     alloc: Global,
     graph: &Graph,
     agreed: &StateMap,

@@ -4,14 +4,14 @@ ghost use Rattle.mx_orders.specs.StateMap.{State};
 ghost use Rattle.mx_state_res.specs.Numbered.{AreAdded, AreKnown, IsDiffering, edited, state_at};
 ghost use Rattle.mx_state_res.specs.Resolution as definition;
 
-use crate::conflict_checks::check_conflicted;
-use crate::number_sets::each_once;
-use crate::numbered_conflicts::{all_are_sorted, full_conflicted_at};
-use crate::state_changes::{StateChange, least_change, restored_puts};
+use crate::checks::conflict_checks::check_conflicted;
+use crate::checks::working_states::WorkingState;
+use crate::conflicts::numbered_conflicts::{all_are_sorted, full_conflicted_at};
 use crate::state_maps::StateMap;
-use crate::state_numbers::StateNo;
 use crate::states::States;
-use crate::working_states::WorkingState;
+use crate::states::number_sets::each_once;
+use crate::states::state_changes::{StateChange, least_change, restored_puts};
+use crate::states::state_numbers::StateNo;
 use mx_graph::Graph;
 use std::alloc::{AllocError, Global};
 

@@ -2,11 +2,11 @@
 ghost use Rattle.std.specs.Prelude.{◌≡◌, ◌<◌, All, IfOk, length, map};
 ghost use Rattle.mx_state_res.specs.Resolution as definition;
 
-use crate::auth_checks::overwrite;
-use crate::conflict_checks::check_conflicted;
+use crate::checks::auth_checks::overwrite;
+use crate::checks::conflict_checks::check_conflicted;
+use crate::checks::working_states::WorkingState;
 use crate::conflicts::{full_conflicted, unconflicted};
 use crate::state_maps::StateMap;
-use crate::working_states::WorkingState;
 use mx_graph::Graph;
 use std::alloc::{AllocError, Global};
 

@@ -5,9 +5,14 @@ ghost use Rattle.std.specs.Ordering.{nat_cmp};
 ghost use Rattle.std.specs.List.Sorted.{IsStrictlyIncreasing};
 ghost use Rattle.mx_state_res.specs.SnapshotEntries.{DifferAt, changed, snapshot};
 
-use crate::snapshot_chains::{Stored, entries_at, value_at, with_changes};
-use crate::snapshot_differences::differing_keys;
-use crate::state_numbers::StateNo;
+mod snapshot_chains;
+mod snapshot_differences;
+pub(crate) mod snapshot_edits;
+
+use crate::snapshots::snapshot_chains::{Stored, entries_at, value_at, with_changes};
+use crate::snapshots::snapshot_differences::differing_keys;
+use crate::states::key_numbers::KeyNo;
+use crate::states::state_numbers::StateNo;
 use mx_graph::EventNo;
 use std::alloc::{AllocError, Global};
 use std::marker::Model;
@@ -49,7 +54,10 @@ impl Snapshots {
     }
 
     // Adds a snapshot with these entries.
-    pub(crate) fn add_whole(&mut self, entries: Vec<(u32, EventNo)>) -> Result<StateNo, AllocError>
+    pub(crate) fn add_whole(
+        &mut self,
+        entries: Vec<(KeyNo, EventNo)>,
+    ) -> Result<StateNo, AllocError>
         requires { T (is_sorted nat_cmp entries.items) }
         ensures number { IfOk result (λ n. n ≡ length self.old) }
         ensures added { OnOk result (self.new ≡ self.old ++ entries.items ∷ []) }
@@ -64,7 +72,7 @@ impl Snapshots {
     pub(crate) fn with(
         &mut self,
         parent: StateNo,
-        key: u32,
+        key: KeyNo,
         event: EventNo,
     ) -> Result<StateNo, AllocError>
         requires { parent < length self.old }
@@ -81,7 +89,7 @@ impl Snapshots {
     pub(crate) fn apply(
         &mut self,
         parent: StateNo,
-        changes: Vec<(u32, Option<EventNo>)>,
+        changes: Vec<(KeyNo, Option<EventNo>)>,
     ) -> Result<StateNo, AllocError>
         requires { parent < length self.old }
         ensures number { IfOk result (λ n. n ≡ length self.old) }
@@ -89,7 +97,7 @@ impl Snapshots {
         ensures err { OnErr result (self.new ≡ self.old) }
     {
         let number = StateNo::at(self.stored.len());
-        let next = with_changes(self.alloc, &self.stored, parent.index(), changes)?;
+        let next = with_changes(self.alloc, &self.stored, parent, changes)?;
         self.stored.push(next)?;
         Ok(number)
     }
@@ -102,7 +110,7 @@ impl Snapshots {
     }
 
     // The value at a key. It takes no memory, and follows at most 63 deltas.
-    pub(crate) fn get(&self, number: StateNo, key: u32) -> Option<EventNo>
+    pub(crate) fn get(&self, number: StateNo, key: KeyNo) -> Option<EventNo>
         requires { number < length self.now }
         ensures { result ≡ find nat_cmp key (snapshot self.now number) }
     {
@@ -114,7 +122,7 @@ impl Snapshots {
         &self,
         alloc: Global,
         number: StateNo,
-    ) -> Result<Vec<(u32, EventNo)>, AllocError>
+    ) -> Result<Vec<(KeyNo, EventNo)>, AllocError>
         requires { number < length self.now }
         ensures entries { IfOk result (λ entries. entries.items ≡ snapshot self.now number) }
         // Each key is there once.
@@ -131,7 +139,7 @@ impl Snapshots {
         first: StateNo,
         second: StateNo,
         most: usize,
-    ) -> Result<Vec<u32>, AllocError>
+    ) -> Result<Vec<KeyNo>, AllocError>
         requires first_is_here { first < length self.now }
         requires second_is_here { second < length self.now }
         ensures exact { IfOk result (λ keys. (key : ℕ) → Contains keys.items key

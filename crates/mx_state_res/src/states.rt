@@ -9,15 +9,26 @@ ghost use Rattle.mx_state_res.specs.Agreed.{has_missed};
 ghost use Rattle.mx_state_res.specs.Numbered.{AllAlike, state_at, without};
 ghost use Rattle.mx_state_res.specs.Resolution.{overwritten};
 
-use crate::entry_search::has_match;
-use crate::entry_tests::EntryTest;
-use crate::numbered_entries::{changes_of, entries_of, map_of, put_differing};
-use crate::shared_events::events_at_other_keys;
+mod entry_search;
+pub(crate) mod entry_tests;
+pub(crate) mod key_numbers;
+pub(crate) mod number_sets;
+mod numbered_entries;
+mod shared_events;
+pub(crate) mod state_changes;
+mod state_keys;
+pub(crate) mod state_numbers;
+pub(crate) mod state_refs;
+
 use crate::snapshots::Snapshots;
-use crate::state_keys::Keys;
 use crate::state_maps::StateMap;
-use crate::state_numbers::StateNo;
-use crate::state_refs::StateRef;
+use crate::states::entry_search::has_match;
+use crate::states::entry_tests::EntryTest;
+use crate::states::numbered_entries::{changes_of, entries_of, map_of, put_differing};
+use crate::states::shared_events::events_at_other_keys;
+use crate::states::state_keys::Keys;
+use crate::states::state_numbers::StateNo;
+use crate::states::state_refs::StateRef;
 use mx_graph::EventNo;
 use std::alloc::{AllocError, Global};
 use std::marker::Model;
@@ -72,8 +83,8 @@ impl States {
         self.snapshots.add_whole(Vec::new(self.alloc))
     }
 
-    // Adds a state with these entries. At an error the states stay.
-    pub(crate) fn add(&mut self, map: &StateMap) -> Result<StateNo, AllocError>
+    /// Adds a state with these entries. At an error the states stay.
+    pub fn add(&mut self, map: &StateMap) -> Result<StateNo, AllocError>
         ensures number { IfOk result (λ number. number ≡ length self.old) }
         ensures added { OnOk result (self.new ≡ self.old ++ map.now ∷ []) }
         ensures err { OnErr result (self.new ≡ self.old) }
@@ -169,12 +180,9 @@ impl States {
         Ok(events)
     }
 
-    // The keys at which states are not all alike: it has an event at each of them, and none elsewhere.
-    pub(crate) fn differing(
-        &self,
-        alloc: Global,
-        numbers: &[StateNo],
-    ) -> Result<StateMap, AllocError>
+    /// The keys at which states are not all alike: it has an event at each of them, and none elsewhere. `AllocError` where
+    /// no memory is left.
+    pub fn differing(&self, alloc: Global, numbers: &[StateNo]) -> Result<StateMap, AllocError>
         requires { All (λ number. number < length self.now) numbers.now }
         ensures { IfOk result (λ found. (key : Key)
             → (entry found key ≡ None) ↔ AllAlike key (map (state_at self.now) numbers.now)) }
@@ -209,9 +217,9 @@ impl States {
         put_differing(found, &self.keys, &self.snapshots, first, other, &differing)
     }
 
-    // Adds the state that is another one without the keys of `taken`, with the entries of `puts` put over it. At an
-    // error the states stay.
-    pub(crate) fn apply(
+    /// Adds the state that is another one without the keys of `taken`, with the entries of `puts` put over it. At an
+    /// error the states stay.
+    pub fn apply(
         &mut self,
         parent: StateNo,
         taken: &StateMap,

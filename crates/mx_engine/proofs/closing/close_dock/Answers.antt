@@ -1,6 +1,8 @@
-use Rattle.mx_engine.proofs.closing.close_shard.Goals as goal
+use Rattle.std.proofs.Common.{sym}
+use Rattle.mx_engine.proofs.closing.close_dock.Goals as goal
 
 pub returns-clause-whole : goal.returns-clause-whole
 returns-clause-whole g c =
     let e = c.close-docked.ensures in
-    rw c.into_inner-2.ensures (record { opened = e.opening; numbered = e.numbered; added = e.added; seen = e.seen })
+    let s = c.soundness.ensures in
+    rw c.out_of_box.ensures (rw (sym s.journal) (record { opened = e.opening; numbered = e.numbered; added = e.added; seen = e.seen }))

@@ -1,0 +1,23 @@
+use Rattle.std.proofs.Common.{◌<◌, ◌∙◌, Vec, ℕ, length, map, ap}
+use Rattle.std.specs.declared.alloc.Global.{Global}
+use Rattle.mx_graph.specs.Record.{is_in}
+use Rattle.mx_orders.specs.StateMap.{events_of}
+use Rattle.mx_state_res.specs.Numbered.{state_at, without}
+use Rattle.mx_state_res.proofs.NumberedConflictLemmas.{shared-known, known-one}
+use Rattle.mx_state_res.proofs.SameMembersLemmas.{all-within}
+use Rattle.mx_state_res.proofs.SharedEventLemmas.{difference-same}
+use Rattle.mx_state_res.proofs.conflicts.numbered_conflicts.apart_chains.Goals as goal
+
+pub chain_difference-requires-clause-shared : goal.chain_difference-requires-clause-shared
+chain_difference-requires-clause-shared c =
+    let rows = c.args.graph.now in
+    let shared = events_of (without c.args.differing.now (state_at c.args.states.now c.args.base)) in
+    all-within (λ p. p < length rows) c.deref.result.now shared (λ p. ap (λ xs. is_in xs p) c.deref.ensures.value ∙ c.in_ok-shared.ensures p)
+    (shared-known rows c.args.differing.now (state_at c.args.states.now c.args.base) (known-one rows c.args.states.now c.args.base c.requires.known c.requires.base))
+
+pub returns : goal.returns
+returns c =
+    let rows = c.args.graph.now in
+    let shared = events_of (without c.args.differing.now (state_at c.args.states.now c.args.base)) in
+    c.in_ok-found.ensures
+    ∙ difference-same rows c.graph_is_sound.ensures c.deref.result.now shared (λ p. ap (λ xs. is_in xs p) c.deref.ensures.value ∙ c.in_ok-shared.ensures p) (map (λ (others : Vec ℕ Global). others.items) c.args.apart.now)

@@ -1,0 +1,12 @@
+use Rattle.std.proofs.Common.{◌≡◌, ◌<◌, ◌≤◌, ◌+◌, ◌∷◌, length, take}
+use Rattle.std.specs.List.{All}
+use Rattle.mx_state_res.specs.Numbered.{change_size, edited, state_at}
+use Rattle.mx_state_res.proofs.states.state_changes.least_change.Given as goal
+
+-- the least so far makes the state
+abbrev pub invariant-loop-number : goal.invariant-loop-number
+invariant-loop-number l = record {
+  parent : l.least.parent < length l.states;
+  made : edited l.least.taken (state_at l.states l.least.parent) l.least.puts ≡ edited l.taken (state_at l.states l.fn.base) l.puts;
+  least : All (λ number. length l.least.taken + length l.least.puts ≤ change_size l.taken (state_at l.states number) l.puts) (l.fn.base ∷ take l.number-index l.others);
+}

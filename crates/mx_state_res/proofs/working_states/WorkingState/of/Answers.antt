@@ -1,5 +1,0 @@
-use Rattle.mx_state_res.proofs.AgreedLemmas.{overwritten-empty}
-use Rattle.mx_state_res.proofs.working_states.WorkingState.of.Goals as goal
-
-pub returns-clause-shown : goal.returns-clause-shown
-returns-clause-shown c = overwritten-empty c.args.entries c.entries.ensures.sorted

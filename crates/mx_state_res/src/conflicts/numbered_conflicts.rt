@@ -1,0 +1,118 @@
+// Where numbered states are in conflict.
+ghost use Rattle.std.specs.Prelude.{◌≡◌, ◌<◌, ◌∷◌, ◌++◌, ℕ, All, IfOk, List, OnErr, OnOk, T, length, map, take};
+ghost use Rattle.std.specs.FinMap.Entries.{is_sorted};
+ghost use Rattle.mx_graph.specs.Edges.{Rises};
+ghost use Rattle.mx_orders.specs.StateMap.{events_of as events_in, key_cmp};
+ghost use Rattle.mx_state_res.specs.ChainDifference as differences;
+ghost use Rattle.mx_state_res.specs.Numbered.{AreKnown, IsDiffering, events_at, state_at, without};
+ghost use Rattle.mx_state_res.specs.Resolution as definition;
+
+use crate::chains::chain_difference::chain_difference;
+use crate::conflicts::joined;
+use crate::state_maps::StateMap;
+use crate::states::States;
+use crate::states::state_numbers::StateNo;
+use mx_graph::{EventNo, Graph, graph_is_sound, rising};
+use std::alloc::{AllocError, Global};
+
+/// The full conflicted set of some states, rising, where `differing` has the keys at which they are not all alike, and
+/// `base` is the first of them.
+///
+/// Source: the Matrix specification, Room Version 2, "State resolution".
+pub(crate) fn full_conflicted_at(
+    alloc: Global,
+    graph: &Graph,
+    states: &States,
+    numbers: &[StateNo],
+    base: StateNo,
+    differing: &StateMap,
+) -> Result<Vec<EventNo>, AllocError>
+    requires numbers { All (λ number. number < length states.now) numbers.now }
+    requires known { AreKnown graph.now states.now }
+    requires base { (others : List ℕ) × (numbers.now ≡ base ∷ others) }
+    requires differing { IsDiffering differing.now (map (state_at states.now) numbers.now) }
+    ensures set { IfOk result (λ events. events.items
+        ≡ definition.full_conflicted graph.now (map (state_at states.now) numbers.now)) }
+    ensures rises { IfOk result (λ events. Rises events.items) }
+    ensures known { IfOk result (λ events. All (λ event. event < length graph.now) events.items) }
+{
+    graph_is_sound(graph);
+    all_are_sorted(states, numbers);
+    let _ = differing.entries();
+    let apart = apart_events(alloc, states, numbers, differing)?;
+    let difference = apart_chains(alloc, graph, states, base, differing, &apart)?;
+    let mut found = joined(alloc, &apart)?;
+    found.extend_from_slice(&difference)?;
+    let events = rising(alloc, &found)?;
+    Ok(events)
+}
+
+/// The entries of these states are in the order of their keys. It changes nothing: this is what it ensures.
+pub(crate) fn all_are_sorted(states: &States, numbers: &[StateNo])
+    requires { All (λ number. number < length states.now) numbers.now }
+    ensures { All (λ number. T (is_sorted key_cmp (state_at states.now number))) numbers.now }
+{
+    for number in numbers {
+        states.state_is_sorted(*number);
+    }
+}
+
+// For each state, its events at the keys of another.
+fn apart_events(
+    alloc: Global,
+    states: &States,
+    numbers: &[StateNo],
+    keys: &StateMap,
+) -> Result<Vec<Vec<EventNo>>, AllocError>
+    requires { All (λ number. number < length states.now) numbers.now }
+    ensures { IfOk result (λ found. map (λ events. events.items) found.items
+        ≡ map (λ number. events_at keys.now (state_at states.now number)) numbers.now) }
+{
+    let mut found = Vec::new(alloc);
+    for number in numbers {
+        let events = events_at_keys(alloc, states, *number, keys)?;
+        found.push(events)?;
+    }
+    Ok(found)
+}
+
+// The events of a state at the keys of another.
+fn events_at_keys(
+    alloc: Global,
+    states: &States,
+    number: StateNo,
+    keys: &StateMap,
+) -> Result<Vec<EventNo>, AllocError>
+    requires { number < length states.now }
+    ensures { IfOk result (λ events. events.items ≡ events_at keys.now (state_at states.now number)) }
+{
+    let mut events = Vec::new(alloc);
+    for entry in keys.entries() {
+        if let Some(event) = states.get(number, entry.kind(), entry.state_key()) {
+            events.push(event)?;
+        }
+    }
+    Ok(events)
+}
+
+// The events that are in the auth chains of some sets and not of all, and not in the chain of what the states share.
+fn apart_chains(
+    alloc: Global,
+    graph: &Graph,
+    states: &States,
+    base: StateNo,
+    differing: &StateMap,
+    apart: &[Vec<EventNo>],
+) -> Result<Vec<EventNo>, AllocError>
+    requires base { base < length states.now }
+    requires known { AreKnown graph.now states.now }
+    requires apart { All (λ others. All (λ s. s < length graph.now) others.items) apart.now }
+    ensures { IfOk result (λ found. found.items
+        ≡ differences.chain_difference graph.now (events_in (without differing.now (state_at states.now base)))
+        (map (λ others. others.items) apart.now)) }
+{
+    graph_is_sound(graph);
+    let shared = states.events_at_other_keys(alloc, base, differing)?;
+    let found = chain_difference(alloc, graph, &shared, apart)?;
+    Ok(found)
+}

@@ -1,0 +1,155 @@
+// The entries of states by the numbers of their keys.
+ghost use Rattle.std.specs.Prelude.{◌≡◌, ◌<◌, ◌||◌, All, IfOk, None, OnOk, Option, Some, T, is_some, length, option_map, ℕ};
+ghost use Rattle.std.specs.FinMap.Entries.{is_sorted};
+ghost use Rattle.std.specs.Ordering.{nat_cmp};
+ghost use Rattle.std.specs.Option.{option_or};
+ghost use Rattle.mx_auth.specs.Rules.{Key};
+ghost use Rattle.mx_orders.specs.StateMap.{entry as entry_at, key_cmp};
+ghost use Rattle.mx_state_res.specs.KeyNumbers.{AllBelow, AreChanges, AreDistinct, AreGrown, AreShown, changes_at, has_number_in, shown};
+ghost use Rattle.mx_state_res.specs.SnapshotEntries.{DifferAt, snapshot};
+
+use crate::snapshots::Snapshots;
+use crate::snapshots::snapshot_edits::{change_entry, value_in};
+use crate::state_maps::StateMap;
+use crate::states::key_numbers::KeyNo;
+use crate::states::state_keys::Keys;
+use crate::states::state_numbers::StateNo;
+use mx_graph::EventNo;
+use std::alloc::{AllocError, Global};
+
+// The entries of a state by the numbers of their keys, which rise. Keys that are new are added; at an error some of
+// them may have been.
+pub(crate) fn entries_of(
+    alloc: Global,
+    keys: &mut Keys,
+    map: &StateMap,
+) -> Result<Vec<(KeyNo, EventNo)>, AllocError>
+    requires distinct { AreDistinct keys.old }
+    ensures grown { AreGrown keys.old keys.new }
+    ensures distinct { AreDistinct keys.new }
+    ensures below { IfOk result (λ entries. AllBelow (length keys.new) entries.items) }
+    ensures sorted { IfOk result (λ entries. T (is_sorted nat_cmp entries.items)) }
+    ensures shown { IfOk result (λ entries. shown keys.new entries.items ≡ map.now) }
+{
+    let mut entries = Vec::new(alloc);
+    for entry in map.entries() {
+        let key = keys.number_for(entry.kind(), entry.state_key())?;
+        change_entry(&mut entries, key, Some(entry.event()))?;
+    }
+    Ok(entries)
+}
+
+// The state with these entries. It is made in the order of the keys, so that no entry is put before others.
+pub(crate) fn map_of(
+    alloc: Global,
+    keys: &Keys,
+    entries: &[(KeyNo, EventNo)],
+) -> Result<StateMap, AllocError>
+    requires distinct { AreDistinct keys.now }
+    requires below { AllBelow (length keys.now) entries.now }
+    requires sorted { T (is_sorted nat_cmp entries.now) }
+    ensures { IfOk result (λ map. map ≡ shown keys.now entries.now) }
+{
+    let mut map = StateMap::new(alloc);
+    for &number in keys.in_order() {
+        if let Some(event) = value_in(entries, number) {
+            let key = keys.key(number);
+            map.insert(key.kind(), key.state_key(), event)?;
+        }
+    }
+    Ok(map)
+}
+
+// Puts an event at each key at which two snapshots differ: that of the first, or else that of the other. At an error
+// some of them were put.
+pub(crate) fn put_differing(
+    found: &mut StateMap,
+    keys: &Keys,
+    snapshots: &Snapshots,
+    first: StateNo,
+    other: StateNo,
+    differing: &[KeyNo],
+) -> Result<(), AllocError>
+    requires shown { AreShown keys.now snapshots.now }
+    requires first { first < length snapshots.now }
+    requires other { other < length snapshots.now }
+    requires differing { All (λ key. DifferAt key (snapshot snapshots.now first) (snapshot snapshots.now other))
+        differing.now }
+    ensures { OnOk result ((key : Key) → is_some (entry_at found.new key)
+        ≡ (is_some (entry_at found.old key) || has_number_in keys.now differing.now key)) }
+{
+    for &number in differing {
+        let event = snapshots
+            .get(first, number)
+            .or(snapshots.get(other, number));
+        if let Some(event) = event {
+            let key = keys.key(number);
+            found.insert(key.kind(), key.state_key(), event)?;
+        }
+    }
+    Ok(())
+}
+
+// The changes that put the entries of a state, and take the keys of another away, by the numbers of the keys; of two
+// changes at one key the first counts. Keys that are new are added; at an error some of them may have been.
+pub(crate) fn changes_of(
+    alloc: Global,
+    keys: &mut Keys,
+    taken: &StateMap,
+    puts: &StateMap,
+) -> Result<Vec<(KeyNo, Option<EventNo>)>, AllocError>
+    requires { AreDistinct keys.old }
+    ensures grown { AreGrown keys.old keys.new }
+    ensures distinct { AreDistinct keys.new }
+    ensures below { IfOk result (λ changes. AllBelow (length keys.new) changes.items) }
+    ensures found { IfOk result (λ changes. (key : Key) → changes_at keys.new changes.items key
+        ≡ option_or (option_map (λ event. Some event) (entry_at puts.now key))
+        (option_map (λ event. None) (entry_at taken.now key))) }
+    ensures sorted { T (is_sorted key_cmp puts.now) }
+{
+    let mut changes = Vec::new(alloc);
+    push_puts(keys, &mut changes, puts)?;
+    push_removals(keys, &mut changes, taken)?;
+    Ok(changes)
+}
+
+// Adds the changes that put the entries of a state. Keys that are new are added, at an error too.
+fn push_puts(
+    keys: &mut Keys,
+    changes: &mut Vec<(KeyNo, Option<EventNo>)>,
+    puts: &StateMap,
+) -> Result<(), AllocError>
+    requires distinct { AreDistinct keys.old }
+    requires below { AllBelow (length keys.old) changes.old.items }
+    ensures grown { AreGrown keys.old keys.new }
+    ensures distinct { AreDistinct keys.new }
+    ensures changes { OnOk result (AreChanges keys.old keys.new changes.old.items changes.new.items
+        (λ event. Some event) puts.now) }
+    ensures sorted { T (is_sorted key_cmp puts.now) }
+{
+    for entry in puts.entries() {
+        let key = keys.number_for(entry.kind(), entry.state_key())?;
+        changes.push((key, Some(entry.event())))?;
+    }
+    Ok(())
+}
+
+// Adds the changes that take the keys of a state away. Keys that are new are added, at an error too.
+fn push_removals(
+    keys: &mut Keys,
+    changes: &mut Vec<(KeyNo, Option<EventNo>)>,
+    taken: &StateMap,
+) -> Result<(), AllocError>
+    requires distinct { AreDistinct keys.old }
+    requires below { AllBelow (length keys.old) changes.old.items }
+    ensures grown { AreGrown keys.old keys.new }
+    ensures distinct { AreDistinct keys.new }
+    ensures changes { OnOk result (AreChanges keys.old keys.new changes.old.items changes.new.items
+        (λ event. None) taken.now) }
+{
+    for entry in taken.entries() {
+        let key = keys.number_for(entry.kind(), entry.state_key())?;
+        changes.push((key, None))?;
+    }
+    Ok(())
+}
