@@ -8,7 +8,8 @@ ghost use Rattle.mx_keeper.specs.declared.rows.BookRow.{BookRow};
 use crate::entries::BookEntry;
 use crate::openings::Opening;
 use crate::recording::{
-    add_reply, begin_in, give_up_in, is_begun_in, keep_in, opening_in, remove_reply, row_for,
+    add_reply, is_begun_in, opening_in, record_beginning, record_giving_up, record_reply,
+    remove_reply, row_for,
 };
 use crate::reopening::reopened_in;
 use crate::transaction_keys::TransactionKey;
@@ -125,7 +126,7 @@ impl<K: Keeper<Row = BookRow>> Book<K> {
         }
         let opening = opening_in(&self.journal, &self.callers, &self.replies, key)?;
         if let Opening::Fresh = opening {
-            begin_in(
+            record_beginning(
                 &mut self.journal,
                 &mut self.callers,
                 &self.replies,
@@ -194,7 +195,7 @@ impl<K: Keeper<Row = BookRow>> Book<K> {
         add_reply(&mut self.replies, key, place)?;
         match self.keeper.append(&row) {
             Ok(()) => {
-                keep_in(
+                record_reply(
                     &mut self.journal,
                     &mut self.callers,
                     &self.place,
@@ -225,7 +226,7 @@ impl<K: Keeper<Row = BookRow>> Book<K> {
         ensures place { self.new.place ≡ self.old.place }
         ensures refused { self.new.is_refused ≡ self.old.is_refused }
     {
-        give_up_in(
+        record_giving_up(
             &mut self.journal,
             &mut self.callers,
             &self.replies,

@@ -114,7 +114,7 @@ pub(crate) fn remove_reply(replies: &mut BTreeMap<TransactionKey, usize>, key: &
 // ---- the entries
 
 /// Begins a transaction that is free. What can fail comes first; there is room afterwards for the entry that ends it.
-pub(crate) fn begin_in(
+pub(crate) fn record_beginning(
     journal: &mut Vec<BookEntry>,
     callers: &mut BTreeMap<TransactionKey, Caller>,
     replies: &BTreeMap<TransactionKey, usize>,
@@ -140,7 +140,7 @@ pub(crate) fn begin_in(
 }
 
 /// Ends a transaction that this caller began, with no reply.
-pub(crate) fn give_up_in(
+pub(crate) fn record_giving_up(
     journal: &mut Vec<BookEntry>,
     callers: &mut BTreeMap<TransactionKey, Caller>,
     replies: &BTreeMap<TransactionKey, usize>,
@@ -160,7 +160,7 @@ pub(crate) fn give_up_in(
 }
 
 /// Ends a transaction that this caller began, with the reply whose place the map has already.
-pub(crate) fn keep_in(
+pub(crate) fn record_reply(
     journal: &mut Vec<BookEntry>,
     callers: &mut BTreeMap<TransactionKey, Caller>,
     place: &Place,

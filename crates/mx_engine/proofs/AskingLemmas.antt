@@ -1,6 +1,7 @@
 -- Queries that are put to each shard.
 use Rattle.std.proofs.Common.{◌≡◌, ◌≢◌, ℕ, ◌<◌, ◌+◌, true, false, true≢false, List, ◌++◌, length, set, append-nil, refl, sym, ◌∙◌, ap, subst, arith}
-use Rattle.std.specs.Prelude.{Option, None, Some, Ok, Err}
+use Rattle.std.specs.Prelude.{Option, None, Some, Result, Ok, Err}
+use Rattle.std.specs.Result.{IsErrAnd}
 use native.Mathlib.Decide.{ℕ_discrete}
 use mathlib.Core.Logic.{dite}
 use Rattle.std.proofs.lemmas.List.{length-set, get_or-set_same}
@@ -100,8 +101,9 @@ module _ (caller : ℕ) (origin : List ℕ) (now : ℕ) (q : Query) (alone : roo
     told = refl;
   }
 
-  pub refused_turn : (old new : BerthView Entry) (error : CallError) → IsTurn caller (to_ask origin now q) (room_named q) old new (Err error) → IsAskTurn (to_ask origin now q) old new (Err error)
-  refused_turn old new error t = record { journal = t.journal; legal = t.legal; later = t.later; seen = t.err; shown = tt; told = tt }
+  pub refused_turn : (old new : BerthView Entry) (result : Result (Option Answer) CallError) (cause : CallError) → IsErrAnd result (λ e. e ≡ cause) → IsTurn caller (to_ask origin now q) (room_named q) old new (Err cause) → IsAskTurn (to_ask origin now q) old new result
+  refused_turn old new (Ok found) cause is t = absurd is
+  refused_turn old new (Err e) cause is t = record { journal = t.journal; legal = t.legal; later = t.later; seen = t.err; shown = tt; told = tt }
 
 -- what a turn at one shard shows, and what others showed before
 pub shows_here : {T : Type 0} (call : Call) (berths : List (Berth T Entry)) (n : ℕ) (old new : Berth T Entry) (found : Option Answer) → n < length berths →

@@ -1,6 +1,7 @@
 -- What one take and put changes of what a caller knows.
 use Rattle.std.proofs.Common.{◌≡◌, ◌≢◌, ℕ, ◌<◌, List, [], ◌∷◌, ◌++◌, length, get_or, set, map, append-nil, refl, sym, ◌∙◌, ap, subst}
-use Rattle.std.specs.Prelude.{All, Option, None, Some, Result, Ok, Err, IfOk, OnOk, OnErr}
+use Rattle.std.specs.Prelude.{All, IsTrue, Option, None, Some, Result, Ok, Err, IfOk, OnOk, OnErr}
+use Rattle.std.proofs.lemmas.Bool.{eq-eqb}
 use Rattle.std.proofs.lemmas.List.Elements.{All-nil, All-cons}
 use Rattle.std.proofs.lemmas.List.{get_or-map, get_or-set_same, get_or-set_other, length-map, length-set, map-set}
 use native.Mathlib.Decide.{ℕ_discrete}
@@ -10,19 +11,23 @@ use Rattle.mx_dock.specs.Rule.{no_berth}
 use Rattle.mx_dock.specs.Dock.{own}
 use Rattle.mx_dock.specs.declared.berths.Berth.{Berth}
 use Rattle.mx_dock.proofs.ViewLemmas.{since-append, prefix_refl}
-use Rattle.mx_keeper.specs.Places.{place_number}
+use Rattle.mx_keeper.specs.Places.{PlaceView, place_number, is_at}
 use Rattle.mx_room.specs.Queries.{room_named}
 use Rattle.mx_room.specs.declared.queries.Query.{Query}
 use Rattle.mx_receipt.specs.Receipt.{Kept}
-use Rattle.mx_shard.specs.LoneRoom.{Call, to_ask, added}
-use Rattle.mx_shard.specs.Journal.{Entry, entry_of, record_of, IsLegal}
+use Rattle.mx_shard.specs.LoneRoom.{Call, call_room, to_ask, sent_call, answer, added}
+use Rattle.mx_shard.specs.Journal.{Entry, entry_of, record_of, journal_after, IsLegal}
+use Rattle.mx_shard.specs.declared.sendings.Sending.{Sending}
+use Rattle.mx_shard.proofs.ChangeLemmas.{sent_room}
+use Rattle.mx_pdu.specs.Event.{room_of}
+use Rattle.mx_room.specs.Offer.{Offered}
 use Rattle.mx_shard.specs.Shown.{IsAnswer}
 use Rattle.mx_shard.specs.declared.answers.Answer.{Answer}
 use Rattle.mx_keeper.specs.declared.refusals.CallError.{CallError}
 use Rattle.mx_engine.specs.Views.{BerthView, view_at, after_turn, turned, AddsNothing, IsSameView, AreSameViews}
 use Rattle.mx_engine.specs.Berths.{views_of}
 use Rattle.mx_engine.specs.Calls.{entries_added, IsAnswered}
-use Rattle.mx_engine.specs.Calling.{entries_by, IsTurn}
+use Rattle.mx_engine.specs.Calling.{entries_by, IsHere, IsTurn}
 
 -- ---- one berth
 
@@ -69,9 +74,13 @@ pub record IsLonger (caller : ℕ) (old new : List Entry) : Type 0 where
   pub is : new ≡ old ++ rest
   pub mine : All (λ (e : Entry). e.caller ≡ caller) rest
 
-pub longer : {A F : Type 0} (caller : ℕ) (room : List ℕ) (call : Call) (journal journal' : List Entry) (result : Result A F) →
-    OnOk result (journal' ≡ journal ++ entries_added journal caller room call) → OnErr result (journal' ≡ journal) → IsLonger caller journal journal'
-longer caller room call journal journal' (Ok a) ok err = record { rest = entries_added journal caller room call; is = ok; mine = entries-own room caller (added (record_of journal room) call) }
+entries_by-own : (caller : ℕ) (room : Option (List ℕ)) (call : Call) (journal : List Entry) → All (λ (e : Entry). e.caller ≡ caller) (entries_by journal caller call room)
+entries_by-own caller None call journal = All-nil (λ (e : Entry). e.caller ≡ caller)
+entries_by-own caller (Some room) call journal = entries-own room caller (added (record_of journal room) call)
+
+pub longer : {A F : Type 0} (caller : ℕ) (room : Option (List ℕ)) (call : Call) (journal journal' : List Entry) (result : Result A F) →
+    OnOk result (journal' ≡ journal ++ entries_by journal caller call room) → OnErr result (journal' ≡ journal) → IsLonger caller journal journal'
+longer caller room call journal journal' (Ok a) ok err = record { rest = entries_by journal caller call room; is = ok; mine = entries_by-own caller room call journal }
 longer caller room call journal journal' (Err e) ok err = record { rest = []; is = err ∙ sym (append-nil journal); mine = All-nil (λ (e : Entry). e.caller ≡ caller) }
 
 pub turn : (caller : ℕ) (call : Call) (room : Option (List ℕ)) (old taken new : BerthView Entry) (journal journal' : List Entry) (result : Result Answer CallError) →
@@ -106,21 +115,36 @@ asked-nothing caller origin now q journal (Some room) = ap (map (entry_of room c
     none_added [] = refl
     none_added (k ∷ ks) = refl
 
-pub ask_turn : (caller : ℕ) (origin : List ℕ) (now : ℕ) (q : Query) (old taken new : BerthView Entry) (journal : List Entry) (result : Result Answer CallError) →
-    taken ≡ after_turn old journal [] → IsLegal journal → IsPrefix old.seen journal →
-    (new.number ≡ taken.number) × (new.opening ≡ taken.opening) × (new.place ≡ taken.place) × (new.made ≡ taken.made) →
-    new.seen ≡ journal → new.added ≡ taken.added ++ since taken.seen journal →
-    IfOk result (λ told. IsAnswer (record_of journal) (to_ask origin now q) (room_named q) told) → IsTurn caller (to_ask origin now q) (room_named q) old new result
-ask_turn caller origin now q old taken new journal (Ok a) is legal later same seen more reply =
-    turn caller (to_ask origin now q) (room_named q) old taken new journal journal (Ok a) is legal later same seen more reply
-    (sym (append-nil journal) ∙ ap (λ l. journal ++ l) (sym (asked-nothing caller origin now q journal (room_named q)))) tt
-ask_turn caller origin now q old taken new journal (Err e) is legal later same seen more reply =
-    turn caller (to_ask origin now q) (room_named q) old taken new journal journal (Err e) is legal later same seen more reply tt refl
+pub asked_longer : (caller : ℕ) (origin : List ℕ) (now : ℕ) (q : Query) (journal : List Entry) (result : Result Answer CallError) → OnOk result (journal ≡ journal ++ entries_by journal caller (to_ask origin now q) (room_named q))
+asked_longer caller origin now q journal (Ok a) = sym (append-nil journal) ∙ ap (λ l. journal ++ l) (sym (asked-nothing caller origin now q journal (room_named q)))
+asked_longer caller origin now q journal (Err e) = tt
+
+-- an event that a server sends is of the room that the call is put to
+module _ (s : Sending) (origin : List ℕ) (o : Offered) where
+  pub sent_here : (place : PlaceView) → IsHere place (call_room (sent_call s origin o)) → IsTrue (is_at place (room_of o.pdu))
+  sent_here place here = subst (IsHere place) (sent_room s origin o) here
+
+  pub sent_reply : (journal : List Entry) (result : Result Answer CallError) → IfOk result (λ told. told ≡ answer (record_of journal (room_of o.pdu)) (sent_call s origin o)) → IfOk result (IsAnswer (record_of journal) (sent_call s origin o) (call_room (sent_call s origin o)))
+  sent_reply journal (Ok told) is = subst (λ room. IsAnswer (record_of journal) (sent_call s origin o) room told) (sym (sent_room s origin o)) is
+  sent_reply journal (Err e) is = tt
+
+  pub sent_longer : (caller : ℕ) (journal journal' : List Entry) (result : Result Answer CallError) → OnOk result (journal' ≡ journal_after journal caller (room_of o.pdu) (sent_call s origin o)) → OnOk result (journal' ≡ journal ++ entries_by journal caller (sent_call s origin o) (call_room (sent_call s origin o)))
+  sent_longer caller journal journal' (Ok told) is = subst (λ room. journal' ≡ journal ++ entries_by journal caller (sent_call s origin o) room) (sym (sent_room s origin o)) is
+  sent_longer caller journal journal' (Err e) is = tt
 
 -- and so nothing but what was seen changes
 pub ask_view : (caller : ℕ) (origin : List ℕ) (now : ℕ) (q : Query) (old new : BerthView Entry) (result : Result Answer CallError) (t : IsTurn caller (to_ask origin now q) (room_named q) old new result) → new ≡ after_turn old t.journal []
 ask_view caller origin now q old new (Ok a) t = t.ok ∙ ap (after_turn old t.journal) (asked-nothing caller origin now q t.journal (room_named q))
 ask_view caller origin now q old new (Err e) t = t.err
+
+-- so of a call that is a query
+pub query_view : (caller : ℕ) (call : Call) (origin : List ℕ) (now : ℕ) (q : Query) → call ≡ to_ask origin now q → (old new : BerthView Entry) (result : Result Answer CallError) (t : IsTurn caller call (call_room call) old new result) → new ≡ after_turn old t.journal []
+query_view caller call origin now q is old new (Ok a) t = t.ok ∙ ap (λ k. after_turn old t.journal (entries_by t.journal caller k (call_room k))) is ∙ ap (after_turn old t.journal) (asked-nothing caller origin now q t.journal (room_named q))
+query_view caller call origin now q is old new (Err e) t = t.err
+
+-- what has this name is of the place of the name
+pub at_place : (place : PlaceView) (count : ℕ) (name room : List ℕ) → place.number ≡ place_number count name → place.count ≡ count → name ≡ room → IsTrue (is_at place room)
+at_place place count name room number counts same = eq-eqb (place_number place.count room) place.number (ap (λ k. place_number k room) counts ∙ ap (place_number count) (sym same) ∙ sym number)
 
 -- ---- one berth among those of a caller
 

@@ -1,32 +1,14 @@
 -- One turn at the dock of a book, for private clauses (our own).
-use Rattle.std.specs.Prelude.{◌≡◌, ◌<◌, ℕ, true, List, [], ◌∷◌, length, Result, IfOk, OnOk, OnErr, IsTrue}
-use Rattle.mx_dock.specs.Dock.{IsBerthOf, holds, number, own, place}
-use Rattle.mx_dock.specs.declared.docks.Dock.{Dock}
-use Rattle.mx_dock.specs.declared.berths.Berth.{Berth}
+use Rattle.std.specs.Prelude.{◌≡◌, ◌<◌, ℕ, List, [], ◌∷◌, length, Result, IfOk, OnOk, OnErr, IsTrue}
 use Rattle.mx_dock.specs.Journal.{IsPrefix, since, entries_of}
-use Rattle.mx_keeper.specs.Places.{PlaceView}
 use Rattle.mx_keeper.specs.declared.refusals.CallError.{CallError}
 use Rattle.mx_book.specs.Journal.{hold_of, begun, begins, opening_of, is_legal}
 use Rattle.mx_book.specs.declared.transaction_keys.TransactionKey.{TransactionKey}
 use Rattle.mx_book.specs.declared.entries.BookEntry.{BookEntry}
 use Rattle.mx_book.specs.declared.openings.Opening.{Opening}
-use Rattle.mx_engine.specs.Places.{place_code, book_caller}
+use Rattle.mx_engine.specs.Places.{book_caller}
 use Rattle.mx_engine.specs.Views.{BerthView, view_at, after_turn, turned, AddsNothing}
 use Rattle.mx_engine.specs.Transactions.{book_number, IsFound}
-
--- A caller's berth at the dock of this place holds: the book has this place and this journal, which is legal and begins
--- with all that the caller had seen. What the caller added is all there, and nothing else has its number.
-pub record IsBookHeld {T : Type 0} (at : PlaceView) (dock : Dock T BookEntry) (caller : ℕ) (old : BerthView BookEntry) (new : Berth T BookEntry) (found_place : PlaceView) (journal : List BookEntry) : Type 0 where
-  pub mine : IsBerthOf dock new
-  pub held : holds new ≡ true
-  pub numbered : number new ≡ caller
-  pub placed : place new ≡ place_code at
-  pub same : own new ≡ after_turn old journal []
-  pub found : found_place ≡ at
-  pub legal : IsTrue (is_legal journal)
-  pub later : IsPrefix old.seen journal
-  pub opens : IsPrefix old.opening journal
-  pub its : entries_of book_caller caller (since old.opening journal) ≡ old.added
 
 -- The caller's own entries are those that it added, and by what it has seen it has begun the transaction and not ended it.
 pub record HasBegun (caller : ℕ) (key : TransactionKey) (view : BerthView BookEntry) : Type 0 where

@@ -1,13 +1,12 @@
 -- One turn at a dock, for private clauses (our own).
-use Rattle.std.specs.Prelude.{◌≡◌, ℕ, true, List, [], Option, None, Some, is_some, Result, Err, IfOk, OnOk, OnErr}
+use Rattle.std.specs.Prelude.{◌≡◌, ℕ, true, List, [], Option, None, Some, is_some, Result, Err, IfOk, OnOk, OnErr, IsTrue}
 use Rattle.mx_dock.specs.Dock.{IsBerthOf, holds, number, own, place}
 use Rattle.mx_dock.specs.declared.docks.Dock.{Dock}
 use Rattle.mx_dock.specs.declared.berths.Berth.{Berth}
-use Rattle.mx_dock.specs.Journal.{IsPrefix}
-use Rattle.mx_keeper.specs.Places.{PlaceView}
-use Rattle.mx_room.specs.Offer.{Offered}
+use Rattle.mx_dock.specs.Journal.{IsPrefix, since, entries_of}
+use Rattle.mx_keeper.specs.Places.{PlaceView, is_at}
 use Rattle.mx_keeper.specs.declared.refusals.CallError.{CallError}
-use Rattle.mx_shard.specs.LoneRoom.{Call, to_offer, to_join}
+use Rattle.mx_shard.specs.LoneRoom.{Call, to_host, to_ask, sent_call}
 use Rattle.mx_shard.specs.Journal.{Entry, record_of, IsLegal}
 use Rattle.mx_shard.specs.Shown.{IsAnswer, IsShown}
 use Rattle.mx_shard.specs.Told.{tells_shown}
@@ -17,12 +16,18 @@ use Rattle.mx_room.specs.declared.queries.Denied.TheVariants.{NotFound}
 use Rattle.mx_engine.specs.Places.{place_code}
 use Rattle.mx_engine.specs.Views.{BerthView, after_turn}
 use Rattle.mx_engine.specs.Calls.{entries_added}
-use Rattle.mx_engine.specs.declared.calls.Sending.{Sending}
-use Rattle.mx_engine.specs.declared.calls.Sending.TheVariants as sends
+use Rattle.mx_engine.specs.declared.calls.ShardCall.{ShardCall}
+use Rattle.mx_engine.specs.declared.calls.ShardCall.TheVariants as calls
 
-abbrev pub sent_call : Sending → List ℕ → Offered → Call
-sent_call sends.Offer origin o = to_offer origin o
-sent_call sends.Join origin o = to_join origin o
+abbrev pub call_of : ShardCall → Call
+call_of (calls.Host offered) = to_host offered.now
+call_of (calls.Send sending origin offered) = sent_call sending origin.now offered.now
+call_of (calls.Ask question) = to_ask question.now.origin.now question.now.moment question.now.query.now
+
+-- the room that is called, if one is, is of this place
+abbrev pub IsHere : PlaceView → Option (List ℕ) → Type 0
+IsHere place None = Unit {0}
+IsHere place (Some room) = IsTrue (is_at place room)
 
 -- the entries that a call adds; a query by an event's id alone adds none
 abbrev pub entries_by : List Entry → ℕ → Call → Option (List ℕ) → List Entry
@@ -30,16 +35,18 @@ entries_by journal caller call None = []
 entries_by journal caller call (Some room) = entries_added journal caller room call
 
 -- A caller's berth at the dock of this place holds: the value has this place and this journal, which is legal and begins
--- with all that the caller had seen.
-pub record IsHeld {T : Type 0} (at : PlaceView) (dock : Dock T Entry) (caller : ℕ) (old : BerthView Entry) (new : Berth T Entry) (found_place : PlaceView) (journal : List Entry) : Type 0 where
+-- with all that the caller had seen. What the caller added is all there, and nothing else has its number.
+pub record IsHeld {T E : Type 0} (Legal : List E → Type 0) (caller_of : E → ℕ) (at : PlaceView) (dock : Dock T E) (caller : ℕ) (old : BerthView E) (new : Berth T E) (found_place : PlaceView) (journal : List E) : Type 0 where
   pub mine : IsBerthOf dock new
   pub held : holds new ≡ true
   pub numbered : number new ≡ caller
   pub placed : place new ≡ place_code at
   pub same : own new ≡ after_turn old journal []
   pub found : found_place ≡ at
-  pub legal : IsLegal journal
+  pub legal : Legal journal
   pub later : IsPrefix old.seen journal
+  pub opens : IsPrefix old.opening journal
+  pub its : entries_of caller_of caller (since old.opening journal) ≡ old.added
 
 -- A call of a shard: a legal journal was found, which begins with what was seen, and the answer is by its rooms' records.
 pub record IsTurn (caller : ℕ) (call : Call) (room : Option (List ℕ)) (old new : BerthView Entry) (result : Result Answer CallError) : Type 0 where

@@ -1,15 +1,15 @@
 // Turns of books, each between a take and a put.
 ghost use Rattle.std.specs.Prelude.{◌≡◌, ◌++◌, ◌∷◌, [], IfOk, OnOk, OnErr, IsTrue};
-ghost use Rattle.mx_dock.specs.Dock.{own, number as caller_of};
+ghost use Rattle.mx_dock.specs.Dock.{own};
 ghost use Rattle.mx_keeper.specs.Places.{is_at};
 ghost use Rattle.mx_book.specs.Journal.{hold_of, begun as begun_by};
 ghost use Rattle.mx_book.specs.declared.entries.BookEntry.TheVariants.{Kept, GivenUp};
 ghost use Rattle.mx_engine.specs.Views.{AreSameViews};
 ghost use Rattle.mx_engine.specs.Berths.{AreBerthsAt, IsBerthAt, views_of};
-ghost use Rattle.mx_engine.specs.BookTurns.{IsBookHeld, HasBegun, HasBegunIn, IsOpened, IsOpenedIn, IsEndedBy, IsEndedIn};
+ghost use Rattle.mx_engine.specs.BookTurns.{HasBegun, HasBegunIn, IsOpened, IsOpenedIn, IsEndedBy, IsEndedIn};
 
-use crate::calls::BookDock;
-use crate::docked::DockedBook;
+use crate::calls::take_at;
+use crate::docked::{DockedBook, PaddedDock};
 use mx_book::{Book, Opening, TransactionKey};
 use mx_dock::{Berth, Dock};
 use mx_keeper::{BookRow, CallError, Caller, Keeper, Place, Reply};
@@ -20,7 +20,7 @@ use std::sync::Wait;
 /// Begins the transaction, unless it is begun and not ended or its reply is kept.
 pub(crate) fn begin_in<R: Wait, L: Keeper<Row = BookRow>>(
     rt: &R,
-    docks: &[BookDock<L>],
+    docks: &[PaddedDock<DockedBook<L>>],
     berths: &mut Vec<Berth<DockedBook<L>>>,
     caller: Caller,
     key: &TransactionKey,
@@ -41,7 +41,7 @@ pub(crate) fn begin_in<R: Wait, L: Keeper<Row = BookRow>>(
 /// is given up.
 pub(crate) fn keep_in<R: Wait, L: Keeper<Row = BookRow>>(
     rt: &R,
-    docks: &[BookDock<L>],
+    docks: &[PaddedDock<DockedBook<L>>],
     berths: &mut Vec<Berth<DockedBook<L>>>,
     caller: Caller,
     key: &TransactionKey,
@@ -63,7 +63,7 @@ pub(crate) fn keep_in<R: Wait, L: Keeper<Row = BookRow>>(
 /// Gives up the transaction, which this caller has begun.
 pub(crate) fn give_up_in<R: Wait, L: Keeper<Row = BookRow>>(
     rt: &R,
-    docks: &[BookDock<L>],
+    docks: &[PaddedDock<DockedBook<L>>],
     berths: &mut Vec<Berth<DockedBook<L>>>,
     caller: Caller,
     key: &TransactionKey,
@@ -96,7 +96,7 @@ fn begin_at<R: Wait, L: Keeper<Row = BookRow>>(
     ensures berth { IsBerthAt place dock.now caller berth.new }
     ensures opened { IsOpened caller key.now (own berth.old) (own berth.new) result }
 {
-    let mut docked = take_book_at(rt, place, dock, berth);
+    let mut docked = take_at(rt, place, dock, berth);
     let result = docked.book.open(caller, key);
     dock.put(rt, berth, docked);
     result
@@ -119,7 +119,7 @@ fn keep_at<R: Wait, L: Keeper<Row = BookRow>>(
     ensures kept { OnOk result (IsEndedBy caller key.now (Kept key.now caller reply) (own berth.old) (own berth.new)) }
     ensures given_up { OnErr result (IsEndedBy caller key.now (GivenUp key.now caller) (own berth.old) (own berth.new)) }
 {
-    let mut docked = take_book_at(rt, place, dock, berth);
+    let mut docked = take_at(rt, place, dock, berth);
     let result = keep_or_give_up(&mut docked.book, caller, key, reply);
     dock.put(rt, berth, docked);
     result
@@ -139,7 +139,7 @@ fn give_up_at<R: Wait, L: Keeper<Row = BookRow>>(
     ensures berth { IsBerthAt place dock.now caller berth.new }
     ensures ended { IsEndedBy caller key.now (GivenUp key.now caller) (own berth.old) (own berth.new) }
 {
-    let mut docked = take_book_at(rt, place, dock, berth);
+    let mut docked = take_at(rt, place, dock, berth);
     docked.book.give_up(caller, key);
     dock.put(rt, berth, docked);
 }
@@ -161,23 +161,4 @@ fn keep_or_give_up<L: Keeper<Row = BookRow>>(
         book.give_up(caller, key);
     }
     result
-}
-
-// Takes the book at this place.
-fn take_book_at<R: Wait, L: Keeper<Row = BookRow>>(
-    rt: &R,
-    place: Place,
-    dock: &Dock<DockedBook<L>>,
-    berth: &mut Berth<DockedBook<L>>,
-) -> DockedBook<L>
-    requires { IsBerthAt place dock.now (caller_of berth.old) berth.old }
-    ensures { IsBookHeld place dock.now (caller_of berth.old) (own berth.old) berth.new result.book.value.place result.book.value.journal }
-{
-    let _number = place.number();
-    let _count = place.count();
-    let docked = dock.take(rt, berth);
-    let held = docked.book.place();
-    let _number = held.number();
-    let _count = held.count();
-    docked
 }

@@ -13,12 +13,10 @@ ghost use Rattle.mx_engine.specs.Views.{BerthView, view_at};
 ghost use Rattle.mx_engine.specs.Berths.{AreBerthsAt, views_of};
 ghost use Rattle.mx_engine.specs.Closing.{AreAllBack, AreGathered, IsAllBack, IsWhole, known_at};
 
-use crate::calls::{BookDock, ShardDock};
-use crate::docked::{DockedBook, DockedShard};
+use crate::docked::{Docked, DockedBook, DockedShard, PaddedDock};
 use crate::seats::Seat;
-use crossbeam_utils::CachePadded;
 use mx_book::Book;
-use mx_dock::{Berth, Dock, Journaled};
+use mx_dock::{Berth, Journaled};
 use mx_keeper::{BookRow, Keeper, ShardRow};
 use mx_shard::Shard;
 use std::sync::Wait;
@@ -28,8 +26,8 @@ use std::sync::Wait;
 /// The shards and the books, once all seats are given back. It takes no memory.
 pub(crate) fn close_all<R: Wait, K: Keeper<Row = ShardRow>, L: Keeper<Row = BookRow>>(
     rt: &R,
-    shards: Vec<ShardDock<K>>,
-    books: Vec<BookDock<L>>,
+    shards: Vec<PaddedDock<DockedShard<K>>>,
+    books: Vec<PaddedDock<DockedBook<L>>>,
     first: Seat<K, L>,
     others: Vec<Seat<K, L>>,
 ) -> (Vec<Shard<K>>, Vec<Book<L>>)
@@ -62,8 +60,8 @@ pub(crate) fn close_all<R: Wait, K: Keeper<Row = ShardRow>, L: Keeper<Row = Book
         closed_books,
         ..
     } = first;
-    let shards = close_shards(rt, shards, shard_berths, closed_shards);
-    let books = close_books(rt, books, book_berths, closed_books);
+    let shards = close_docks(rt, shards, shard_berths, closed_shards);
+    let books = close_docks(rt, books, book_berths, closed_books);
     (shards, books)
 }
 
@@ -71,8 +69,8 @@ pub(crate) fn close_all<R: Wait, K: Keeper<Row = ShardRow>, L: Keeper<Row = Book
 
 // Gives the other seats back; the first one then knows what each of them does.
 fn gather<K: Keeper<Row = ShardRow>, L: Keeper<Row = BookRow>>(
-    shards: &[ShardDock<K>],
-    books: &[BookDock<L>],
+    shards: &[PaddedDock<DockedShard<K>>],
+    books: &[PaddedDock<DockedBook<L>>],
     first: &mut Seat<K, L>,
     others: Vec<Seat<K, L>>,
 )
@@ -93,8 +91,8 @@ fn gather<K: Keeper<Row = ShardRow>, L: Keeper<Row = BookRow>>(
 
 // Gives a seat back.
 fn give_back_seat<K: Keeper<Row = ShardRow>, L: Keeper<Row = BookRow>>(
-    shards: &[ShardDock<K>],
-    books: &[BookDock<L>],
+    shards: &[PaddedDock<DockedShard<K>>],
+    books: &[PaddedDock<DockedBook<L>>],
     first: &mut Seat<K, L>,
     other: Seat<K, L>,
 )
@@ -119,7 +117,7 @@ fn give_back_seat<K: Keeper<Row = ShardRow>, L: Keeper<Row = BookRow>>(
 
 // Gives a caller's berths back.
 fn give_back<T: Journaled>(
-    docks: &[CachePadded<Dock<T>>],
+    docks: &[PaddedDock<T>],
     first: &mut Vec<Berth<T>>,
     berths: Vec<Berth<T>>,
 )
@@ -135,92 +133,41 @@ fn give_back<T: Journaled>(
 
 // ---- docks
 
-// The shards, once all berths are given back, in the list that has room for them. It takes no memory.
-fn close_shards<R: Wait, K: Keeper<Row = ShardRow>>(
+// The shards or books, once all berths are given back, in the list that has room for them. It takes no memory.
+fn close_docks<R: Wait, T: Docked>(
     rt: &R,
-    docks: Vec<ShardDock<K>>,
-    berths: Vec<Berth<DockedShard<K>>>,
-    list: Vec<Shard<K>>,
-) -> Vec<Shard<K>>
-    requires all { (known : List (List (BerthView Entry))) × AreAllBack docks.items berths.items known }
+    docks: Vec<PaddedDock<T>>,
+    berths: Vec<Berth<T>>,
+    list: Vec<T::Value>,
+) -> Vec<T::Value>
+    requires all { (known : List (List (BerthView T.Entry))) × AreAllBack docks.items berths.items known }
     requires empty { list.items ≡ [] }
     requires room { length docks.items ≤ vec_capacity list }
     ensures count { length result.items ≡ length docks.items }
-    ensures placed { ArePlaced (shard_places result.items) }
-    ensures legal { All (λ shard. IsLegal shard.journal) result.items }
-    ensures whole { (known : List (List (BerthView Entry))) → AreAllBack docks.items berths.items known → (n : ℕ) (b : Berth (DockedShard K) Entry) → n < length docks.items
-        → IsWhole (λ e. e.caller) (opening (get_or berths.items n b)) (own (get_or berths.items n b) ∷ known_at known n) (get_or (shard_journals result.items) n []) }
+    ensures placed { ArePlaced (map T.place_of result.items) }
+    ensures legal { All (λ value. T.is_legal (T.journal_of value)) result.items }
+    ensures whole { (known : List (List (BerthView T.Entry))) → AreAllBack docks.items berths.items known → (n : ℕ) (b : Berth T T.Entry) → n < length docks.items
+        → IsWhole T.caller (opening (get_or berths.items n b)) (own (get_or berths.items n b) ∷ known_at known n) (get_or (map T.journal_of result.items) n []) }
 {
     let mut berths = berths;
-    let mut shards = list;
+    let mut values = list;
     for dock in docks {
         let berth = berths.remove(0);
-        let shard = close_shard(rt, dock, berth);
-        shards.push_reserved(shard);
+        let value = close_dock(rt, dock, berth);
+        values.push_reserved(value);
     }
-    shards
+    values
 }
 
-// Closes the dock of one shard.
-fn close_shard<R: Wait, K: Keeper<Row = ShardRow>>(
-    rt: &R,
-    dock: ShardDock<K>,
-    berth: Berth<DockedShard<K>>,
-) -> Shard<K>
+// Closes the dock of one shard or book.
+fn close_dock<R: Wait, T: Docked>(rt: &R, dock: PaddedDock<T>, berth: Berth<T>) -> T::Value
     requires { (at : PlaceView) × IsAllBack at (padded_value dock) berth }
-    ensures place { place_code result.place ≡ place berth }
-    ensures within { (result.place.number < result.place.count) × (result.place.count ≤ 64) }
-    ensures legal { IsLegal result.journal }
-    ensures whole { IsWhole (λ e. e.caller) (opening berth) (own berth ∷ given_back berth) result.journal }
+    ensures place { place_code (T.place_of result) ≡ place berth }
+    ensures within { ((T.place_of result).number < (T.place_of result).count) × ((T.place_of result).count ≤ 64) }
+    ensures legal { T.is_legal (T.journal_of result) }
+    ensures whole { IsWhole T.caller (opening berth) (own berth ∷ given_back berth) (T.journal_of result) }
 {
     let docked = dock.into_inner().close(rt, berth);
-    let held = docked.shard.place();
-    let _number = held.number();
-    let _count = held.count();
-    Box::into_inner(docked.shard)
-}
-
-// The books, once all berths are given back, in the list that has room for them. It takes no memory.
-fn close_books<R: Wait, L: Keeper<Row = BookRow>>(
-    rt: &R,
-    docks: Vec<BookDock<L>>,
-    berths: Vec<Berth<DockedBook<L>>>,
-    list: Vec<Book<L>>,
-) -> Vec<Book<L>>
-    requires all { (known : List (List (BerthView BookEntryOf))) × AreAllBack docks.items berths.items known }
-    requires empty { list.items ≡ [] }
-    requires room { length docks.items ≤ vec_capacity list }
-    ensures count { length result.items ≡ length docks.items }
-    ensures placed { ArePlaced (book_places result.items) }
-    ensures legal { All (λ book. IsTrue (is_legal book.journal)) result.items }
-    ensures whole { (known : List (List (BerthView BookEntryOf))) → AreAllBack docks.items berths.items known → (n : ℕ) (b : Berth (DockedBook L) BookEntryOf) → n < length docks.items
-        → IsWhole book_caller (opening (get_or berths.items n b)) (own (get_or berths.items n b) ∷ known_at known n) (get_or (book_journals result.items) n []) }
-{
-    let mut berths = berths;
-    let mut books = list;
-    for dock in docks {
-        let berth = berths.remove(0);
-        let book = close_book(rt, dock, berth);
-        books.push_reserved(book);
-    }
-    books
-}
-
-// Closes the dock of one book.
-fn close_book<R: Wait, L: Keeper<Row = BookRow>>(
-    rt: &R,
-    dock: BookDock<L>,
-    berth: Berth<DockedBook<L>>,
-) -> Book<L>
-    requires { (at : PlaceView) × IsAllBack at (padded_value dock) berth }
-    ensures place { place_code result.place ≡ place berth }
-    ensures within { (result.place.number < result.place.count) × (result.place.count ≤ 64) }
-    ensures legal { IsTrue (is_legal result.journal) }
-    ensures whole { IsWhole book_caller (opening berth) (own berth ∷ given_back berth) result.journal }
-{
-    let docked = dock.into_inner().close(rt, berth);
-    let held = docked.book.place();
-    let _number = held.number();
-    let _count = held.count();
-    Box::into_inner(docked.book)
+    docked.soundness();
+    docked.out_of_box()
 }

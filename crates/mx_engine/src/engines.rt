@@ -16,21 +16,22 @@ ghost use Rattle.mx_engine.specs.Seats.{AreAllSeats, BeginsWithFirstSeat, IsSeat
 ghost use Rattle.mx_engine.specs.Closing.{IsNew, IsWhole, known_at};
 
 use crate::asking::ask_each;
-use crate::calls::{BookDock, Sending, ShardDock, ask_in, host_in, send_in};
+use crate::calls::{Question, ShardCall, call_in};
 use crate::closing::close_all;
+use crate::docked::{DockedBook, DockedShard, PaddedDock};
 use crate::gates::Gate;
 use crate::meeting::meet_each;
 use crate::offers::offers_of;
-use crate::opening::{first_seat, open_books, open_shards, seats_with};
+use crate::opening::{first_seat, open_docks, seats_with};
 use crate::replies::TransactionReply;
 use crate::seats::Seat;
-use crate::transactions::transact;
+use crate::transactions::{Docks, transact};
 use mx_book::TransactionKey;
 use mx_ident::ServerName;
 use mx_keeper::{BookRow, CallError, Keeper, ShardRow};
 use mx_pdu::{Offered, Pdu, Verifier};
 use mx_room::{Moment, Query};
-use mx_shard::Answer;
+use mx_shard::{Answer, Sending};
 use mx_world::World;
 use std::alloc::{AllocError, Global};
 use std::sync::Wait;
@@ -45,8 +46,8 @@ pub const MOST_SEATS: u32 = 64;
 /// returns; nothing says that it does, nor in which order waiting callers come to their turn.
 #[derive(Drop)]
 pub struct Engine<K: Keeper<Row = ShardRow>, L: Keeper<Row = BookRow>, V, G> {
-    shards: Vec<ShardDock<K>>,
-    books: Vec<BookDock<L>>,
+    shards: Vec<PaddedDock<DockedShard<K>>>,
+    books: Vec<PaddedDock<DockedBook<L>>>,
     verifier: V,
     pub(crate) gate: G,
     seats: u32,
@@ -85,8 +86,8 @@ impl<
         ensures verifier { IfOk result (λ made. verifier_of made.0 ≡ verifier) }
     {
         let (shards, books) = world.into_parts();
-        let (shards, shard_berths) = open_shards(rt, alloc, shards)?;
-        let (books, book_berths) = open_books(rt, alloc, books)?;
+        let (shards, shard_berths) = open_docks::<R, DockedShard<K>>(rt, alloc, shards)?;
+        let (books, book_berths) = open_docks::<R, DockedBook<L>>(rt, alloc, books)?;
         let first = first_seat(alloc, shard_berths, book_berths)?;
         let all = seats_with(alloc, &shards, &books, first, seats)?;
         let engine = Engine {
@@ -128,14 +129,10 @@ impl<
     {
         let offered = Offered::of(alloc, event, &self.verifier)?;
         let caller = seat.number;
-        host_in(
-            rt,
-            &self.gate,
-            &self.shards,
-            &mut seat.shards,
-            caller,
-            &offered,
-        )
+        let room = offered.pdu.room_id();
+        let call = ShardCall::Host(&offered);
+        let berths = &mut seat.shards;
+        call_in(rt, &self.gate, &self.shards, berths, caller, room, &call)
     }
 
     /// The reply to a transaction of a server, with these events.
@@ -191,16 +188,12 @@ impl<
         ensures err { OnErr result (IsRefused (seat_number seat.old) key.now events.now
             (shard_views seat.old) (book_views seat.old) (shard_views seat.new) (book_views seat.new)) }
     {
-        transact(
-            rt,
-            alloc,
-            &self.gate,
-            &self.shards,
-            &self.books,
-            seat,
-            key,
-            events,
-        )
+        let docks = Docks {
+            gate: &self.gate,
+            shards: &self.shards,
+            books: &self.books,
+        };
+        transact(rt, alloc, &docks, seat, key, events)
     }
 
     /// Sends the join of a user of a server to its room, which keeps it where it can, and answers what that server is to
@@ -248,16 +241,10 @@ impl<
         ensures books { book_views seat.new ≡ book_views seat.old }
     {
         let caller = seat.number;
-        send_in(
-            rt,
-            &self.gate,
-            &self.shards,
-            &mut seat.shards,
-            caller,
-            Sending::Join,
-            origin,
-            event,
-        )
+        let room = event.pdu.room_id();
+        let call = ShardCall::Send(Sending::Join, origin, event);
+        let berths = &mut seat.shards;
+        call_in(rt, &self.gate, &self.shards, berths, caller, room, &call)
     }
 
     /// The answer to a server's query, at a moment: that of the room which it names, or, of a query by an event's id
@@ -283,17 +270,20 @@ impl<
         ensures books { book_views seat.new ≡ book_views seat.old }
     {
         let caller = seat.number;
+        let question = Question {
+            origin,
+            moment: now,
+            query,
+        };
         match query.room() {
-            Some(room) => ask_in(
+            Some(room) => call_in(
                 rt,
                 &self.gate,
                 &self.shards,
                 &mut seat.shards,
                 caller,
                 room,
-                origin,
-                now,
-                query,
+                &ShardCall::Ask(&question),
             ),
             None => ask_each(
                 rt,
@@ -301,9 +291,7 @@ impl<
                 &self.shards,
                 &mut seat.shards,
                 caller,
-                origin,
-                now,
-                query,
+                &question,
             ),
         }
     }

@@ -4,14 +4,14 @@ ghost use Rattle.mx_dock.specs.Journal.{IsPrefix};
 ghost use Rattle.mx_engine.specs.Views.{view_at, AddsNothing};
 ghost use Rattle.mx_engine.specs.Berths.{AreBerthsAt, caller_of, views_of};
 
-use crossbeam_utils::CachePadded;
-use mx_dock::{Berth, Dock, Journaled};
+use crate::docked::PaddedDock;
+use mx_dock::{Berth, Journaled};
 use std::sync::Wait;
 
 /// At each dock the first of two callers has then seen all that both had seen.
 pub(crate) fn meet_each<R: Wait, T: Journaled>(
     rt: &R,
-    docks: &[CachePadded<Dock<T>>],
+    docks: &[PaddedDock<T>],
     first: &mut Vec<Berth<T>>,
     second: &mut Vec<Berth<T>>,
 )

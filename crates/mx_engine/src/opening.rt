@@ -1,86 +1,50 @@
 // The docks of an engine, and its seats.
-ghost use Rattle.std.specs.Prelude.{◌≡◌, ◌+◌, ◌<◌, ◌≤◌, ℕ, List, [], All, IfOk, OnOk, length, get_or, vec_capacity};
+ghost use Rattle.std.specs.Prelude.{◌≡◌, ◌+◌, ◌<◌, ◌≤◌, ℕ, List, [], All, IfOk, OnOk, length, map, get_or, vec_capacity};
 ghost use Rattle.crossbeam_utils.specs.Padded.{padded_value};
 ghost use Rattle.mx_shard.specs.Journal.{Entry};
 ghost use Rattle.mx_book.specs.declared.entries.BookEntry.{BookEntry as BookEntryOf};
-ghost use Rattle.mx_world.specs.Parts.{shard_places, book_places, ArePlaced};
-ghost use Rattle.mx_world.specs.Worlds.{shard_journals, book_journals};
+ghost use Rattle.mx_world.specs.Parts.{ArePlaced};
 ghost use Rattle.mx_engine.specs.Closing.{AreFirst, AreNext, IsDockOpened};
 
-use crate::calls::{BookDock, ShardDock};
-use crate::docked::{DockedBook, DockedShard};
+use crate::docked::{Docked, DockedBook, DockedShard, PaddedDock};
 use crate::seats::Seat;
 use crossbeam_utils::CachePadded;
-use mx_book::Book;
 use mx_dock::{Berth, Dock, Journaled};
 use mx_keeper::{BookRow, Caller, Keeper, ShardRow};
-use mx_shard::Shard;
 use std::alloc::{AllocError, Global};
 use std::sync::Wait;
 
 // ---- docks
 
-/// A dock of each shard, with its first berth.
-pub(crate) fn open_shards<R: Wait, K: Keeper<Row = ShardRow>>(
+/// A dock of each shard or book, with its first berth.
+pub(crate) fn open_docks<R: Wait, T: Docked>(
     rt: &R,
     alloc: Global,
-    shards: Vec<Shard<K>>,
-) -> Result<(Vec<ShardDock<K>>, Vec<Berth<DockedShard<K>>>), AllocError>
-    requires { ArePlaced (shard_places shards.items) }
-    ensures { IfOk result (λ made. AreFirst (shard_journals shards.items) made.0.items 1 made.1.items) }
+    values: Vec<T::Value>,
+) -> Result<(Vec<PaddedDock<T>>, Vec<Berth<T>>), AllocError>
+    requires { ArePlaced (map T.place_of values.items) }
+    ensures { IfOk result (λ made. AreFirst (map T.journal_of values.items) made.0.items 1 made.1.items) }
 {
     let mut docks = Vec::new(alloc);
     let mut berths = Vec::new(alloc);
-    for shard in shards {
-        let (dock, berth) = open_shard(rt, alloc, shard)?;
+    for value in values {
+        let (dock, berth) = open_dock(rt, alloc, value)?;
         docks.push(dock)?;
         berths.push(berth)?;
     }
     Ok((docks, berths))
 }
 
-// A dock of one shard, with its first berth.
-fn open_shard<R: Wait, K: Keeper<Row = ShardRow>>(
+// A dock of one shard or book, with its first berth.
+fn open_dock<R: Wait, T: Docked>(
     rt: &R,
     alloc: Global,
-    shard: Shard<K>,
-) -> Result<(ShardDock<K>, Berth<DockedShard<K>>), AllocError>
-    ensures { IfOk result (λ made. IsDockOpened shard.journal shard.place (padded_value made.0) made.1) }
+    value: T::Value,
+) -> Result<(PaddedDock<T>, Berth<T>), AllocError>
+    ensures { IfOk result (λ made. IsDockOpened (T.journal_of value) (T.place_of value) (padded_value made.0) made.1) }
 {
-    let shard = Box::new(alloc, shard)?;
-    let (dock, berth) = Dock::open(rt, alloc, DockedShard { shard })?;
-    Ok((CachePadded::new(dock), berth))
-}
-
-/// A dock of each book, with its first berth.
-pub(crate) fn open_books<R: Wait, L: Keeper<Row = BookRow>>(
-    rt: &R,
-    alloc: Global,
-    books: Vec<Book<L>>,
-) -> Result<(Vec<BookDock<L>>, Vec<Berth<DockedBook<L>>>), AllocError>
-    requires { ArePlaced (book_places books.items) }
-    ensures { IfOk result (λ made. AreFirst (book_journals books.items) made.0.items 1 made.1.items) }
-{
-    let mut docks = Vec::new(alloc);
-    let mut berths = Vec::new(alloc);
-    for book in books {
-        let (dock, berth) = open_book(rt, alloc, book)?;
-        docks.push(dock)?;
-        berths.push(berth)?;
-    }
-    Ok((docks, berths))
-}
-
-// A dock of one book, with its first berth.
-fn open_book<R: Wait, L: Keeper<Row = BookRow>>(
-    rt: &R,
-    alloc: Global,
-    book: Book<L>,
-) -> Result<(BookDock<L>, Berth<DockedBook<L>>), AllocError>
-    ensures { IfOk result (λ made. IsDockOpened book.journal book.place (padded_value made.0) made.1) }
-{
-    let book = Box::new(alloc, book)?;
-    let (dock, berth) = Dock::open(rt, alloc, DockedBook { book })?;
+    let value = Box::new(alloc, value)?;
+    let (dock, berth) = Dock::open(rt, alloc, T::in_box(value))?;
     Ok((CachePadded::new(dock), berth))
 }
 
@@ -112,8 +76,8 @@ pub(crate) fn first_seat<K: Keeper<Row = ShardRow>, L: Keeper<Row = BookRow>>(
 /// So many seats, of which this is the first.
 pub(crate) fn seats_with<K: Keeper<Row = ShardRow>, L: Keeper<Row = BookRow>>(
     alloc: Global,
-    shards: &[ShardDock<K>],
-    books: &[BookDock<L>],
+    shards: &[PaddedDock<DockedShard<K>>],
+    books: &[PaddedDock<DockedBook<L>>],
     first: Seat<K, L>,
     count: u32,
 ) -> Result<Vec<Seat<K, L>>, AllocError>
@@ -138,8 +102,8 @@ pub(crate) fn seats_with<K: Keeper<Row = ShardRow>, L: Keeper<Row = BookRow>>(
 // The seats behind the first one.
 fn others_of<K: Keeper<Row = ShardRow>, L: Keeper<Row = BookRow>>(
     alloc: Global,
-    shards: &[ShardDock<K>],
-    books: &[BookDock<L>],
+    shards: &[PaddedDock<DockedShard<K>>],
+    books: &[PaddedDock<DockedBook<L>>],
     first: &mut Seat<K, L>,
     count: u32,
 ) -> Result<Vec<Seat<K, L>>, AllocError>
@@ -165,8 +129,8 @@ fn others_of<K: Keeper<Row = ShardRow>, L: Keeper<Row = BookRow>>(
 // The next seat, which has this number.
 fn next_seat<K: Keeper<Row = ShardRow>, L: Keeper<Row = BookRow>>(
     alloc: Global,
-    shards: &[ShardDock<K>],
-    books: &[BookDock<L>],
+    shards: &[PaddedDock<DockedShard<K>>],
+    books: &[PaddedDock<DockedBook<L>>],
     first: &mut Seat<K, L>,
     number: u32,
 ) -> Result<Seat<K, L>, AllocError>
@@ -193,7 +157,7 @@ fn next_seat<K: Keeper<Row = ShardRow>, L: Keeper<Row = BookRow>>(
 // The next berth of each dock.
 fn next_berths<T: Journaled>(
     alloc: Global,
-    docks: &[CachePadded<Dock<T>>],
+    docks: &[PaddedDock<T>],
     first: &mut Vec<Berth<T>>,
 ) -> Result<Vec<Berth<T>>, AllocError>
     requires { (journals : List (List T.Entry)) × (made : ℕ) × AreFirst journals docks.now made first.old.items }

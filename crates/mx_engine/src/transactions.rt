@@ -10,8 +10,8 @@ ghost use Rattle.mx_engine.specs.Transactions.{IsOffered, AreOffered, SomeOffere
 ghost use Rattle.mx_engine.specs.Berths.{AreBerthsAt, views_of};
 
 use crate::book_turns::{begin_in, give_up_in, keep_in};
-use crate::calls::{BookDock, Sending, ShardDock, send_in};
-use crate::docked::{DockedBook, DockedShard};
+use crate::calls::{ShardCall, call_in};
+use crate::docked::{DockedBook, DockedShard, PaddedDock};
 use crate::gates::Gate;
 use crate::replies::TransactionReply;
 use crate::seats::Seat;
@@ -20,9 +20,25 @@ use mx_dock::Berth;
 use mx_ident::ServerName;
 use mx_keeper::{BookRow, CallError, Caller, Keeper, Reply, ShardRow};
 use mx_pdu::Offered;
+use mx_shard::Sending;
 use mx_world::{Told, outcome_of, reply_body};
 use std::alloc::Global;
 use std::sync::Wait;
+
+/// The docks of an engine, and its gate.
+#[derive(Drop)]
+pub(crate) struct Docks<'a, K: Keeper<Row = ShardRow>, L: Keeper<Row = BookRow>, G> {
+    pub gate: &'a G,
+    pub shards: &'a [PaddedDock<DockedShard<K>>],
+    pub books: &'a [PaddedDock<DockedBook<L>>],
+}
+
+/// The server whose events are offered, by the caller with this number.
+#[derive(Clone, Copy)]
+struct Sender<'a> {
+    caller: Caller,
+    origin: &'a ServerName,
+}
 
 // ---- a transaction
 
@@ -30,18 +46,16 @@ use std::sync::Wait;
 pub(crate) fn transact<R: Wait, K: Keeper<Row = ShardRow>, L: Keeper<Row = BookRow>, G: Gate>(
     rt: &R,
     alloc: Global,
-    gate: &G,
-    shards: &[ShardDock<K>],
-    books: &[BookDock<L>],
+    docks: &Docks<'_, K, L, G>,
     seat: &mut Seat<K, L>,
     key: &TransactionKey,
     events: &[Offered],
 ) -> Result<TransactionReply, CallError>
-    requires shards { AreBerthsAt shards.now seat.old.number seat.old.shards.items }
-    requires books { AreBerthsAt books.now seat.old.number seat.old.books.items }
+    requires shards { AreBerthsAt docks.now.shards.now seat.old.number seat.old.shards.items }
+    requires books { AreBerthsAt docks.now.books.now seat.old.number seat.old.books.items }
     requires ended { (n : ℕ) → IsEnded (view_at (views_of seat.old.books.items) n).added }
-    ensures shards { AreBerthsAt shards.now seat.new.number seat.new.shards.items }
-    ensures books { AreBerthsAt books.now seat.new.number seat.new.books.items }
+    ensures shards { AreBerthsAt docks.now.shards.now seat.new.number seat.new.shards.items }
+    ensures books { AreBerthsAt docks.now.books.now seat.new.number seat.new.books.items }
     ensures ended { (n : ℕ) → IsEnded (view_at (views_of seat.new.books.items) n).added }
     ensures lists { (seat.new.closed_shards ≡ seat.old.closed_shards) × (seat.new.closed_books ≡ seat.old.closed_books) }
     ensures number { seat.new.number ≡ seat.old.number }
@@ -51,22 +65,11 @@ pub(crate) fn transact<R: Wait, K: Keeper<Row = ShardRow>, L: Keeper<Row = BookR
     ensures err { OnErr result (IsRefused seat.old.number key.now events.now (views_of seat.old.shards.items) (views_of seat.old.books.items) (views_of seat.new.shards.items) (views_of seat.new.books.items)) }
 {
     let caller = seat.number;
-    let opening = begin_in(rt, books, &mut seat.books, caller, key)?;
+    let opening = begin_in(rt, docks.books, &mut seat.books, caller, key)?;
     match opening {
         Opening::Kept(reply) => Ok(TransactionReply::Replayed(reply)),
         Opening::Busy => Ok(TransactionReply::Busy),
-        Opening::Fresh => close_begun(
-            rt,
-            alloc,
-            gate,
-            shards,
-            &mut seat.shards,
-            books,
-            &mut seat.books,
-            caller,
-            key,
-            events,
-        ),
+        Opening::Fresh => close_begun(rt, alloc, docks, seat, key, events),
     }
 }
 
@@ -75,43 +78,45 @@ pub(crate) fn transact<R: Wait, K: Keeper<Row = ShardRow>, L: Keeper<Row = BookR
 fn close_begun<R: Wait, K: Keeper<Row = ShardRow>, L: Keeper<Row = BookRow>, G: Gate>(
     rt: &R,
     alloc: Global,
-    gate: &G,
-    shards: &[ShardDock<K>],
-    shard_berths: &mut Vec<Berth<DockedShard<K>>>,
-    books: &[BookDock<L>],
-    book_berths: &mut Vec<Berth<DockedBook<L>>>,
-    caller: Caller,
+    docks: &Docks<'_, K, L, G>,
+    seat: &mut Seat<K, L>,
     key: &TransactionKey,
     events: &[Offered],
 ) -> Result<TransactionReply, CallError>
-    requires shards { AreBerthsAt shards.now caller shard_berths.old.items }
-    requires books { AreBerthsAt books.now caller book_berths.old.items }
-    requires begun { HasBegunIn caller key.now (views_of book_berths.old.items) }
-    ensures shards { AreBerthsAt shards.now caller shard_berths.new.items }
-    ensures books { AreBerthsAt books.now caller book_berths.new.items }
-    ensures same_shards { AreSameViews (views_of shard_berths.old.items) (views_of shard_berths.new.items) }
-    ensures same_books { AreSameViews (views_of book_berths.old.items) (views_of book_berths.new.items) }
-    ensures ok { IfOk result (λ reply. (told : List ToldOf) × AreOffered caller key.now.origin events.now (views_of shard_berths.old.items) (views_of shard_berths.new.items) told
-        × (reply ≡ TransactionReply.Closed (body_of told)) × IsEndedIn caller key.now (KeptEntry key.now caller (body_of told)) (views_of book_berths.old.items) (views_of book_berths.new.items)) }
-    ensures err { OnErr result (SomeOffered caller key.now.origin events.now (views_of shard_berths.old.items) (views_of shard_berths.new.items)
-        × IsEndedIn caller key.now (GivenUp key.now caller) (views_of book_berths.old.items) (views_of book_berths.new.items)) }
+    requires shards { AreBerthsAt docks.now.shards.now seat.old.number seat.old.shards.items }
+    requires books { AreBerthsAt docks.now.books.now seat.old.number seat.old.books.items }
+    requires begun { HasBegunIn seat.old.number key.now (views_of seat.old.books.items) }
+    ensures shards { AreBerthsAt docks.now.shards.now seat.new.number seat.new.shards.items }
+    ensures books { AreBerthsAt docks.now.books.now seat.new.number seat.new.books.items }
+    ensures lists { (seat.new.closed_shards ≡ seat.old.closed_shards) × (seat.new.closed_books ≡ seat.old.closed_books) }
+    ensures number { seat.new.number ≡ seat.old.number }
+    ensures same_shards { AreSameViews (views_of seat.old.shards.items) (views_of seat.new.shards.items) }
+    ensures same_books { AreSameViews (views_of seat.old.books.items) (views_of seat.new.books.items) }
+    ensures ok { IfOk result (λ reply. (told : List ToldOf) × AreOffered seat.old.number key.now.origin events.now (views_of seat.old.shards.items) (views_of seat.new.shards.items) told
+        × (reply ≡ TransactionReply.Closed (body_of told)) × IsEndedIn seat.old.number key.now (KeptEntry key.now seat.old.number (body_of told)) (views_of seat.old.books.items) (views_of seat.new.books.items)) }
+    ensures err { OnErr result (SomeOffered seat.old.number key.now.origin events.now (views_of seat.old.shards.items) (views_of seat.new.shards.items)
+        × IsEndedIn seat.old.number key.now (GivenUp key.now seat.old.number) (views_of seat.old.books.items) (views_of seat.new.books.items)) }
 {
+    let caller = seat.number;
+    let sender = Sender {
+        caller,
+        origin: &key.origin,
+    };
     match reply_to(
         rt,
         alloc,
-        gate,
-        shards,
-        shard_berths,
-        caller,
-        &key.origin,
+        docks.gate,
+        docks.shards,
+        &mut seat.shards,
+        &sender,
         events,
     ) {
         Ok((reply, kept)) => {
-            keep_in(rt, books, book_berths, caller, key, kept)?;
+            keep_in(rt, docks.books, &mut seat.books, caller, key, kept)?;
             Ok(TransactionReply::Closed(reply))
         }
         Err(error) => {
-            give_up_in(rt, books, book_berths, caller, key);
+            give_up_in(rt, docks.books, &mut seat.books, caller, key);
             Err(error)
         }
     }
@@ -124,21 +129,20 @@ fn reply_to<R: Wait, K: Keeper<Row = ShardRow>, G: Gate>(
     rt: &R,
     alloc: Global,
     gate: &G,
-    docks: &[ShardDock<K>],
+    docks: &[PaddedDock<DockedShard<K>>],
     berths: &mut Vec<Berth<DockedShard<K>>>,
-    caller: Caller,
-    origin: &ServerName,
+    sender: &Sender<'_>,
     events: &[Offered],
 ) -> Result<(Reply, Reply), CallError>
-    requires { AreBerthsAt docks.now caller berths.old.items }
-    ensures seated { AreBerthsAt docks.now caller berths.new.items }
+    requires { AreBerthsAt docks.now sender.now.caller berths.old.items }
+    ensures seated { AreBerthsAt docks.now sender.now.caller berths.new.items }
     ensures same { AreSameViews (views_of berths.old.items) (views_of berths.new.items) }
-    ensures ok { IfOk result (λ replies. (told : List ToldOf) × AreOffered caller origin.now events.now (views_of berths.old.items) (views_of berths.new.items) told
+    ensures ok { IfOk result (λ replies. (told : List ToldOf) × AreOffered sender.now.caller sender.now.origin.now events.now (views_of berths.old.items) (views_of berths.new.items) told
         × (replies.0 ≡ body_of told) × (replies.1 ≡ body_of told)) }
-    ensures err { OnErr result (SomeOffered caller origin.now events.now (views_of berths.old.items) (views_of berths.new.items)) }
+    ensures err { OnErr result (SomeOffered sender.now.caller sender.now.origin.now events.now (views_of berths.old.items) (views_of berths.new.items)) }
 {
     let mut told = Vec::new(alloc);
-    offer_each(rt, gate, docks, berths, caller, origin, events, &mut told)?;
+    offer_each(rt, gate, docks, berths, sender, events, &mut told)?;
     let reply = reply_body(alloc, &told)?;
     let kept = reply.clone()?;
     Ok((reply, kept))
@@ -148,22 +152,21 @@ fn reply_to<R: Wait, K: Keeper<Row = ShardRow>, G: Gate>(
 fn offer_each<R: Wait, K: Keeper<Row = ShardRow>, G: Gate>(
     rt: &R,
     gate: &G,
-    docks: &[ShardDock<K>],
+    docks: &[PaddedDock<DockedShard<K>>],
     berths: &mut Vec<Berth<DockedShard<K>>>,
-    caller: Caller,
-    origin: &ServerName,
+    sender: &Sender<'_>,
     events: &[Offered],
     told: &mut Vec<Told>,
 ) -> Result<(), CallError>
-    requires { AreBerthsAt docks.now caller berths.old.items }
-    ensures seated { AreBerthsAt docks.now caller berths.new.items }
+    requires { AreBerthsAt docks.now sender.now.caller berths.old.items }
+    ensures seated { AreBerthsAt docks.now sender.now.caller berths.new.items }
     ensures same { AreSameViews (views_of berths.old.items) (views_of berths.new.items) }
-    ensures ok { OnOk result ((later : List ToldOf) × AreOffered caller origin.now events.now (views_of berths.old.items) (views_of berths.new.items) later
+    ensures ok { OnOk result ((later : List ToldOf) × AreOffered sender.now.caller sender.now.origin.now events.now (views_of berths.old.items) (views_of berths.new.items) later
         × (told.new.items ≡ told.old.items ++ later)) }
-    ensures err { OnErr result (SomeOffered caller origin.now events.now (views_of berths.old.items) (views_of berths.new.items)) }
+    ensures err { OnErr result (SomeOffered sender.now.caller sender.now.origin.now events.now (views_of berths.old.items) (views_of berths.new.items)) }
 {
     for offered in events {
-        offer_next(rt, gate, docks, berths, caller, origin, offered, told)?;
+        offer_next(rt, gate, docks, berths, sender, offered, told)?;
     }
     Ok(())
 }
@@ -172,21 +175,20 @@ fn offer_each<R: Wait, K: Keeper<Row = ShardRow>, G: Gate>(
 fn offer_next<R: Wait, K: Keeper<Row = ShardRow>, G: Gate>(
     rt: &R,
     gate: &G,
-    docks: &[ShardDock<K>],
+    docks: &[PaddedDock<DockedShard<K>>],
     berths: &mut Vec<Berth<DockedShard<K>>>,
-    caller: Caller,
-    origin: &ServerName,
+    sender: &Sender<'_>,
     offered: &Offered,
     told: &mut Vec<Told>,
 ) -> Result<(), CallError>
-    requires { AreBerthsAt docks.now caller berths.old.items }
-    ensures seated { AreBerthsAt docks.now caller berths.new.items }
+    requires { AreBerthsAt docks.now sender.now.caller berths.old.items }
+    ensures seated { AreBerthsAt docks.now sender.now.caller berths.new.items }
     ensures same { AreSameViews (views_of berths.old.items) (views_of berths.new.items) }
-    ensures ok { OnOk result ((one : ToldOf) × IsOffered caller origin.now offered.now (views_of berths.old.items) (views_of berths.new.items) one
+    ensures ok { OnOk result ((one : ToldOf) × IsOffered sender.now.caller sender.now.origin.now offered.now (views_of berths.old.items) (views_of berths.new.items) one
         × (told.new.items ≡ told.old.items ++ one ∷ [])) }
-    ensures err { OnErr result (SomeOffered caller origin.now (offered.now ∷ []) (views_of berths.old.items) (views_of berths.new.items)) }
+    ensures err { OnErr result (SomeOffered sender.now.caller sender.now.origin.now (offered.now ∷ []) (views_of berths.old.items) (views_of berths.new.items)) }
 {
-    let one = offer_one(rt, gate, docks, berths, caller, origin, offered)?;
+    let one = offer_one(rt, gate, docks, berths, sender, offered)?;
     told.push(one)?;
     Ok(())
 }
@@ -195,21 +197,21 @@ fn offer_next<R: Wait, K: Keeper<Row = ShardRow>, G: Gate>(
 fn offer_one<R: Wait, K: Keeper<Row = ShardRow>, G: Gate>(
     rt: &R,
     gate: &G,
-    docks: &[ShardDock<K>],
+    docks: &[PaddedDock<DockedShard<K>>],
     berths: &mut Vec<Berth<DockedShard<K>>>,
-    caller: Caller,
-    origin: &ServerName,
+    sender: &Sender<'_>,
     offered: &Offered,
 ) -> Result<Told, CallError>
-    requires { AreBerthsAt docks.now caller berths.old.items }
-    ensures seated { AreBerthsAt docks.now caller berths.new.items }
+    requires { AreBerthsAt docks.now sender.now.caller berths.old.items }
+    ensures seated { AreBerthsAt docks.now sender.now.caller berths.new.items }
     ensures same { AreSameViews (views_of berths.old.items) (views_of berths.new.items) }
-    ensures ok { IfOk result (IsOffered caller origin.now offered.now (views_of berths.old.items) (views_of berths.new.items)) }
+    ensures ok { IfOk result (IsOffered sender.now.caller sender.now.origin.now offered.now (views_of berths.old.items) (views_of berths.new.items)) }
     ensures err { OnErr result (AddsNothing (views_of berths.old.items) (views_of berths.new.items)) }
 {
     let id = offered.id.clone()?;
-    let sending = Sending::Offer;
-    let answer = send_in(rt, gate, docks, berths, caller, sending, origin, offered)?;
+    let room = offered.pdu.room_id();
+    let call = ShardCall::Send(Sending::Offer, sender.origin, offered);
+    let answer = call_in(rt, gate, docks, berths, sender.caller, room, &call)?;
     Ok(Told {
         id,
         outcome: outcome_of(answer),

@@ -7,6 +7,7 @@ pub mod CellLemmas
 pub mod CloneLemmas
 pub mod AnswerLemmas
 pub mod RefusalLemmas
+pub mod TableLemmas
 pub mod ShardTableLemmas
 pub mod ShardRowLemmas
 pub mod ShardQueryLemmas

@@ -44,8 +44,8 @@ fn are_kept(columns: &[Column]) -> bool
 {
     columns.len() == 4
         && is_integer(&columns[0], b"place", false)
-        && is_text(&columns[1], b"room")
-        && is_text(&columns[2], b"event")
+        && is_text_column(&columns[1], b"room")
+        && is_text_column(&columns[2], b"event")
         && is_integer(&columns[3], b"caller", true)
 }
 
@@ -86,9 +86,9 @@ fn are_replies(columns: &[Column]) -> bool
 {
     columns.len() == 4
         && is_integer(&columns[0], b"place", false)
-        && is_text(&columns[1], b"origin")
-        && is_text(&columns[2], b"txn")
-        && is_text(&columns[3], b"reply")
+        && is_text_column(&columns[1], b"origin")
+        && is_text_column(&columns[2], b"txn")
+        && is_text_column(&columns[3], b"reply")
 }
 
 fn has_one_pair(uniques: &[Items<usize>]) -> bool
@@ -115,7 +115,7 @@ fn is_integer(column: &Column, name: &[u8], not_null: bool) -> bool
     is_plain_column(column, name, not_null) && matches!(column.kind, Kind::Integer)
 }
 
-fn is_text(column: &Column, name: &[u8]) -> bool
+fn is_text_column(column: &Column, name: &[u8]) -> bool
     ensures { IsTrue result ↔ (column.now ≡ plain_column name.now Text true) }
 {
     is_plain_column(column, name, true) && matches!(column.kind, Kind::Text)

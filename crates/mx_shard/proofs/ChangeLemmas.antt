@@ -17,18 +17,18 @@ use Rattle.mx_room.specs.declared.joining.JoinReply.{JoinReply}
 use Rattle.mx_room.specs.declared.joining.JoinReply.TheVariants as join
 use Rattle.mx_room.specs.declared.outcomes.Outcome.{Outcome}
 use Rattle.mx_room.specs.declared.outcomes.Outcome.TheVariants as outcome
-use Rattle.mx_shard.specs.LoneRoom.{to_host, call_room, answer, added, hosting, first_rows}
+use Rattle.mx_shard.specs.LoneRoom.{to_host, call_room, answer, added, hosting, first_rows, sent_call}
 use Rattle.mx_shard.specs.Inside.{no_room, room_at, rows_at, rows_in, IsReady, IsNumbered, number_of, with_prepared}
 use Rattle.mx_shard.specs.Told.{tells_hosted, tells_kept}
-use Rattle.mx_shard.specs.Changes.{IsAnswered, IsNewRoom, IsNewRow, IsHosting, IsOffering, row_for, sent_answer, sent_call, sent_row}
+use Rattle.mx_shard.specs.Changes.{IsAnswered, IsNewRoom, IsNewRow, IsHosting, IsOffering, row_for, sent_answer, sent_row}
 use Rattle.mx_shard.specs.declared.hosting.Hosting.{Hosting}
 use Rattle.mx_shard.specs.declared.hosting.Hosting.TheVariants as hosts
 use Rattle.mx_shard.specs.declared.hosting.NewRoom.{NewRoom}
 use Rattle.mx_shard.specs.declared.offering.NewRow.{NewRow}
 use Rattle.mx_shard.specs.declared.offering.Offering.{Offering}
 use Rattle.mx_shard.specs.declared.offering.Offering.TheVariants as offers
-use Rattle.mx_shard.specs.declared.offering.Sending.{Sending}
-use Rattle.mx_shard.specs.declared.offering.Sending.TheVariants as sends
+use Rattle.mx_shard.specs.declared.sendings.Sending.{Sending}
+use Rattle.mx_shard.specs.declared.sendings.Sending.TheVariants as sends
 use Rattle.mx_shard.specs.declared.answers.Answer.{Answer}
 use Rattle.mx_shard.specs.declared.answers.Answer.TheVariants.{NotHosted, NotHost}
 use Rattle.mx_shard.proofs.RoomLemmas.{room_found, rows_found}

@@ -16,18 +16,18 @@ use Rattle.mx_receipt.specs.Receipt.{Kept, kept_at}
 use Rattle.mx_receipt.specs.declared.verdicts.Verdict.TheVariants.{Accepted}
 use Rattle.mx_room.specs.Offer.{Offered}
 use Rattle.mx_room.specs.RoomView.{RoomView}
-use Rattle.mx_shard.specs.LoneRoom.{Call, call_room, to_host, answer, added, hosting, first_rows}
+use Rattle.mx_shard.specs.LoneRoom.{Call, call_room, to_host, answer, added, hosting, first_rows, sent_call}
 use Rattle.mx_shard.specs.Told.{tells_kept}
 use Rattle.mx_shard.specs.Journal.{Entry, entry_of, record_of, journal_after, stored, IsLegal}
 use Rattle.mx_shard.specs.Holders.{IsHolderKept, IsHolding, holder_of, may_hold}
 use Rattle.mx_shard.specs.Inside.{no_room, room_at, rows_at, rows_in, with_prepared, with_kept, IsReady, IsNumbered, IsMoved, IsSameMap, IsSound, entry_in, journal_of, IsWithin, IsIndexed}
-use Rattle.mx_shard.specs.Changes.{IsAnswered, IsNewRoom, IsNewRow, row_for, sent_call}
+use Rattle.mx_shard.specs.Changes.{IsAnswered, IsNewRoom, IsNewRow, row_for}
 use Rattle.mx_shard.specs.declared.answers.Answer.{Answer}
 use Rattle.mx_shard.specs.declared.answers.Answer.TheVariants.{Hosted}
 use Rattle.mx_shard.specs.declared.holders.Holder.{Holder}
 use Rattle.mx_shard.specs.declared.hosting.NewRoom.{NewRoom}
 use Rattle.mx_shard.specs.declared.offering.NewRow.{NewRow}
-use Rattle.mx_shard.specs.declared.offering.Sending.{Sending}
+use Rattle.mx_shard.specs.declared.sendings.Sending.{Sending}
 use Rattle.mx_shard.specs.declared.journal_places.JournalPlace.{JournalPlace}
 use Rattle.mx_shard.proofs.JournalLaws.{record-after, record-after-other}
 use Rattle.mx_shard.proofs.LegalLaws.{legal-after}

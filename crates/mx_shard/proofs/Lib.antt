@@ -3,6 +3,6 @@ pub mod LegalLaws
 mod Places
 mod RoomLemmas
 mod HolderLemmas
-mod ChangeLemmas
+pub mod ChangeLemmas
 mod IndexLemmas
 mod ReopenLemmas

@@ -8,7 +8,7 @@ use Rattle.mx_room.specs.Joins.{join_reply, row_by_join}
 use Rattle.mx_room.specs.Offer.{Offered, offer_outcome, row_by}
 use Rattle.mx_room.specs.RoomView.{RoomView}
 use Rattle.mx_keeper.specs.declared.rows.ShardRow.{ShardRow}
-use Rattle.mx_shard.specs.LoneRoom.{Call, to_host, to_offer, to_join, answer, added}
+use Rattle.mx_shard.specs.LoneRoom.{Call, to_host, sent_call, answer, added}
 use Rattle.mx_shard.specs.Inside.{room_at, rows_in, number_of, with_prepared}
 use Rattle.mx_shard.specs.declared.answers.Answer.{Answer}
 use Rattle.mx_shard.specs.declared.answers.Answer.TheVariants.{ToOffered, ToJoined}
@@ -18,8 +18,8 @@ use Rattle.mx_shard.specs.declared.hosting.NewRoom.{NewRoom}
 use Rattle.mx_shard.specs.declared.offering.Offering.{Offering}
 use Rattle.mx_shard.specs.declared.offering.Offering.TheVariants as offers
 use Rattle.mx_shard.specs.declared.offering.NewRow.{NewRow}
-use Rattle.mx_shard.specs.declared.offering.Sending.{Sending}
-use Rattle.mx_shard.specs.declared.offering.Sending.TheVariants as sends
+use Rattle.mx_shard.specs.declared.sendings.Sending.{Sending}
+use Rattle.mx_shard.specs.declared.sendings.Sending.TheVariants as sends
 
 -- the answer to a call that adds nothing
 pub record IsAnswered (kept : List Kept) (call : Call) (a : Answer) : Type 0 where
@@ -44,10 +44,6 @@ IsHosting rooms caller o (hosts.Answered a) = IsAnswered (rows_in rooms (room_of
 IsHosting rooms caller o (hosts.Made new) = IsNewRoom rooms caller o new
 
 -- ---- an event that a server sends
-
-abbrev pub sent_call : Sending → List ℕ → Offered → Call
-sent_call sends.Offer origin o = to_offer origin o
-sent_call sends.Join origin o = to_join origin o
 
 -- the answer of a room with events
 abbrev pub sent_answer : Sending → List Kept → List ℕ → Offered → Answer

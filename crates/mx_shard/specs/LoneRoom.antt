@@ -11,6 +11,8 @@ use Rattle.mx_room.specs.declared.hosting.NotARoom.{NotARoom}
 use Rattle.mx_room.specs.declared.queries.Query.{Query}
 use Rattle.mx_room.specs.declared.queries.Query.TheVariants.{Event as ask_event}
 use Rattle.mx_room.specs.declared.queries.Denied.TheVariants.{NotFound}
+use Rattle.mx_shard.specs.declared.sendings.Sending.{Sending}
+use Rattle.mx_shard.specs.declared.sendings.Sending.TheVariants as sends
 use Rattle.mx_shard.specs.declared.answers.Answer.{Answer}
 use Rattle.mx_shard.specs.declared.answers.Answer.TheVariants.{NotHosted, Hosted, AlreadyHosted, NotHost, ToOffered, ToJoined, ToAsked}
 
@@ -28,6 +30,11 @@ call_room (to_host o) = Some (room_of o.pdu)
 call_room (to_offer origin o) = Some (room_of o.pdu)
 call_room (to_join origin o) = Some (room_of o.pdu)
 call_room (to_ask origin now q) = room_named q
+
+-- the call by which a server sends an event
+abbrev pub sent_call : Sending → List ℕ → Offered → Call
+sent_call sends.Offer origin o = to_offer origin o
+sent_call sends.Join origin o = to_join origin o
 
 abbrev pub hosting : Offered → Option NotARoom → Answer
 hosting o None = Hosted o.id

@@ -1,4 +1,7 @@
 // A room's answers.
+ghost use Rattle.std.specs.Prelude.{◌≡◌};
+ghost use Rattle.mx_shard.specs.Told.{tells_shown};
+
 use mx_ident::EventId;
 use mx_room::{Denied, JoinReply, NotARoom, Outcome, QueryReply};
 
@@ -16,4 +19,13 @@ pub enum Answer {
     ToOffered(Outcome),
     ToJoined(JoinReply),
     ToAsked(Result<QueryReply, Denied>),
+}
+
+impl Answer {
+    /// Whether it is what a query gives, and no denial.
+    pub fn is_shown(&self) -> bool
+        ensures { result ≡ tells_shown self.now }
+    {
+        matches!(self, Answer::ToAsked(Ok(_)))
+    }
 }

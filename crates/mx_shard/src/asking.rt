@@ -16,7 +16,7 @@ use std::alloc::{AllocError, Global};
 use std::collections::BTreeMap;
 
 /// The answer to a server's query, at a moment, of these rooms.
-pub(crate) fn answer_in(
+pub(crate) fn answer_among(
     alloc: Global,
     rooms: &[Room],
     numbers: &BTreeMap<RoomId, usize>,

@@ -9,10 +9,12 @@ mod hosting;
 mod journal_places;
 mod offering;
 mod reopening;
+mod sendings;
 mod shards;
 mod storing;
 
 pub use answers::Answer;
 pub use entries::ShardEntry;
 pub use mx_keeper::CallError;
+pub use sendings::Sending;
 pub use shards::Shard;

@@ -2,12 +2,13 @@
 ghost use Rattle.std.specs.Prelude.{◌≡◌, ◌<◌, ◌++◌, ◌∷◌, [], None, All, IfOk, OnOk, OnErr, IsTrue, is_some, length, option_map, slice_set, vec_len, vec_capacity};
 ghost use Rattle.mx_pdu.specs.Event.{room_of};
 ghost use Rattle.mx_shard.specs.Inside.{IsNumbered, IsReady, room_at, rows_in, with_prepared, with_kept};
-ghost use Rattle.mx_shard.specs.LoneRoom.{answer};
+ghost use Rattle.mx_shard.specs.LoneRoom.{answer, sent_call};
 ghost use Rattle.mx_shard.specs.Told.{tells_kept};
-ghost use Rattle.mx_shard.specs.Changes.{IsOffering, row_for as row_of, sent_answer, sent_call, sent_row};
+ghost use Rattle.mx_shard.specs.Changes.{IsOffering, row_for as row_of, sent_answer, sent_row};
 
 use crate::answers::Answer;
 use crate::journal_places::JournalPlace;
+use crate::sendings::Sending;
 use crate::storing::row_for;
 use mx_ident::{RoomId, ServerName};
 use mx_keeper::{Caller, ShardRow};
@@ -15,13 +16,6 @@ use mx_pdu::Offered;
 use mx_room::Room;
 use std::alloc::{AllocError, Global};
 use std::collections::BTreeMap;
-
-/// How a server sends an event to its room: it offers the event, or it sends the join of a user of its own.
-#[derive(Clone, Copy)]
-pub(crate) enum Sending {
-    Offer,
-    Join,
-}
 
 /// An event that the room with this number is prepared to keep, with the answer, and the row that is stored of it.
 #[derive(Drop)]
@@ -57,7 +51,7 @@ pub(crate) fn offering_in(
         return Ok(Offering::Answered(Answer::NotHosted));
     };
     let room = &mut rooms[*number];
-    let (answer, row) = prepare_in(alloc, room, caller, sending, origin, offered)?;
+    let (answer, row) = prepare_with_row(alloc, room, caller, sending, origin, offered)?;
     match row {
         Some(row) => Ok(Offering::Prepared(NewRow {
             number: *number,
@@ -69,7 +63,7 @@ pub(crate) fn offering_in(
 }
 
 // The answer, and the row that is stored of the event where the room is prepared to keep it.
-fn prepare_in(
+fn prepare_with_row(
     alloc: Global,
     room: &mut Room,
     caller: Caller,

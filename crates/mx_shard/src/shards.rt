@@ -4,19 +4,19 @@ ghost use Rattle.mx_keeper.specs.Keeping.{Rose};
 ghost use Rattle.mx_keeper.specs.Places.{is_at};
 ghost use Rattle.mx_keeper.specs.declared.rows.ShardRow.{ShardRow};
 ghost use Rattle.mx_pdu.specs.Event.{room_of};
-ghost use Rattle.mx_shard.specs.Changes.{sent_call};
-ghost use Rattle.mx_shard.specs.LoneRoom.{to_host, to_offer, to_join, to_ask, call_room, answer};
+ghost use Rattle.mx_shard.specs.LoneRoom.{to_host, to_offer, to_join, to_ask, sent_call, call_room, answer};
 ghost use Rattle.mx_shard.specs.Shown.{HasShown, IsAnswer};
 ghost use Rattle.mx_shard.specs.Told.{tells_hosted, tells_kept};
 ghost use Rattle.mx_shard.specs.Journal.{record_of, journal_after, stored, reopened, CanReopen, IsLegal};
 
 use crate::answers::Answer;
-use crate::asking::answer_in;
+use crate::asking::answer_among;
 use crate::holders::Holder;
 use crate::hosting::{Hosting, add_room, hosting_in, remove_room, reserve_room};
 use crate::journal_places::JournalPlace;
-use crate::offering::{Offering, Sending, discard_in, install_in, offering_in};
+use crate::offering::{Offering, discard_in, install_in, offering_in};
 use crate::reopening::reopened_in;
+use crate::sendings::Sending;
 use crate::storing::{store, store_with_place};
 use mx_ident::{EventId, RoomId, ServerName};
 use mx_keeper::{CallError, Caller, Keeper, KeeperFault, Place, ShardRow};
@@ -242,8 +242,10 @@ impl<K: Keeper<Row = ShardRow>> Shard<K> {
         self.send(caller, Sending::Join, origin, offered)
     }
 
-    // Sends an event of a server to its room.
-    fn send(
+    /// Sends an event of a server to its room, as of [`offer`](Shard::offer) or [`join`](Shard::join).
+    ///
+    /// Source: the Matrix specification, Server-Server API, "Checks performed on receipt of a PDU" and "Joining Rooms".
+    pub fn send(
         &mut self,
         caller: Caller,
         sending: Sending,
@@ -319,7 +321,7 @@ impl<K: Keeper<Row = ShardRow>> Shard<K> {
         if self.is_refused {
             return Err(CallError::Storage);
         }
-        let answer = answer_in(
+        let answer = answer_among(
             self.alloc,
             &self.rooms,
             &self.numbers,

@@ -1,10 +1,17 @@
 -- Views that are made one after the other, each at the place of its number.
-use Rattle.std.proofs.Common.{◌≡◌, ℕ, zero, suc, ◌+◌, ◌-◌, ◌<◌, ◌≤◌, List, [], ◌∷◌, ◌++◌, length, drop, get_or, map, replicate, refl, sym, ◌∙◌, ap, arith, inl, inr, length-drop}
-use Rattle.std.proofs.lemmas.List.{length-map, length-replicate, drop-drop, get_or-drop, map_push, length_push, get_or_push, get_or_append_left, replicate_more}
+use Rattle.std.proofs.Common.{◌≡◌, ℕ, zero, suc, ◌+◌, ◌-◌, ◌<◌, ◌≤◌, List, [], ◌∷◌, ◌++◌, length, drop, get_or, map, refl, sym, ◌∙◌, ap, arith, inl, inr, length-drop}
+use Rattle.std.proofs.lemmas.List.{length-map, drop-drop, get_or-drop, map_push, length_push, get_or_push, get_or_append_left}
 use Rattle.std.proofs.Math.Nat.{eq-or-lt_of_le}
+use Rattle.std.specs.Prelude.{All, None}
 use Rattle.mx_keeper.specs.Places.{PlaceView, place_number}
-use Rattle.mx_shard.specs.Journal.{Entry, record_of}
-use Rattle.mx_world.specs.Worlds.{records_of}
+use Rattle.mx_shard.specs.Journal.{record_of}
+use Rattle.mx_shard.specs.View.{ShardView}
+use Rattle.mx_book.specs.Journal.{hold_of}
+use Rattle.mx_book.specs.View.{BookView}
+use Rattle.mx_book.specs.declared.transaction_keys.TransactionKey.{TransactionKey}
+use Rattle.mx_world.specs.Replies.{unopened}
+use Rattle.mx_world.specs.View.{Progress}
+use Rattle.mx_world.specs.Worlds.{journal_at, records_of, shard_journals, statuses_of, status_found, book_journals}
 use Rattle.mx_world.specs.Parts.{ArePlaced}
 
 -- each stands at its place among so many
@@ -24,10 +31,6 @@ numbered-more views place count v each here = λ n d l.
       | inr lt ↦ (let within : n < length (map place views) = omega arith in get_or_append_left (map place views) (place v ∷ []) d n within ∙ each n d lt)
     ]
 
-pub journals-more : {V A : Type 0} (views : List V) (journal : V → List A) (v : V) → map journal views ≡ replicate (length views) [] → journal v ≡ [] → map journal (views ++ v ∷ []) ≡ replicate (length (views ++ v ∷ [])) []
-journals-more views journal v none here =
-    map_push journal views v ∙ ap (λ js. js ++ journal v ∷ []) none ∙ ap (λ j. replicate (length views) [] ++ j ∷ []) here ∙ replicate_more (length views) [] ∙ ap (λ k. replicate k []) (sym (length_push views v))
-
 pub placed-all : {V : Type 0} (views : List V) (place : V → PlaceView) (count : ℕ) → length views ≡ count → 1 ≤ count → count ≤ 64 → AreNumbered views place count → ArePlaced (map place views)
 placed-all views place count all some few each =
     let long : length (map place views) ≡ count = length-map views place ∙ all in
@@ -37,22 +40,26 @@ placed-all views place count all some few each =
       each = λ n d l. each n d (omega arith) ∙ ap (λ k. record { number = n; count = k }) (sym long);
     }
 
-pub same-length : {V A : Type 0} (views : List V) (journal : V → List A) (n : ℕ) → map journal views ≡ replicate n [] → length views ≡ n
-same-length views journal n none = sym (length-map views journal) ∙ ap length none ∙ length-replicate n []
+-- where no journal has an entry, none has one at any place
+blank_at : {V A : Type 0} (journal : V → List A) (views : List V) (k : ℕ) → All (λ view. journal view ≡ []) views → get_or (map journal views) k [] ≡ []
+blank_at journal [] k blank = refl
+blank_at journal (v ∷ views) zero blank = blank 0 v (let l : 0 < length (v ∷ views) = omega arith in l)
+blank_at journal (v ∷ views) (suc k) blank = blank_at journal views k (λ n d l. blank (suc n) d (let m : suc n < length (v ∷ views) = omega (arith, l) in m))
 
--- where no journal has an entry, no room has a record
-nothing_at : (n k : ℕ) → get_or {A = List Entry} (replicate n []) k [] ≡ []
-nothing_at zero k = refl
-nothing_at (suc n) zero = refl
-nothing_at (suc n) (suc k) = nothing_at n k
+pub blank_journal : {V A : Type 0} (journal : V → List A) (views : List V) (name : List ℕ) → All (λ view. journal view ≡ []) views → journal_at (map journal views) name ≡ []
+blank_journal journal views name blank = blank_at journal views (place_number (length (map journal views)) name) blank
 
+-- so no room has a record, and no transaction was opened
 nothing_of : (room : List ℕ) → record_of [] room ≡ []
 unfolding record_of
 nothing_of room = refl
 
-pub no-records : (journals : List (List Entry)) (n : ℕ) → journals ≡ replicate n [] → (room : List ℕ) → records_of journals room ≡ []
-no-records journals n none room =
-    ap (λ js. record_of (get_or js (place_number (length journals) room) []) room) none ∙ ap (λ j. record_of j room) (nothing_at n (place_number (length journals) room)) ∙ nothing_of room
+pub no-records : {K : Type 0} (shards : List (ShardView K)) (room : List ℕ) → All (λ (shard : ShardView K). shard.journal ≡ []) shards → records_of (shard_journals shards) room ≡ []
+no-records {K = K} shards room blank = ap (λ j. record_of j room) (blank_journal (λ (shard : ShardView K). shard.journal) shards room blank) ∙ nothing_of room
+
+pub no-statuses : {L : Type 0} (books : List (BookView L)) (going : List (TransactionKey × Progress)) (p : TransactionKey) → All (λ (book : BookView L). book.journal ≡ []) books → length going ≡ 0 → statuses_of going (book_journals books) p ≡ unopened
+no-statuses {L = L} books [] p blank none = ap (λ j. status_found None (hold_of j p)) (blank_journal (λ (book : BookView L). book.journal) books p.origin blank)
+no-statuses books (entry ∷ going) p blank none = absurd (let e : ⊥ = omega (arith, none) in e)
 
 -- ---- the keepers that are taken one by one
 

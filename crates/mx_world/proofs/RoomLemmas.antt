@@ -26,17 +26,9 @@ use Rattle.mx_shard.specs.declared.answers.Answer.{Answer}
 use Rattle.mx_shard.specs.declared.answers.Answer.TheVariants.{NotHosted, Hosted, AlreadyHosted, NotHost, ToOffered, ToJoined, ToAsked}
 
 -- the answer to an offer tells what becomes of the event
-outcome-answered : (kept : List Kept) (origin : List ℕ) (o : Offered) → outcome_told (answer kept (to_offer origin o)) ≡ outcome_in kept origin o
+pub outcome-answered : (kept : List Kept) (origin : List ℕ) (o : Offered) → outcome_told (answer kept (to_offer origin o)) ≡ outcome_in kept origin o
 outcome-answered [] origin o = refl
 outcome-answered (k ∷ ks) origin o = refl
-
--- so at the journal of the room's place
-pub outcome-at : {K : Type 0} (shards : List (ShardView K)) (n : ℕ) (d : ShardView K) (room origin : List ℕ) (o : Offered) (a : Answer) → n ≡ place_number (length shards) room → n < length shards →
-    a ≡ answer (record_of (get_or shards n d).journal room) (to_offer origin o) → outcome_told a ≡ outcome_in (records_of (shard_journals shards) room) origin o
-outcome-at {K = K} shards n d room origin o a is l e =
-    ap outcome_told e
-    ∙ outcome-answered (record_of (get_or shards n d).journal room) origin o
-    ∙ ap (λ j. outcome_in (record_of j room) origin o) (sym (journal_at-get shards (λ (s : ShardView K). s.journal) n d room is l))
 
 -- a query adds nothing
 pub ask-adds : (kept : List Kept) (b : Bool) (origin : List ℕ) (now : ℕ) (q : Query) → kept ≡ record_alone kept (if b then to_ask origin now q ∷ [] else [])

@@ -31,3 +31,7 @@ pub record IsSoundBook {L : Type 0} (honest open_ : L → Type 0) (read : L → 
   pub here : All (λ entry. IsTrue (is_at book.place (transaction_of entry).origin)) book.journal
   pub legal : IsTrue (is_legal book.journal)
   pub rows : book.is_refused ≡ false → honest book.keeper → open_ book.keeper × (read book.keeper ≡ Some (book_rows book.journal))
+
+-- some view of these is not so
+abbrev pub SomeFilled : {V : Type 0} → (V → Type 0) → List V → Type 0
+SomeFilled {V = V} is_blank views = (n : ℕ) × (n < length views) × ((d : V) → ¬ (is_blank (get_or views n d)))

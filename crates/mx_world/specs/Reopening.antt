@@ -4,7 +4,7 @@ use Rattle.mx_keeper.specs.Keeping.{Rose}
 use Rattle.mx_keeper.specs.Places.{PlaceView}
 use Rattle.mx_keeper.specs.declared.rows.ShardRow.{ShardRow}
 use Rattle.mx_keeper.specs.declared.rows.BookRow.{BookRow}
-use Rattle.mx_shard.specs.Journal.{CanReopen, stored as stored_events, reopened as reopened_events}
+use Rattle.mx_shard.specs.Journal.{stored as stored_events, reopened as reopened_events}
 use Rattle.mx_shard.specs.View.{ShardView}
 use Rattle.mx_book.specs.Journal.{can_reopen, stored as stored_replies, reopened as reopened_replies}
 use Rattle.mx_book.specs.View.{BookView}
@@ -37,15 +37,15 @@ CannotReopen {K = K} {Row = Row} can honest open_ read failed keeper =
     (after : K) × (honest after → honest keeper)
     × (Rose (failed keeper) (failed after) ⊎ (honest after → open_ keeper → (rows : List Row) → read keeper ≡ Some rows → ¬ (can rows)))
 
+-- for some keeper of these there is a reason at the place with its number
+abbrev pub SomeCannot : {K : Type 0} → (PlaceView → K → Type 0) → List K → Type 0
+SomeCannot {K = K} cannot keepers =
+    (n : ℕ) × (n < length keepers) × ((d : K) → cannot (record { number = n; count = length keepers }) (get_or keepers n d))
+
 -- over some keeper of these nothing can be opened at the place with its number
 abbrev pub SomeCannotReopen : {K Row : Type 0} → (PlaceView → List Row → Type 0) → (K → Type 0) → (K → Type 0) → (K → Option (List Row)) → (K → ℕ) → List K → Type 0
-SomeCannotReopen {K = K} can honest open_ read failed keepers =
-    (n : ℕ) × (n < length keepers) × ((d : K) → CannotReopen (can (record { number = n; count = length keepers })) honest open_ read failed (get_or keepers n d))
+SomeCannotReopen can honest open_ read failed keepers = SomeCannot (λ place. CannotReopen (can place) honest open_ read failed) keepers
 
 -- a book at this place can have these rows
 abbrev pub CanReopenBook : PlaceView → List BookRow → Type 0
 CanReopenBook place rows = IsTrue (can_reopen place rows)
-
--- a shard at this place can have these rows
-abbrev pub CanReopenShard : PlaceView → List ShardRow → Type 0
-CanReopenShard place rows = CanReopen place rows

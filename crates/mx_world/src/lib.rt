@@ -5,7 +5,6 @@ mod answers;
 mod bodies;
 mod books;
 mod callers;
-mod making;
 mod numbering;
 mod parts;
 mod reopening;

@@ -1,10 +1,9 @@
 // Calls of rooms, each at the shard of its room.
 ghost use Rattle.std.specs.Prelude.{◌≡◌, ℕ, List, None, Some, IfOk, OnOk, OnErr};
 ghost use Rattle.mx_pdu.specs.Event.{room_of};
-ghost use Rattle.mx_shard.specs.LoneRoom.{to_host, to_offer, to_join, to_ask, answer, record_alone};
+ghost use Rattle.mx_shard.specs.LoneRoom.{to_host, to_offer, to_ask, sent_call, answer, record_alone};
 ghost use Rattle.mx_room.specs.Queries.{room_named};
 ghost use Rattle.mx_shard.specs.Shown.{IsAnswer, IsShown};
-ghost use Rattle.mx_shard.specs.Told.{tells_shown};
 ghost use Rattle.mx_world.specs.Replies.{outcome_in};
 ghost use Rattle.mx_world.specs.Calls.{if_put_to};
 ghost use Rattle.mx_world.specs.Worlds.{shard_journals, records_of};
@@ -19,7 +18,7 @@ use mx_ident::{RoomId, ServerName};
 use mx_keeper::{CallError, Caller, Keeper, ShardRow};
 use mx_pdu::Offered;
 use mx_room::{Denied, Moment, Outcome, Query};
-use mx_shard::{Answer, Shard};
+use mx_shard::{Answer, Sending, Shard};
 
 /// Hosts the room of the event.
 pub(crate) fn host_in<K: Keeper<Row = ShardRow>>(
@@ -60,32 +59,31 @@ pub(crate) fn offer_in<K: Keeper<Row = ShardRow>>(
     ensures last { ShardsLast K.failed shards.old shards.new }
     ensures crash { ShardsLeave K.is_honest K.may_leave (at_error result (Some (to_offer origin.now offered.now))) shards.old shards.new }
 {
-    let number = number_for(offered.pdu.room_id().as_str(), shards.len());
-    let shard = &mut shards[number];
-    let answer = shard.offer(Caller::new(SOLE_CALLER), origin, offered)?;
+    let answer = send_in(shards, Sending::Offer, origin, offered)?;
     Ok(outcome_of(answer))
 }
 
-/// The answer to the join of a user, which a server sends to its room.
-pub(crate) fn join_in<K: Keeper<Row = ShardRow>>(
+/// The answer to an event, which a server sends to its room.
+pub(crate) fn send_in<K: Keeper<Row = ShardRow>>(
     shards: &mut [Shard<K>],
+    sending: Sending,
     origin: &ServerName,
     offered: &Offered,
 ) -> Result<Answer, CallError>
     requires { ArePlaced (shard_places shards.old) }
-    ensures reply { IfOk result (λ a. a ≡ answer (records_of (shard_journals shards.old) (room_of offered.now.pdu)) (to_join origin.now offered.now)) }
+    ensures reply { IfOk result (λ a. a ≡ answer (records_of (shard_journals shards.old) (room_of offered.now.pdu)) (sent_call sending origin.now offered.now)) }
     ensures records { OnOk result ((room : List ℕ) → records_of (shard_journals shards.new) room
-        ≡ record_alone (records_of (shard_journals shards.old) room) (if_put_to room (to_join origin.now offered.now))) }
+        ≡ record_alone (records_of (shard_journals shards.old) room) (if_put_to room (sent_call sending origin.now offered.now))) }
     ensures err { OnErr result (shard_journals shards.new ≡ shard_journals shards.old) }
     ensures places { shard_places shards.new ≡ shard_places shards.old }
     ensures storage { result ≡ Err CallError.Storage → ShardFails K.failed shards.old shards.new (room_of offered.now.pdu) }
     ensures only { OnlyAt (Some (room_of offered.now.pdu)) shards.old shards.new }
     ensures last { ShardsLast K.failed shards.old shards.new }
-    ensures crash { ShardsLeave K.is_honest K.may_leave (at_error result (Some (to_join origin.now offered.now))) shards.old shards.new }
+    ensures crash { ShardsLeave K.is_honest K.may_leave (at_error result (Some (sent_call sending origin.now offered.now))) shards.old shards.new }
 {
     let number = number_for(offered.pdu.room_id().as_str(), shards.len());
     let shard = &mut shards[number];
-    let answer = shard.join(Caller::new(SOLE_CALLER), origin, offered)?;
+    let answer = shard.send(Caller::new(SOLE_CALLER), sending, origin, offered)?;
     Ok(answer)
 }
 
@@ -139,15 +137,9 @@ fn ask_each<K: Keeper<Row = ShardRow>>(
 {
     for shard in shards {
         let answer = shard.ask(origin, now, query)?;
-        if is_shown(&answer) {
+        if answer.is_shown() {
             return Ok(answer);
         }
     }
     Ok(Answer::ToAsked(Err(Denied::NotFound)))
-}
-
-fn is_shown(answer: &Answer) -> bool
-    ensures { result ≡ tells_shown answer.now }
-{
-    matches!(answer, Answer::ToAsked(Ok(_)))
 }

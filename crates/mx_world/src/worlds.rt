@@ -1,5 +1,5 @@
 // The server.
-ghost use Rattle.std.specs.Prelude.{◌≡◌, ◌++◌, ◌∷◌, ◌≤◌, ◌⊎◌, ℕ, List, [], Some, length, map, All, IfOk, OnOk, OnErr, IsTrue};
+ghost use Rattle.std.specs.Prelude.{◌≡◌, ◌++◌, ◌∷◌, ◌≤◌, ◌⊎◌, ℕ, List, [], Some, true, false, length, map, All, IfOk, OnOk, OnErr, IsTrue};
 ghost use Rattle.mx_shard.specs.LoneRoom.{to_ask, call_room};
 ghost use Rattle.mx_shard.specs.Shown.{IsAnswer};
 ghost use Rattle.mx_book.specs.Journal.{IsEnded};
@@ -10,20 +10,20 @@ ghost use Rattle.mx_world.specs.Moves.{RecordsMove, StatusesMove, after_abandon}
 ghost use Rattle.mx_world.specs.Worlds.{shard_journals, book_journals, records_of, statuses_of, records_in, status_in, none_open, is_refused, AtTransaction, Stays, Moves, IsAfter};
 ghost use Rattle.mx_world.specs.Storage.{IsStorageFailure, ChangesOwn, OnlyAt, SomeUnfit};
 ghost use Rattle.mx_world.specs.Crashes.{CrashLeaves, at_error};
-ghost use Rattle.mx_world.specs.Parts.{shard_places, book_places, ArePlaced, IsSoundShard, IsSoundBook};
-ghost use Rattle.mx_world.specs.Reopening.{AreOver, IsReopenedShard, IsReopenedBook, SomeCannotReopen, CanReopenShard, CanReopenBook};
+ghost use Rattle.mx_world.specs.Parts.{shard_places, book_places, ArePlaced, IsSoundShard, IsSoundBook, SomeFilled};
+ghost use Rattle.mx_shard.specs.Journal.{CanReopen};
+ghost use Rattle.mx_world.specs.Reopening.{AreOver, IsReopenedShard, IsReopenedBook, SomeCannotReopen, CanReopenBook};
 ghost use Rattle.mx_world.specs.Inside.{IsSound};
 
-use crate::making::{books_over, shards_over};
-use crate::parts::{books_are_sound, shards_are_sound};
-use crate::reopening::{reopened_books, reopened_shards};
-use crate::rooms::{ask_in, host_in, join_in};
+use crate::parts::{have_no_entry, parts_are_sound};
+use crate::reopening::reopened_parts;
+use crate::rooms::{ask_in, host_in, send_in};
 use crate::steps::{Step, StepReply};
 use crate::transacting::{abandon_in, close_in, next_in, open_in};
 use crate::transactions::Transaction;
 use mx_book::{Book, TransactionKey};
 use mx_keeper::{BookRow, CallError, Keeper, MOST_PLACES, ShardRow};
-use mx_shard::Shard;
+use mx_shard::{Sending, Shard};
 use std::alloc::Global;
 use std::collections::BTreeMap;
 use std::marker::Model;
@@ -77,13 +77,11 @@ impl<K: Keeper<Row = ShardRow>, L: Keeper<Row = BookRow>> World<K, L> {
         ensures storage { result ≡ Err CallError.Storage → SomeUnfit K.is_honest K.is_open K.rows K.failed shard_keepers.items
             ⊎ SomeUnfit L.is_honest L.is_open L.rows L.failed book_keepers.items }
     {
-        let shards = shards_over(alloc, shard_keepers)?;
-        let books = books_over(alloc, book_keepers)?;
-        Ok(World {
-            shards,
-            books,
-            going: BTreeMap::new(alloc),
-        })
+        let world = World::reopen(alloc, shard_keepers, book_keepers)?;
+        if !world.is_blank() {
+            return Err(CallError::Storage);
+        }
+        Ok(world)
     }
 
     /// A server over keepers that may have rows: with a shard over each of the first ones, of the rooms that its rows make,
@@ -109,11 +107,11 @@ impl<K: Keeper<Row = ShardRow>, L: Keeper<Row = BookRow>> World<K, L> {
         ensures shard_rows { IfOk result (λ world. AreOver (IsReopenedShard K.is_honest K.rows K.may_leave) shard_keepers.items world.shards) }
         ensures book_rows { IfOk result (λ world. AreOver (IsReopenedBook L.is_honest L.rows L.may_leave) book_keepers.items world.books) }
         // What became of one of the keepers tells why.
-        ensures storage { result ≡ Err CallError.Storage → SomeCannotReopen CanReopenShard K.is_honest K.is_open K.rows K.failed shard_keepers.items
+        ensures storage { result ≡ Err CallError.Storage → SomeCannotReopen CanReopen K.is_honest K.is_open K.rows K.failed shard_keepers.items
             ⊎ SomeCannotReopen CanReopenBook L.is_honest L.is_open L.rows L.failed book_keepers.items }
     {
-        let shards = reopened_shards(alloc, shard_keepers)?;
-        let books = reopened_books(alloc, book_keepers)?;
+        let shards = reopened_parts::<Shard<K>>(alloc, shard_keepers)?;
+        let books = reopened_parts::<Book<L>>(alloc, book_keepers)?;
         Ok(World::from_parts(alloc, shards, books))
     }
 
@@ -149,8 +147,8 @@ impl<K: Keeper<Row = ShardRow>, L: Keeper<Row = BookRow>> World<K, L> {
         // Where no transaction is open, none is begun and not ended.
         ensures ended { IsTrue (none_open self) → All (λ book. IsEnded book.journal) self.books }
     {
-        shards_are_sound(&self.shards);
-        books_are_sound(&self.books);
+        parts_are_sound(&self.shards);
+        parts_are_sound(&self.books);
         (self.shards, self.books)
     }
 
@@ -195,6 +193,15 @@ impl<K: Keeper<Row = ShardRow>, L: Keeper<Row = BookRow>> World<K, L> {
         ensures only { OnlyAt (Some key.now.origin) self.old.books self.new.books }
     {
         abandon_in(&mut self.books, &mut self.going, key);
+    }
+
+    // Whether no shard and no book has an entry.
+    fn is_blank(&self) -> bool
+        ensures shards { result ≡ true → All (λ shard. shard.journal ≡ []) self.now.shards }
+        ensures books { result ≡ true → All (λ book. book.journal ≡ []) self.now.books }
+        ensures filled { result ≡ false → SomeFilled (λ shard. shard.journal ≡ []) self.now.shards ⊎ SomeFilled (λ book. book.journal ≡ []) self.now.books }
+    {
+        have_no_entry(&self.shards) && have_no_entry(&self.books)
     }
 
     // One step, told by what is kept.
@@ -248,7 +255,7 @@ fn step_in<K: Keeper<Row = ShardRow>, L: Keeper<Row = BookRow>>(
         Step::Next(key) => next_in(shards, going, key),
         Step::Close(key) => close_in(alloc, books, going, key),
         Step::Join { origin, event } => {
-            let answer = join_in(shards, origin, event)?;
+            let answer = send_in(shards, Sending::Join, origin, event)?;
             Ok(StepReply::OfRoom(answer))
         }
         Step::Ask { origin, now, query } => {

@@ -39,7 +39,7 @@ pub loop-number-preserved : goal.loop-number-preserved
 loop-number-preserved g c =
     let berths = c.loop-number.berths.items in
     let n = c.loop-number.number in
-    let call = to_ask c.args.origin.now c.args.now c.args.query.now in
+    let call = to_ask c.args.question.now.origin.now c.args.question.now.moment c.args.question.now.query.now in
     let seated = c.loop-number.invariant.seated in
     let k : n < length berths = subst (λ j. n < j) (sym seated.same) c.loop-number-test.true in
     let t = c.ask_one.ensures.turn in
@@ -81,7 +81,7 @@ pub returns-in-Some-clause-shown : goal.returns-in-Some-clause-shown
 returns-in-Some-clause-shown g c =
     let berths = c.loop-number.berths.items in
     let n = c.loop-number.number in
-    let call = to_ask c.args.origin.now c.args.now c.args.query.now in
+    let call = to_ask c.args.question.now.origin.now c.args.question.now.moment c.args.question.now.query.now in
     let k : n < length berths = subst (λ j. n < j) (sym c.loop-number.invariant.seated.same) c.loop-number-test.true in
     let told = c.in-Some.answer in
     let t : IsAskTurn call (own c.index_mut-berth.result.now) (own c.ask_one.new.berth) (Ok (Some told)) =

@@ -9,5 +9,5 @@ invariant-loop-number g l = record {
   seated : AreBerthsAt l.fn.docks l.fn.caller l.berths.items;
   same : AreSameViews (views_of l.fn.berths.items) (views_of l.berths.items);
   nothing : AddsNothing (views_of l.fn.berths.items) (views_of l.berths.items);
-  none : NoneBefore (to_ask l.fn.origin l.fn.now l.fn.query) (views_of l.berths.items) l.number;
+  none : NoneBefore (to_ask l.fn.question.origin.now l.fn.question.moment l.fn.question.query.now) (views_of l.berths.items) l.number;
 }

@@ -8,13 +8,13 @@ use Rattle.mx_engine.proofs.book_turns.keep_at.Goals as goal
 
 pub keep_or_give_up-result-requires : goal.keep_or_give_up-result-requires
 keep_or_give_up-result-requires g c =
-    let t = c.take_book_at-docked in
+    let t = c.take_at-docked in
     let is = c.deref_mut.ensures.value in
     rw is (held_begun c.args.caller (number c.args.berth.now) c.args.key.now (own c.args.berth.now) t.result.book.value.journal c.requires.berth.numbered c.requires.begun t.ensures.later t.ensures.its t.ensures.legal)
 
 pub put-requires-clause-longer : goal.put-requires-clause-longer
 put-requires-clause-longer g c =
-    let t = c.take_book_at-docked in
+    let t = c.take_at-docked in
     let is = c.deref_mut.ensures.value in
     let k = c.keep_or_give_up-result in
     put-longer (own c.args.berth.now) (own t.new.berth) t.result.book.value.journal k.new.book.journal (end_with c.args.caller c.args.key.now c.args.reply k.result ∷ []) t.ensures.same
@@ -22,7 +22,7 @@ put-requires-clause-longer g c =
 
 pub put-requires-clause-own : goal.put-requires-clause-own
 put-requires-clause-own g c =
-    let t = c.take_book_at-docked in
+    let t = c.take_at-docked in
     let is = c.deref_mut.ensures.value in
     let k = c.keep_or_give_up-result in
     put-own book_caller c.args.caller (number t.new.berth) (own c.args.berth.now) (own t.new.berth) t.result.book.value.journal k.new.book.journal (end_with c.args.caller c.args.key.now c.args.reply k.result ∷ []) (t.ensures.numbered ∙ c.requires.berth.numbered) t.ensures.same
@@ -31,7 +31,7 @@ put-requires-clause-own g c =
 
 pub returns-clause-kept : goal.returns-clause-kept
 returns-clause-kept g c =
-    let t = c.take_book_at-docked in
+    let t = c.take_at-docked in
     let is = c.deref_mut.ensures.value in
     let k = c.keep_or_give_up-result in
     let is_begun = held_begun c.args.caller (number c.args.berth.now) c.args.key.now (own c.args.berth.now) t.result.book.value.journal c.requires.berth.numbered c.requires.begun t.ensures.later t.ensures.its t.ensures.legal in
@@ -42,7 +42,7 @@ returns-clause-kept g c =
 
 pub returns-clause-given_up : goal.returns-clause-given_up
 returns-clause-given_up g c =
-    let t = c.take_book_at-docked in
+    let t = c.take_at-docked in
     let is = c.deref_mut.ensures.value in
     let k = c.keep_or_give_up-result in
     let is_begun = held_begun c.args.caller (number c.args.berth.now) c.args.key.now (own c.args.berth.now) t.result.book.value.journal c.requires.berth.numbered c.requires.begun t.ensures.later t.ensures.its t.ensures.legal in

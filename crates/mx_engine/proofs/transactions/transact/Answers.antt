@@ -8,5 +8,5 @@ returns-in_err-opening-clause-ended g c =
 
 pub returns-in-Fresh-clause-ended : goal.returns-in-Fresh-clause-ended
 returns-in-Fresh-clause-ended g c =
-    closed_all c.args.seat.now.number c.args.key.now c.args.events.now (views_of c.args.seat.now.shards.items) (views_of c.close_begun.new.shard_berths.items) (views_of c.args.seat.now.books.items) (views_of c.begin_in.new.berths.items) (views_of c.close_begun.new.book_berths.items) c.close_begun.result c.in_ok-opening.opening c.in-Fresh.is
+    closed_all c.args.seat.now.number c.args.key.now c.args.events.now (views_of c.args.seat.now.shards.items) (views_of c.close_begun.new.seat.shards.items) (views_of c.args.seat.now.books.items) (views_of c.begin_in.new.berths.items) (views_of c.close_begun.new.seat.books.items) c.close_begun.result c.in_ok-opening.opening c.in-Fresh.is
     c.in_ok-opening.ensures.opened c.close_begun.ensures.ok c.close_begun.ensures.err c.requires.ended

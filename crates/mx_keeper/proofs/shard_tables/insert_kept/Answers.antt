@@ -3,7 +3,8 @@ use Rattle.sqlite.specs.Held.{state}
 use Rattle.sqlite.specs.State.{HasCleanDisk}
 use Rattle.sqlite.proofs.StateLemmas.{survives_then}
 use Rattle.mx_keeper.proofs.StayLemmas.{on_err, stays_not_run, stays_then}
-use Rattle.mx_keeper.proofs.ShardTableLemmas.{inserts_then, commits_then}
+use Rattle.mx_keeper.proofs.ShardTableLemmas.{inserted_kept}
+use Rattle.mx_keeper.proofs.TableLemmas.{inserts_then, commits_then}
 use Rattle.mx_keeper.proofs.shard_tables.insert_kept.Goals as goal
 
 pub returns-in_err-insert-clause-err : goal.returns-in_err-insert-clause-err
@@ -14,7 +15,7 @@ returns-clause-ok g c clean =
     let s = c.execute.ensures.survives.clean in
     let first : HasCleanDisk (state g.S.Store c.prepare.new.self) = omega arith in
     let made = c.in_ok-insert.ensures.ok first in
-    inserts_then _ _ _ _ _ _ c.requires.idle c.requires.schema made.1 _ c.execute.result _ made.0
+    inserts_then (inserted_kept _ _ _ _) _ _ c.requires.idle c.requires.schema made.1 _ c.execute.result _ made.0
     (rw (c.params-to_sql.ensures, c.params-to_sql-2.ensures, c.params-to_sql-3.ensures, c.params-to_sql-4.ensures, to_z-of_z {w = w64} {z = c.args.place} c.ranges.place) at c.execute.ensures.runs clean)
 
 pub returns-clause-err : goal.returns-clause-err
@@ -30,6 +31,6 @@ returns-clause-survives g c =
     let s = c.execute.ensures.survives.clean in
     let first : HasCleanDisk (state g.S.Store c.prepare.new.self) = omega arith in
     let made = c.in_ok-insert.ensures.ok first in
-    commits_then _ _ _ _ _ _ c.requires.idle c.requires.schema made.1 db _ made.0
+    commits_then (inserted_kept _ _ _ _) _ _ c.requires.idle c.requires.schema made.1 db _ made.0
     (rw (c.params-to_sql.ensures, c.params-to_sql-2.ensures, c.params-to_sql-3.ensures, c.params-to_sql-4.ensures, to_z-of_z {w = w64} {z = c.args.place} c.ranges.place) at put)
     ) c.prepare.ensures.survives c.execute.ensures.survives

@@ -24,13 +24,13 @@ offset_bounds-rooms-number c =
 pub returns-in-Some-row-clause-offering : goal.returns-in-Some-row-clause-offering
 returns-in-Some-row-clause-offering c =
     let held : number_of c.args.numbers.now (room_of c.args.offered.now.pdu) ≡ Some c.in-Some.number.now = ap (number_of c.args.numbers.now) (sym c.room_id.ensures) ∙ sym c.in-Some.ensures.value in
-    new_row c.args.rooms.now c.args.numbers.now c.args.caller c.args.sending c.args.origin.now c.args.offered.now c.in-Some.number.now c.index-rooms-number.result c.prepare_in.new.room c.in_ok-answer.answer c.in_ok-answer.row
+    new_row c.args.rooms.now c.args.numbers.now c.args.caller c.args.sending c.args.origin.now c.args.offered.now c.in-Some.number.now c.index-rooms-number.result c.prepare_with_row.new.room c.in_ok-answer.answer c.in_ok-answer.row
     c.requires.numbered held c.in_ok-answer.ensures.answer c.in_ok-answer.ensures.row c.in_ok-answer.ensures.prepared c.in-Some-row.row c.in-Some-row.is
 
 pub returns-in-None-clause-offering : goal.returns-in-None-clause-offering
 returns-in-None-clause-offering c =
     let held : number_of c.args.numbers.now (room_of c.args.offered.now.pdu) ≡ Some c.in-Some.number.now = ap (number_of c.args.numbers.now) (sym c.room_id.ensures) ∙ sym c.in-Some.ensures.value in
-    nothing_new c.args.rooms.now c.args.numbers.now c.args.caller c.args.sending c.args.origin.now c.args.offered.now c.in-Some.number.now c.index-rooms-number.result c.prepare_in.new.room c.in_ok-answer.answer c.in_ok-answer.row
+    nothing_new c.args.rooms.now c.args.numbers.now c.args.caller c.args.sending c.args.origin.now c.args.offered.now c.in-Some.number.now c.index-rooms-number.result c.prepare_with_row.new.room c.in_ok-answer.answer c.in_ok-answer.row
     c.requires.numbered held c.in_ok-answer.ensures.answer c.in_ok-answer.ensures.row c.in_ok-answer.ensures.prepared c.requires.ready c.in-None.is
 
 pub returns-in_err-answer-clause-memory : goal.returns-in_err-answer-clause-memory

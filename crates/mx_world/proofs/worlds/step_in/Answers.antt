@@ -45,7 +45,7 @@ returns-in_err-answer-in-Host-clause-crash g c =
 pub returns-in_err-answer-in-Join-clause-crash : goal.returns-in_err-answer-in-Join-clause-crash
 returns-in_err-answer-in-Join-clause-crash g c =
     rw c.in-Join.is
-    (rows-refused g.K.Keeper.is_honest g.K.Keeper.may_leave g.L.Keeper.is_honest g.L.Keeper.may_leave c.from_residual-in_err-answer-in-Join.result c.in_err-answer-in-Join.field-0.0 (statuses_of c.args.going.now.entries (book_journals c.args.books.now)) (Join c.in-Join.origin c.in-Join.event) (record { shards = c.args.shards.now; books = c.args.books.now; going = c.args.going.now.entries }) (record { shards = c.join_in.new.shards; books = c.args.books.now; going = c.args.going.now.entries }) c.from_residual-in_err-answer-in-Join.ensures.1
+    (rows-refused g.K.Keeper.is_honest g.K.Keeper.may_leave g.L.Keeper.is_honest g.L.Keeper.may_leave c.from_residual-in_err-answer-in-Join.result c.in_err-answer-in-Join.field-0.0 (statuses_of c.args.going.now.entries (book_journals c.args.books.now)) (Join c.in-Join.origin c.in-Join.event) (record { shards = c.args.shards.now; books = c.args.books.now; going = c.args.going.now.entries }) (record { shards = c.send_in.new.shards; books = c.args.books.now; going = c.args.going.now.entries }) c.from_residual-in_err-answer-in-Join.ensures.1
     c.in_err-answer-in-Join.ensures.crash (books-leave g.L.Keeper.is_honest g.L.Keeper.may_leave None c.args.books.now))
 
 pub returns-in_err-answer-in-Ask-clause-crash : goal.returns-in_err-answer-in-Ask-clause-crash

@@ -12,8 +12,8 @@ use Rattle.mx_book.proofs.IndexLemmas.{begun_means, is_some_of, indexed_same, in
 use Rattle.mx_book.proofs.StoredLemmas.{with_row-kept, kept_reply, either_left}
 use Rattle.mx_book.proofs.books.Book.keep.Goals as goal
 
-pub keep_in-requires-clause-some : goal.keep_in-requires-clause-some
-keep_in-requires-clause-some g c =
+pub record_reply-requires-clause-some : goal.record_reply-requires-clause-some
+record_reply-requires-clause-some g c =
     let b = c.self.inside in
     let started = subst (λ js. hold_of js c.args.key.now ≡ begun c.args.caller) (sym (ap (λ (v : BookView _). v.journal) c.self.view_is)) c.requires in
     is_some_of (get transaction_cmp b.callers c.args.key.now) c.args.caller (begun_means b.journal.items b.callers b.replies c.args.key.now c.args.caller c.self.invariant.0 started)
@@ -22,10 +22,10 @@ pub invariant_of-self-in-Ok : goal.invariant_of-self-in-Ok
 invariant_of-self-in-Ok g c =
     let b = c.self.inside in
     let started = subst (λ js. hold_of js c.args.key.now ≡ begun c.args.caller) (sym (ap (λ (v : BookView _). v.journal) c.self.view_is)) c.requires in
-    let added = kept_reply b.journal.items c.args.key.now c.args.caller c.args.reply c.in_ok-row.row c.in_ok-row.ensures c.keep_in.new.journal.items c.keep_in.ensures.journal in (
-      indexed_kept b.journal.items c.keep_in.new.journal.items b.callers c.keep_in.new.callers b.replies c.args.key.now c.args.key.now c.args.caller refl c.self.invariant.0 c.add_reply.new.replies c.args.reply started added c.keep_in.ensures.callers
+    let added = kept_reply b.journal.items c.args.key.now c.args.caller c.args.reply c.in_ok-row.row c.in_ok-row.ensures c.record_reply.new.journal.items c.record_reply.ensures.journal in (
+      indexed_kept b.journal.items c.record_reply.new.journal.items b.callers c.record_reply.new.callers b.replies c.args.key.now c.args.key.now c.args.caller refl c.self.invariant.0 c.add_reply.new.replies c.args.reply started added c.record_reply.ensures.callers
           (subst (λ (xs : List BookEntry). IsMoved b.replies c.add_reply.new.replies c.args.key.now (Some (length xs))) c.as_slice-place.ensures.value c.in_ok-add_reply.ensures.ok),
-      c.keep_in.ensures.sound,
+      c.record_reply.ensures.sound,
       λ taken honest.
           let was = c.self.invariant.2 taken (c.append.ensures.honest honest) in (
             c.in-Ok.ensures.open honest,
@@ -39,7 +39,7 @@ pub returns-in-Ok-clause-durable : goal.returns-in-Ok-clause-durable
 returns-in-Ok-clause-durable g c = λ honest left may.
     let b = c.self.inside in
     let was = c.self.invariant.2 c.if-self.false (c.append.ensures.honest honest) in
-    let added = kept_reply b.journal.items c.args.key.now c.args.caller c.args.reply c.in_ok-row.row c.in_ok-row.ensures c.keep_in.new.journal.items c.keep_in.ensures.journal in
+    let added = kept_reply b.journal.items c.args.key.now c.args.caller c.args.reply c.in_ok-row.row c.in_ok-row.ensures c.record_reply.new.journal.items c.record_reply.ensures.journal in
     g.met.K.Keeper.settled c.append.new.self left honest (c.in-Ok.ensures.open honest) may ∙ c.in-Ok.ensures.ok honest
     ∙ with_row-kept b.journal.items c.args.key.now c.args.caller c.args.reply c.in_ok-row.row c.in_ok-row.ensures (g.K.Keeper.rows b.keeper) was.1
     ∙ ap (λ (js : List BookEntry). Some (stored js)) (sym added)

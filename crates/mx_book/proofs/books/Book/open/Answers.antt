@@ -5,8 +5,8 @@ use Rattle.mx_book.proofs.books.Book.open.Goals as goal
 
 pub invariant_of-self : goal.invariant_of-self
 invariant_of-self g c =
-    let same = stored-begun c.self.inside.journal.items c.begin_in.new.journal.items c.args.key.now c.args.caller c.in_ok-begin_in.ensures.journal in (
-      c.begin_in.ensures.indexed,
-      c.begin_in.ensures.sound,
+    let same = stored-begun c.self.inside.journal.items c.record_beginning.new.journal.items c.args.key.now c.args.caller c.in_ok-record_beginning.ensures.journal in (
+      c.record_beginning.ensures.indexed,
+      c.record_beginning.ensures.sound,
       λ taken honest. let was = c.self.invariant.2 taken honest in (was.0, was.1 ∙ ap (λ (rows : List BookRow). Some rows) (sym same)),
     )

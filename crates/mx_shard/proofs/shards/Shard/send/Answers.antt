@@ -3,9 +3,8 @@ use Rattle.mx_keeper.specs.Keeping.{with_row}
 use Rattle.mx_keeper.specs.Places.{is_at}
 use Rattle.mx_pdu.specs.Event.{room_of}
 use Rattle.mx_room.specs.RoomView.{RoomView}
-use Rattle.mx_shard.specs.LoneRoom.{answer}
+use Rattle.mx_shard.specs.LoneRoom.{answer, sent_call}
 use Rattle.mx_shard.specs.Told.{tells_kept}
-use Rattle.mx_shard.specs.Changes.{sent_call}
 use Rattle.mx_shard.specs.Journal.{record_of, journal_after, stored}
 use Rattle.mx_shard.specs.Inside.{journal_of, room_at, with_kept, with_prepared}
 use Rattle.mx_shard.specs.View.{ShardView}

@@ -12,6 +12,6 @@ use Rattle.mx_world.proofs.worlds.World.into_parts.Goals as goal
 pub returns-clause-ended : goal.returns-clause-ended
 returns-clause-ended g c =
     let w = c.self.inside in
-    let sound : All (IsSoundBook g.L.Keeper.is_honest g.L.Keeper.is_open g.L.Keeper.rows) w.books.items = subst (All (IsSoundBook g.L.Keeper.is_honest g.L.Keeper.is_open g.L.Keeper.rows)) c.deref-2.ensures.value c.books_are_sound.ensures in
+    let sound : All (IsSoundBook g.L.Keeper.is_honest g.L.Keeper.is_open g.L.Keeper.rows) w.books.items = subst (All (IsSoundBook g.L.Keeper.is_honest g.L.Keeper.is_open g.L.Keeper.rows)) c.deref-2.ensures.value c.parts_are_sound-2.ensures in
     subst (λ (v : WorldView _ _). IsTrue (none_open v) → All (λ (book : BookView _). IsEnded book.journal) v.books) c.self.view_is
     (λ none. all-ended g.L.Keeper.is_honest g.L.Keeper.is_open g.L.Keeper.rows w.books.items w.going.entries c.self.invariant.books_placed sound c.self.invariant.agree (eqb-true (length w.going.entries) 0 none))

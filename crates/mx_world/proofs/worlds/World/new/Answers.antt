@@ -1,20 +1,36 @@
-use Rattle.std.proofs.Common.{length, ap, inl, inr, Err}
+use Rattle.std.proofs.Common.{length, ap, inl, inr, [], false, Err, refl}
+use Rattle.std.proofs.lemmas.Bool.{eqb-true}
+use Rattle.mx_shard.specs.Journal.{CanReopen, stored as stored_events, reopened as reopened_events}
+use Rattle.mx_shard.specs.View.{ShardView}
+use Rattle.mx_book.specs.Journal.{stored, reopened}
+use Rattle.mx_book.specs.View.{BookView}
+use Rattle.mx_world.specs.Reopening.{CanReopenBook}
 use Rattle.mx_world.proofs.RefusalLemmas.{is-storage}
-use Rattle.mx_world.specs.Worlds.{shard_journals}
-use Rattle.mx_world.proofs.MakingLemmas.{same-length, no-records}
+use Rattle.mx_world.proofs.MakingLemmas.{no-records, no-statuses}
+use Rattle.mx_world.proofs.UnfitLemmas.{some-unfit, some-filled, no-rows-open}
 use Rattle.mx_world.proofs.worlds.World.new.Goals as goal
 
 pub returns-clause-records : goal.returns-clause-records
-returns-clause-records g c = no-records (shard_journals c.in_ok-shards.shards.items) (length c.args.shard_keepers.items) c.in_ok-shards.ensures.journals
+returns-clause-records g c = λ room. no-records c.in_ok-world.world.shards room (c.is_blank.ensures.shards c.if-not-is_blank.false)
 
-pub returns-clause-shards : goal.returns-clause-shards
-returns-clause-shards g c = same-length c.in_ok-shards.shards.items (λ shard. shard.journal) (length c.args.shard_keepers.items) c.in_ok-shards.ensures.journals
+pub returns-clause-statuses : goal.returns-clause-statuses
+returns-clause-statuses g c = λ p. no-statuses c.in_ok-world.world.books c.in_ok-world.world.going p (c.is_blank.ensures.books c.if-not-is_blank.false) (eqb-true (length c.in_ok-world.world.going) 0 c.in_ok-world.ensures.none_open)
 
-pub returns-clause-books : goal.returns-clause-books
-returns-clause-books g c = same-length c.in_ok-books.books.items (λ book. book.journal) (length c.args.book_keepers.items) c.in_ok-books.ensures.journals
+pub returns-in_err-world-clause-storage : goal.returns-in_err-world-clause-storage
+returns-in_err-world-clause-storage g c = λ is.
+    elim (c.in_err-world.ensures.storage (ap (λ e. Err e) (is-storage c.from_residual.result c.in_err-world.field-0.0 c.from_residual.ensures.1 is))) [
+      | inl why ↦ inl (some-unfit g.K.Keeper.is_honest g.K.Keeper.is_open g.K.Keeper.rows g.K.Keeper.failed c.args.shard_keepers.items CanReopen no-rows-open why)
+      | inr why ↦ inr (some-unfit g.L.Keeper.is_honest g.L.Keeper.is_open g.L.Keeper.rows g.L.Keeper.failed c.args.book_keepers.items CanReopenBook (λ place. refl) why)
+    ]
 
-pub returns-in_err-shards-clause-storage : goal.returns-in_err-shards-clause-storage
-returns-in_err-shards-clause-storage g c = λ is. inl (c.in_err-shards.ensures.storage (ap (λ e. Err e) (is-storage c.from_residual.result c.in_err-shards.field-0.0 c.from_residual.ensures.1 is)))
-
-pub returns-in_err-books-clause-storage : goal.returns-in_err-books-clause-storage
-returns-in_err-books-clause-storage g c = λ is. inr (c.in_err-books.ensures.storage (ap (λ e. Err e) (is-storage c.from_residual-in_err-books.result c.in_err-books.field-0.0 c.from_residual-in_err-books.ensures.1 is)))
+pub returns-then-not-is_blank-clause-storage : goal.returns-then-not-is_blank-clause-storage
+returns-then-not-is_blank-clause-storage g c = λ _.
+    let made = c.in_ok-world.ensures in
+    elim (c.is_blank.ensures.filled c.if-not-is_blank.true) [
+      | inl filled ↦ inl (some-filled g.K.Keeper.is_honest g.K.Keeper.is_open g.K.Keeper.rows g.K.Keeper.failed c.args.shard_keepers.items
+          (λ (shard : ShardView _). shard.keeper) (λ (shard : ShardView _). shard.journal) stored_events reopened_events refl (λ keeper. record { keeper = keeper; journal = []; place = record { number = 0; count = 0 }; is_refused = false })
+          c.in_ok-world.world.shards made.shards (λ n k v l. let over = made.shard_rows n k v l in (over.journal, over.rows)) filled)
+      | inr filled ↦ inr (some-filled g.L.Keeper.is_honest g.L.Keeper.is_open g.L.Keeper.rows g.L.Keeper.failed c.args.book_keepers.items
+          (λ (book : BookView _). book.keeper) (λ (book : BookView _). book.journal) stored reopened refl (λ keeper. record { keeper = keeper; journal = []; place = record { number = 0; count = 0 }; is_refused = false })
+          c.in_ok-world.world.books made.books (λ n k v l. let over = made.book_rows n k v l in (over.journal, over.rows)) filled)
+    ]
