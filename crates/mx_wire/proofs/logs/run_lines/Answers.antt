@@ -1,4 +1,4 @@
-use Rattle.std.proofs.Common.{◌≡◌, ◌∙◌, List, ℕ, subst}
+use Rattle.std.proofs.Common.{◌≡◌, List, ℕ, subst, rules}
 use Rattle.mx_wire.specs.LineRuns.{AreAnswered}
 use Rattle.mx_wire.specs.LineSteps.{nothing_yet}
 use Rattle.mx_wire.specs.Lines.{lines_of}
