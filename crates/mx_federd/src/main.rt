@@ -11,11 +11,12 @@ mod replaying;
 
 use checking::check_event;
 use command_line::{Command, CommandLineError};
+use mx_http::ServerRuntime;
 use mx_server::{ServeOptions, serve};
 use mx_wire::read_all;
 use output::{Failure, MISUSED, SUCCESS, lines_of, report, report_server, write_to};
 use replaying::replay;
-use std::alloc::{AllocError, Global};
+use std::alloc::{AllocError, AllocGlobal, Global};
 use std::env;
 use std::io::{self, Read, Write};
 use std::process::ExitCode;
@@ -86,25 +87,35 @@ fn words_of(rt: &HostRuntime) -> io::Result<Vec<String>> {
     Ok(words)
 }
 
+// Does what the words ask for, and gives the exit status.
+fn status_by<R: ServerRuntime, I: Read, W: Write, E: Write>(
+    rt: &R,
+    host: &HostRuntime,
+    words: &[String],
+    input: &mut I,
+    out: &mut W,
+    err: &mut E,
+) -> u8 {
+    match main_with(rt.alloc(), words, input, out, err) {
+        Asked::Ended(status) => status,
+        Asked::Serve(options) => match serve(rt, host, options, out, err) {
+            Ok(()) => SUCCESS,
+            Err(error) => report_server(error, err),
+        },
+    }
+}
+
 fn main(rt: HostRuntime) -> ExitCode {
-    let asked = match words_of(&rt) {
-        Ok(words) => main_with(
-            rt.alloc(),
+    let status = match words_of(&rt) {
+        Ok(words) => status_by(
+            &rt,
+            &rt,
             &words,
             &mut rt.stdin(),
             &mut rt.stdout(),
             &mut rt.stderr(),
         ),
-        Err(error) => Asked::Ended(report(Failure::of_io(error), &mut rt.stderr())),
-    };
-    let status = match asked {
-        Asked::Ended(status) => status,
-        Asked::Serve(options) => {
-            match serve(&rt, &rt, options, &mut rt.stdout(), &mut rt.stderr()) {
-                Ok(()) => SUCCESS,
-                Err(error) => report_server(error, &mut rt.stderr()),
-            }
-        }
+        Err(error) => report(Failure::of_io(error), &mut rt.stderr()),
     };
     ExitCode::from(status)
 }
