@@ -19,6 +19,7 @@ use replaying::replay;
 use std::alloc::{AllocError, AllocGlobal, Global};
 use std::env;
 use std::io::{self, Read, Write};
+use std::net::{Net, TcpListener, TcpStream};
 use std::process::ExitCode;
 
 /// What the words of the command line leave to do.
@@ -88,14 +89,17 @@ fn words_of(rt: &HostRuntime) -> io::Result<Vec<String>> {
 }
 
 // Does what the words ask for, and gives the exit status.
-fn status_by<R: ServerRuntime, I: Read, W: Write, E: Write>(
+fn status_by<R, I: Read, W: Write, E: Write>(
     rt: &R,
     host: &HostRuntime,
     words: &[String],
     input: &mut I,
     out: &mut W,
     err: &mut E,
-) -> u8 {
+) -> u8
+where
+    R: ServerRuntime + Net<Listener = TcpListener, Stream = TcpStream>,
+{
     match main_with(rt.alloc(), words, input, out, err) {
         Asked::Ended(status) => status,
         Asked::Serve(options) => match serve(rt, host, options, out, err) {
