@@ -11,7 +11,6 @@ mod replaying;
 
 use checking::check_event;
 use command_line::{Command, CommandLineError};
-use mx_http::ServerRuntime;
 use mx_server::{ServeOptions, serve};
 use mx_wire::read_all;
 use output::{Failure, MISUSED, SUCCESS, lines_of, report, report_server, write_to};
@@ -21,6 +20,10 @@ use std::env;
 use std::io::{self, Read, Write};
 use std::net::{Net, TcpListener, TcpStream};
 use std::process::ExitCode;
+use std::random::RandomSource;
+use std::sync::Wait;
+use std::thread::Threads;
+use std::time::Clock;
 
 /// What the words of the command line leave to do.
 #[derive(Debug, Drop)]
@@ -98,7 +101,17 @@ fn status_by<R, I: Read, W: Write, E: Write>(
     err: &mut E,
 ) -> u8
 where
-    R: ServerRuntime + Net<Listener = TcpListener, Stream = TcpStream>,
+    R: Threads
+        + Wait
+        + Clock
+        + Eprint
+        + Net<Listener = TcpListener, Stream = TcpStream>
+        + RandomSource
+        + AllocGlobal
+        + Copy
+        + Drop
+        + Send
+        + Sync,
 {
     match main_with(rt.alloc(), words, input, out, err) {
         Asked::Ended(status) => status,
