@@ -114,6 +114,12 @@ fn serve_words<'a>(alloc: Global) -> Result<clap::Command<'a>, AllocError> {
         .long("host")
         .action(ArgAction::Set)
         .help("A file of lines of a log, each of which hosts a room at the start");
+    let stop = Arg::new(alloc, "stop-on-storage")
+        .long("stop-on-storage")
+        .action(ArgAction::SetTrue)
+        .help(
+            "End with status 1 once a file of rows has failed, so that a supervisor starts it again",
+        );
     clap::Command::new(alloc, "serve")
         .about("Answers other servers' requests on 127.0.0.1")
         .arg(name_word(alloc))?
@@ -122,7 +128,8 @@ fn serve_words<'a>(alloc: Global) -> Result<clap::Command<'a>, AllocError> {
         .arg(threads)?
         .arg(shards_word(alloc))?
         .arg(connections)?
-        .arg(host)
+        .arg(host)?
+        .arg(stop)
 }
 
 fn chosen(alloc: Global, matches: &ArgMatches) -> Result<Command, CommandLineError> {
@@ -181,6 +188,7 @@ fn options_of(
         shards,
         connections,
         rooms,
+        stop_on_storage: given.get_flag("stop-on-storage"),
     }))
 }
 

@@ -17,7 +17,7 @@ use output::{Failure, MISUSED, SUCCESS, lines_of, report, report_server, write_t
 use replaying::replay;
 use std::alloc::{AllocError, AllocGlobal, Global};
 use std::env;
-use std::io::{self, Read, Write};
+use std::io::{self, ErrorKind, Read, Write};
 use std::net::{Net, TcpListener, TcpStream};
 use std::process::ExitCode;
 use std::random::RandomSource;
@@ -83,6 +83,18 @@ fn check<W: Write>(alloc: Global, bytes: &[u8], out: &mut W) -> Result<(), Failu
     write_to(out, &lines)
 }
 
+// The words of the command line, or the exit status where they can't be had: 2 where one is no UTF-8.
+fn words_or_status(rt: &HostRuntime) -> Result<Vec<String>, u8> {
+    match words_of(rt) {
+        Ok(words) => Ok(words),
+        Err(error) if error.kind() == ErrorKind::InvalidData => {
+            let _ = rt.stderr().write_all(b"a word is no UTF-8\n");
+            Err(MISUSED)
+        }
+        Err(error) => Err(report(Failure::of_io(error), &mut rt.stderr())),
+    }
+}
+
 fn words_of(rt: &HostRuntime) -> io::Result<Vec<String>> {
     let mut words = Vec::new(rt.alloc());
     for word in env::args(rt)? {
@@ -123,7 +135,7 @@ where
 }
 
 fn main(rt: HostRuntime) -> ExitCode {
-    let status = match words_of(&rt) {
+    let status = match words_or_status(&rt) {
         Ok(words) => status_by(
             &rt,
             &rt,
@@ -132,7 +144,7 @@ fn main(rt: HostRuntime) -> ExitCode {
             &mut rt.stdout(),
             &mut rt.stderr(),
         ),
-        Err(error) => report(Failure::of_io(error), &mut rt.stderr()),
+        Err(status) => status,
     };
     ExitCode::from(status)
 }

@@ -4,7 +4,7 @@ ghost use Rattle.std.specs.IoError.{error_kind};
 ghost use Rattle.mx_federd.specs.Lines.{check_lines};
 
 use crate::checking::{CheckError, Checked};
-use mx_server::ServerError;
+use mx_server::{ServerError, StartError};
 use mx_wire::{InputError, LinesError};
 use std::alloc::{AllocError, Global};
 use std::io::{self, ErrorKind, Write};
@@ -28,6 +28,8 @@ pub enum Failure {
     Storage,
     #[error("failed read or write")]
     ReadOrWrite,
+    #[error("thread")]
+    Thread,
 }
 
 impl Failure {
@@ -102,17 +104,23 @@ pub fn report<E: Write>(failure: Failure, err: &mut E) -> u8
     REFUSED
 }
 
-/// Says in one line on `err` why a server does not serve, where that can be written, and gives the exit status. What a line
-/// that hosts no room is answered was said before.
-pub fn report_server<E: Write>(error: ServerError, err: &mut E) -> u8
+/// Says on `err` why a server does not serve, and in a second line what that is about, where that can be written, and gives
+/// the exit status. What a line that hosts no room is answered was said before.
+pub fn report_server<E: Write>(refused: StartError, err: &mut E) -> u8
     ensures { result ≡ REFUSED }
 {
-    match error {
+    let StartError { error, cause } = refused;
+    let status = match error {
         ServerError::Memory => report(Failure::Memory, err),
         ServerError::Storage => report(Failure::Storage, err),
         ServerError::ReadOrWrite => report(Failure::ReadOrWrite, err),
+        ServerError::Thread => report(Failure::Thread, err),
         ServerError::NotHosted => REFUSED,
+    };
+    if let Some(cause) = cause {
+        let _ = writeln!(err, "{cause}");
     }
+    status
 }
 
 /// The three lines of `check`.

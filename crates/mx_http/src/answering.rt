@@ -1,5 +1,6 @@
 // The replies to the requests of a connection of HTTP/1.1.
 use crate::bodies::{BodyError, WholeBody};
+use crate::endings::Ending;
 use crate::messages::{HttpReply, HttpRequest, Responder};
 use crate::stages::{SharedStage, Stage};
 use bytes::Bytes;
@@ -9,8 +10,9 @@ use http_body_util::Full;
 use hyper::body::Incoming;
 use hyper::header::{self, HeaderValue};
 use hyper::service::Service;
-use hyper::{Request, Response, StatusCode};
+use hyper::{Request, Response, StatusCode, Uri};
 use std::alloc::{AllocError, AllocGlobal, Global};
+use std::net::Net;
 use std::rc::Rc;
 use std::sync::atomic::{AtomicBool, Ordering};
 use std::sync::{Arc, Mutex, Wait};
@@ -38,21 +40,84 @@ impl From<AllocError> for Unanswered {
     }
 }
 
-/// A responder, shared by the connections whose requests it answers, and whether it answers one now.
+/// A responder, shared by the connections whose requests it answers; whether it answers one now, and whether its listener
+/// is to end.
 #[derive(Drop)]
 pub struct SharedResponder<A> {
     pub responder: Arc<Mutex<A>>,
     pub is_busy: Arc<AtomicBool>,
+    // None where it serves one connection alone.
+    pub ending: Option<Ending>,
 }
 
 impl<A: Drop> SharedResponder<A> {
     /// The same, to another connection or request.
     pub fn another(&self) -> Result<SharedResponder<A>, AllocError> {
+        let ending = match &self.ending {
+            Some(ending) => Some(ending.another()?),
+            None => None,
+        };
         Ok(SharedResponder {
             responder: Arc::try_clone(&self.responder)?,
             is_busy: Arc::try_clone(&self.is_busy)?,
+            ending,
         })
     }
+
+    // Whether the listener is to end.
+    fn is_ending(&self) -> bool {
+        match &self.ending {
+            Some(ending) => ending.is_wanted(),
+            None => false,
+        }
+    }
+}
+
+impl<A: Responder> SharedResponder<A> {
+    fn end<N: Net>(&self, net: &N) {
+        if let Some(ending) = &self.ending {
+            ending.want(net);
+        }
+    }
+
+    // The reply to a request. Where the responder wants no more of them, its listener is to end.
+    fn respond<R: Wait + Clock + Eprint + Net>(
+        &self,
+        rt: &R,
+        alloc: Global,
+        request: HttpRequest,
+    ) -> HttpReply {
+        self.is_busy.store(true, Ordering::SeqCst);
+        let (reply, is_done) = respond_by(rt, alloc, &self.responder, request);
+        self.is_busy.store(false, Ordering::SeqCst);
+        if is_done {
+            self.end(rt);
+        }
+        reply
+    }
+
+    // The response with a reply. Where the listener is to end, the connection is closed behind it.
+    fn response(&self, alloc: Global, reply: HttpReply) -> Response<Full<Bytes>> {
+        let mut response = response(alloc, reply);
+        if self.is_ending() {
+            let close = HeaderValue::from_static("close");
+            let _ = response.headers_mut().insert(header::CONNECTION, close);
+        }
+        response
+    }
+}
+
+// The reply of a responder, and whether it wants no more requests.
+fn respond_by<R: Wait + Clock + Eprint, A: Responder>(
+    rt: &R,
+    alloc: Global,
+    responder: &Mutex<A>,
+    request: HttpRequest,
+) -> (HttpReply, bool) {
+    let mut responder = responder.lock(rt);
+    let reply = responder.respond(rt, alloc, request);
+    let is_done = responder.is_done();
+    (reply, is_done)
 }
 
 // A request whose body has not come yet, and who answers it.
@@ -72,10 +137,7 @@ fn call_of<I, A: Drop>(
     request: &Request<Incoming<I>>,
 ) -> Result<Call<A>, AllocError> {
     let method = String::from_str(alloc, request.method().as_str())?;
-    let mut target = Vec::new(alloc);
-    if let Some(path) = request.uri().path_and_query() {
-        target.extend_from_slice(path.as_str().as_bytes())?;
-    }
+    let target = target_of(alloc, request.uri())?;
     let authorization = match request.headers().get(header::AUTHORIZATION) {
         Some(value) => Some(value.as_bytes().to_vec(alloc)?),
         None => None,
@@ -94,6 +156,22 @@ fn call_of<I, A: Drop>(
     })
 }
 
+// The target as it was sent: with its scheme and its host, where it has them. hyper gives no fragment.
+fn target_of(alloc: Global, uri: &Uri) -> Result<Vec<u8>, AllocError> {
+    let mut target = Vec::new(alloc);
+    if let Some(scheme) = uri.scheme_str() {
+        target.extend_from_slice(scheme.as_bytes())?;
+        target.extend_from_slice(b"://")?;
+    }
+    if let Some(authority) = uri.authority() {
+        target.extend_from_slice(authority.as_str().as_bytes())?;
+    }
+    if let Some(path) = uri.path_and_query() {
+        target.extend_from_slice(path.as_str().as_bytes())?;
+    }
+    Ok(target)
+}
+
 // Whether the body comes in a transfer coding other than `chunked`.
 fn has_other_coding<I>(request: &Request<Incoming<I>>) -> bool {
     match request.headers().get(header::TRANSFER_ENCODING) {
@@ -103,8 +181,13 @@ fn has_other_coding<I>(request: &Request<Incoming<I>>) -> bool {
 }
 
 impl<A: Responder> Call<A> {
-    // The reply to the request with this body.
-    fn reply<R: Wait + Clock + Eprint>(self, rt: &R, alloc: Global, body: Vec<u8>) -> HttpReply {
+    // The response to the request with this body.
+    fn reply<R: Wait + Clock + Eprint + Net>(
+        self,
+        rt: &R,
+        alloc: Global,
+        body: Vec<u8>,
+    ) -> Response<Full<Bytes>> {
         let Call {
             shared,
             mut request,
@@ -112,23 +195,31 @@ impl<A: Responder> Call<A> {
             ..
         } = self;
         if has_other_coding {
-            return shared.responder.lock(rt).refuse_coding(alloc);
+            let reply = shared.responder.lock(rt).refuse_coding(alloc);
+            return shared.response(alloc, reply);
         }
         request.body = body;
-        shared.is_busy.store(true, Ordering::SeqCst);
-        let reply = shared.responder.lock(rt).respond(rt, alloc, request);
-        shared.is_busy.store(false, Ordering::SeqCst);
-        reply
+        let reply = shared.respond(rt, alloc, request);
+        shared.response(alloc, reply)
     }
 
-    // The reply to a request whose body is too long.
-    fn refusal<R: Wait>(self, rt: &R, alloc: Global) -> HttpReply {
-        self.shared.responder.lock(rt).refuse_body(alloc)
+    // The response to a request whose body is too long.
+    fn refuse_body<R: Wait>(self, rt: &R, alloc: Global) -> Response<Full<Bytes>> {
+        let Call { shared, .. } = self;
+        let reply = shared.responder.lock(rt).refuse_body(alloc);
+        shared.response(alloc, reply)
+    }
+
+    // The response to a request whose body does not come in its coding.
+    fn refuse_framing<R: Wait>(self, rt: &R, alloc: Global) -> Response<Full<Bytes>> {
+        let Call { shared, .. } = self;
+        let reply = shared.responder.lock(rt).refuse_framing(alloc);
+        shared.response(alloc, reply)
     }
 }
 
 // The response to a request, once its body has come or not.
-fn answered<R: Wait + Clock + Eprint, A: Responder>(
+fn answered<R: Wait + Clock + Eprint + Net, A: Responder>(
     rt: &R,
     alloc: Global,
     call: Result<Call<A>, AllocError>,
@@ -136,13 +227,13 @@ fn answered<R: Wait + Clock + Eprint, A: Responder>(
 ) -> Result<Response<Full<Bytes>>, Unanswered> {
     let call = call?;
     call.stage.set(Stage::Reply);
-    let reply = match body {
-        Ok(body) => call.reply(rt, alloc, body),
-        Err(BodyError::TooLong) => call.refusal(rt, alloc),
-        Err(BodyError::Memory) => return Err(Unanswered::Memory),
-        Err(BodyError::Cut) => return Err(Unanswered::Cut),
-    };
-    Ok(response(alloc, reply))
+    match body {
+        Ok(body) => Ok(call.reply(rt, alloc, body)),
+        Err(BodyError::TooLong) => Ok(call.refuse_body(rt, alloc)),
+        Err(BodyError::Malformed) => Ok(call.refuse_framing(rt, alloc)),
+        Err(BodyError::Memory) => Err(Unanswered::Memory),
+        Err(BodyError::Cut) => Err(Unanswered::Cut),
+    }
 }
 
 /// The requests of a connection go to a responder.
@@ -157,7 +248,7 @@ pub struct Answers<R, A> {
 
 impl<R, I, A> Service<Request<Incoming<I>>> for Answers<R, A>
 where
-    R: Wait + Clock + Eprint + AllocGlobal + Copy + Drop,
+    R: Wait + Clock + Eprint + Net + AllocGlobal + Copy + Drop,
     I: Drop,
     A: Responder,
 {
@@ -189,7 +280,7 @@ pub struct Answer<R, A, F> {
 
 impl<R, A, F> Future for Answer<R, A, F>
 where
-    R: Wait + Clock + Eprint + AllocGlobal + Copy + Drop,
+    R: Wait + Clock + Eprint + Net + AllocGlobal + Copy + Drop,
     A: Responder,
     F: Future<Output = Result<Vec<u8>, BodyError>>,
 {
@@ -208,7 +299,7 @@ where
     }
 }
 
-// Where no memory is left for the header, the reply goes without it.
+// Where no memory is left for a header, the reply goes without it.
 fn response(alloc: Global, reply: HttpReply) -> Response<Full<Bytes>> {
     let mut response = Response::new(alloc, Full::new(reply.body));
     *response.status_mut() = StatusCode::from_u16(reply.status).unwrap_or(
@@ -216,5 +307,10 @@ fn response(alloc: Global, reply: HttpReply) -> Response<Full<Bytes>> {
     );
     let kind = HeaderValue::from_static("application/json");
     let _ = response.headers_mut().insert(header::CONTENT_TYPE, kind);
+    if let Some(method) = reply.allowed {
+        if let Ok(allowed) = HeaderValue::from_str(alloc, method) {
+            let _ = response.headers_mut().insert(header::ALLOW, allowed);
+        }
+    }
     response
 }

@@ -19,8 +19,23 @@ pub enum BodyError {
     Memory,
     // It is longer than it may be.
     TooLong,
+    // It does not come in its coding.
+    Malformed,
     // The client went away before it had come.
     Cut,
+}
+
+impl BodyError {
+    // Why hyper does not give the rest of a body.
+    fn of(error: &hyper::Error) -> BodyError {
+        if error.is_out_of_memory() {
+            BodyError::Memory
+        } else if error.is_incomplete_message() {
+            BodyError::Cut
+        } else {
+            BodyError::Malformed
+        }
+    }
 }
 
 impl From<AllocError> for BodyError {
@@ -94,7 +109,7 @@ impl<B> WholeBody<B> {
     }
 }
 
-impl<B: Body<Data = Bytes>> Future for WholeBody<B> {
+impl<B: Body<Data = Bytes, Error = hyper::Error>> Future for WholeBody<B> {
     type Output = Result<Vec<u8>, BodyError>;
 
     ghost can_poll = { λ whole. B.can_poll whole.body };
@@ -105,7 +120,7 @@ impl<B: Body<Data = Bytes>> Future for WholeBody<B> {
         for _ in 0..MOST_PIECES {
             let frame = match ready!(self.body.poll_frame(cx)) {
                 Some(Ok(frame)) => frame,
-                Some(Err(_error)) => return Poll::Ready(Err(BodyError::Cut)),
+                Some(Err(error)) => return Poll::Ready(Err(BodyError::of(&error))),
                 None => return Poll::Ready(self.gathered.take(self.alloc)),
             };
             if let Err(error) = add_frame(&mut self.gathered, &frame) {

@@ -56,7 +56,7 @@ pub type Arrival<S> = (S, Option<ConnectionGuard>);
 
 impl<R, S, A> Opener<Arrival<S>> for Serving<R, A>
 where
-    R: Wait + Clock + Eprint + AllocGlobal + Copy + Drop,
+    R: Wait + Clock + Eprint + Net + AllocGlobal + Copy + Drop,
     S: Source,
     A: Responder,
 {
@@ -101,7 +101,11 @@ where
     let serving = Serving {
         rt,
         keys: RandomState::new(&rt)?,
-        shared: SharedResponder { responder, is_busy },
+        shared: SharedResponder {
+            responder,
+            is_busy,
+            ending: None,
+        },
         largest_body,
         patience: Patience {
             idle: Duration::MAX,

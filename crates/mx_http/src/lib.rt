@@ -5,6 +5,7 @@
 mod answering;
 mod bodies;
 mod connections;
+mod endings;
 mod guards;
 mod listening;
 mod making;
@@ -16,6 +17,6 @@ mod stages;
 
 pub use answering::Unanswered;
 pub use connections::{Source, serve_one};
-pub use listening::{Limits, serve_on};
+pub use listening::{Announcer, Limits, ServeError, serve_on};
 pub use messages::{HttpReply, HttpRequest, Responder};
 pub use runtimes::ServerRuntime;

@@ -1,9 +1,10 @@
 // The connections that are open.
-ghost use Rattle.std.specs.Prelude.{◌≡◌, ◌+◌, ◌≤◌, false, true};
+ghost use Rattle.std.specs.Prelude.{◌≡◌, ◌+◌, ◌≤◌, ◌<◌, ◌↔◌, IsTrue, false, true};
 
 use crate::guards::ConnectionHandle;
 use std::alloc::Global;
 use std::marker::Model;
+use std::mem;
 
 // For how many milliseconds a connection has been idle that may be closed for another.
 const LEAST_IDLE: u64 = 5000;
@@ -69,6 +70,13 @@ impl OpenConnections {
         }
     }
 
+    /// Whether one more may be open.
+    pub fn has_room(&self) -> bool
+        ensures { IsTrue result ↔ (self.now.0 < self.now.1) }
+    {
+        self.taken.len() < self.most
+    }
+
     /// Takes in a connection that a worker serves, and tells whether it is open now. It is not where as many are open as
     /// may be, or no memory is left.
     pub fn add(&mut self, handle: ConnectionHandle, worker: usize) -> bool
@@ -77,6 +85,18 @@ impl OpenConnections {
         ensures most { self.new.1 ≡ self.old.1 }
     {
         self.taken.len() < self.most && self.taken.push(OpenConnection { handle, worker }).is_ok()
+    }
+
+    /// Tells all to end once they are idle.
+    pub fn close_all(&mut self, alloc: Global)
+        ensures none { self.new.0 ≡ 0 }
+        ensures most { self.new.1 ≡ self.old.1 }
+    {
+        let taken = mem::replace(&mut self.taken, Vec::new(alloc));
+        for connection in taken {
+            let OpenConnection { handle, .. } = connection;
+            handle.close();
+        }
     }
 
     /// How many a worker serves.

@@ -192,7 +192,7 @@ impl Fault {
 
     /// The body of the response, in canonical JSON.
     ///
-    /// `AllocError` where no memory was left; [`memory_body`] tells that, and needs none.
+    /// `AllocError` where no memory was left; [`memory_body`] needs none.
     pub(crate) fn body(self, alloc: Global) -> Result<Vec<u8>, AllocError>
         ensures { IfOk result (λ body. body.items ≡ fault_body self) }
     {
@@ -247,14 +247,14 @@ fn close_body<S: TextSink>(sink: &mut S, fault: Fault)
 }
 
 /// The body of [`Fault::Memory`], which needs no memory.
-pub fn memory_body() -> &'static [u8]
+pub(crate) fn memory_body() -> &'static [u8]
     ensures { result.now ≡ fault_body Fault.Memory }
 {
     b"{\"errcode\":\"M_UNKNOWN\",\"error\":\"memory\"}"
 }
 
 /// The body of [`Fault::Storage`], which needs no memory.
-pub fn storage_body() -> &'static [u8]
+pub(crate) fn storage_body() -> &'static [u8]
     ensures { result.now ≡ fault_body Fault.Storage }
 {
     b"{\"errcode\":\"M_UNKNOWN\",\"error\":\"storage\"}"

@@ -12,10 +12,10 @@ mod targets;
 
 pub use bodies::transactions::{events_in, well_formed};
 pub use calls::WireCall;
-pub use faults::{Denial, Fault, InvalidPart, MissingParameter, memory_body, storage_body};
+pub use faults::{Denial, Fault, InvalidPart, MissingParameter};
 pub use replies::joins::join_reply;
 pub use replies::pieces::write_number;
 pub use replies::queries::query_reply;
-pub use replies::{WireReply, fault_reply};
+pub use replies::{ReplyBody, WireReply, fault_reply, memory_reply, storage_reply};
 pub use requests::{LARGEST_BODY, WireRequest, WireServer, read_request};
 pub use targets::routes::{Route, Routes};

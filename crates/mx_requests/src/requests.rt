@@ -23,7 +23,9 @@ pub struct WireServer {
 }
 
 impl WireServer {
-    ghost use Rattle.std.specs.Prelude.{◌≡◌, IfOk};
+    ghost use Rattle.std.specs.Prelude.{◌≡◌, IfOk, option_map};
+    ghost use Rattle.mx_requests.specs.Calls.{route_at};
+    ghost use Rattle.mx_requests.specs.Targets.{method_of};
 
     /// The server of this name. `AllocError` where no memory is left for its routes.
     pub fn new(alloc: Global, name: ServerName) -> Result<WireServer, AllocError>
@@ -31,6 +33,17 @@ impl WireServer {
     {
         let routes = Routes::new(alloc)?;
         Ok(WireServer { name, routes })
+    }
+
+    /// The one method of a target's route; none where no route has its path. It takes no memory.
+    ///
+    /// Source: RFC 9110, "405 Method Not Allowed".
+    pub fn method_at(&self, target: &[u8]) -> Option<&'static str>
+        ensures { option_map (λ method. method.now) result ≡ option_map method_of (route_at target.now) }
+    {
+        let target = text_of(target)?;
+        let route = self.routes.route_of(path_of(target))?;
+        Some(route.method())
     }
 }
 

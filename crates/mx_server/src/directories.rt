@@ -1,11 +1,11 @@
 // The files of a server: its rows, in a directory.
 ghost use Rattle.std.specs.Prelude.{◌≡◌, ◌≤◌, ◌+◌, IfOk, OnOk, length};
 
-use crate::errors::ServerError;
+use crate::errors::{ServerError, StartError};
 use mx_keeper::{BookRow, Keeper, KeeperFault, MOST_PLACES, ShardRow, SqliteKeeper, TableRow};
 use mx_wire::ShardCount;
 use sqlite::{Alter, Connection, Error, ErrorCode, File, FileStore};
-use std::alloc::Global;
+use std::alloc::{AllocError, Global};
 use std::fs;
 
 /// Rows of one kind in a file.
@@ -28,14 +28,14 @@ pub fn open_directory(
     host: &HostRuntime,
     directory: &str,
     shards: ShardCount,
-) -> Result<ServerFiles, ServerError>
+) -> Result<ServerFiles, StartError>
     ensures some_shard { IfOk result (λ files. 1 ≤ length files.shards.items) }
     ensures few_shards { IfOk result (λ files. length files.shards.items ≤ MOST_PLACES) }
     ensures some_book { IfOk result (λ files. 1 ≤ length files.books.items) }
     ensures few_books { IfOk result (λ files. length files.books.items ≤ MOST_PLACES) }
 {
     let count = shards.get();
-    fs::create_dir_all(host, directory).map_err(ServerError::of_io)?;
+    make_directory(host, directory)?;
     let rooms = files_found(host, directory, "shard", count)?;
     let replies = files_found(host, directory, "book", count)?;
     if (rooms.some || replies.some) && (rooms.lacking || replies.lacking) {
@@ -48,6 +48,25 @@ pub fn open_directory(
         shards: rooms,
         books: replies,
     })
+}
+
+fn make_directory(host: &HostRuntime, directory: &str) -> Result<(), StartError> {
+    match fs::create_dir_all(host, directory) {
+        Ok(()) => Ok(()),
+        Err(error) => Err(StartError::of_io(host.alloc(), directory, &error)),
+    }
+}
+
+fn is_there(host: &HostRuntime, path: &str) -> Result<bool, StartError> {
+    match fs::exists(host, path) {
+        Ok(is_there) => Ok(is_there),
+        Err(error) => Err(StartError::of_io(host.alloc(), path, &error)),
+    }
+}
+
+// The rows of a file are not had.
+fn refused(host: &HostRuntime, path: &str, cause: &str) -> StartError {
+    StartError::about(host.alloc(), ServerError::Storage, path, &cause)
 }
 
 // Whether some of the first files of a kind are there, and whether one is not.
@@ -63,16 +82,16 @@ fn files_found(
     directory: &str,
     kind: &str,
     count: usize,
-) -> Result<Presence, ServerError> {
+) -> Result<Presence, StartError> {
     let mut found = Presence {
         some: false,
         lacking: false,
     };
     for number in 0..MOST_PLACES {
         let path = path_of(host.alloc(), directory, kind, number)?;
-        let is_there = fs::exists(host, &path).map_err(ServerError::of_io)?;
+        let is_there = is_there(host, &path)?;
         if number >= count && is_there {
-            return Err(ServerError::Storage);
+            return Err(refused(host, &path, "a file of another number of shards"));
         }
         if number < count {
             found.some |= is_there;
@@ -88,23 +107,36 @@ fn refuse_rows<R: TableRow>(
     directory: &str,
     kind: &str,
     count: usize,
-) -> Result<(), ServerError> {
+) -> Result<(), StartError> {
     for number in 0..count {
         let path = path_of(host.alloc(), directory, kind, number)?;
-        let is_there = fs::exists(host, &path).map_err(ServerError::of_io)?;
-        if is_there && has_rows::<_, R>(keeper_at(host, &path)?)? {
-            return Err(ServerError::Storage);
+        if is_there(host, &path)? && has_rows::<_, R>(host, &path, keeper_at(host, &path)?)? {
+            return Err(refused(host, &path, "it has rows, and another file is missing"));
         }
     }
     Ok(())
 }
 
-fn has_rows<S: Alter + Drop, R: TableRow>(keeper: SqliteKeeper<S, R>) -> Result<bool, ServerError> {
+fn has_rows<S: Alter + Drop, R: TableRow>(
+    host: &HostRuntime,
+    path: &str,
+    keeper: SqliteKeeper<S, R>,
+) -> Result<bool, StartError> {
     let mut keeper = keeper;
     match keeper.rows() {
         Ok(rows) => Ok(!rows.is_empty()),
-        Err(fault) => Err(fault_of(fault)),
+        Err(fault) => Err(unread(host, path, fault)),
     }
+}
+
+// The rows of a file can't be read, or are none.
+fn unread(host: &HostRuntime, path: &str, fault: KeeperFault) -> StartError {
+    StartError::about(
+        host.alloc(),
+        ServerError::of_keeper(fault),
+        path,
+        &"it does not read as rows",
+    )
 }
 
 // The path of a file.
@@ -113,7 +145,7 @@ fn path_of(
     directory: &str,
     kind: &str,
     number: usize,
-) -> Result<String, ServerError> {
+) -> Result<String, StartError> {
     Ok(format!(in alloc; "{directory}/{kind}-{number}.db")?)
 }
 
@@ -123,7 +155,7 @@ fn keepers<R: TableRow>(
     directory: &str,
     kind: &str,
     count: usize,
-) -> Result<Vec<FileRows<R>>, ServerError>
+) -> Result<Vec<FileRows<R>>, StartError>
     ensures { IfOk result (λ keepers. length keepers.items ≡ count) }
 {
     let mut keepers = Vec::new(host.alloc());
@@ -135,34 +167,39 @@ fn keepers<R: TableRow>(
     Ok(keepers)
 }
 
-fn push<K: Drop>(keepers: &mut Vec<K>, keeper: K) -> Result<(), ServerError>
+fn push<K: Drop>(keepers: &mut Vec<K>, keeper: K) -> Result<(), StartError>
     ensures { OnOk result (length keepers.new.items ≡ length keepers.old.items + 1) }
 {
     match keepers.push(keeper) {
         Ok(()) => Ok(()),
-        Err(_refused) => Err(ServerError::Memory),
+        Err(_refused) => Err(StartError::from(AllocError)),
     }
 }
 
 // The rows of a file.
-fn keeper_at<R: TableRow>(host: &HostRuntime, path: &str) -> Result<FileRows<R>, ServerError> {
-    let connection = Connection::open(host, path).map_err(unopened)?;
+fn keeper_at<R: TableRow>(host: &HostRuntime, path: &str) -> Result<FileRows<R>, StartError> {
+    match Connection::open(host, path) {
+        Ok(connection) => adopted(host, path, connection),
+        Err(error) => Err(unopened(host, path, &error)),
+    }
+}
+
+fn adopted<S: Alter + Drop, R: TableRow>(
+    host: &HostRuntime,
+    path: &str,
+    connection: Connection<S>,
+) -> Result<SqliteKeeper<S, R>, StartError> {
     match SqliteKeeper::adopt(host.alloc(), connection) {
         Ok(keeper) => Ok(keeper),
-        Err(refused) => Err(fault_of(refused.fault)),
+        Err(refused) => Err(unread(host, path, refused.fault)),
     }
 }
 
-fn unopened(error: Error) -> ServerError {
-    match error {
+// A file that can't be opened.
+fn unopened(host: &HostRuntime, path: &str, error: &Error) -> StartError {
+    let kind = match error {
         Error::SqliteFailure(ErrorCode::OutOfMemory) => ServerError::Memory,
         _ => ServerError::Storage,
-    }
-}
-
-fn fault_of(fault: KeeperFault) -> ServerError {
-    match fault {
-        KeeperFault::Memory => ServerError::Memory,
-        KeeperFault::Store | KeeperFault::Table => ServerError::Storage,
-    }
+    };
+    StartError::about(host.alloc(), kind, path, error)
 }

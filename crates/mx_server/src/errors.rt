@@ -2,9 +2,10 @@
 ghost use Rattle.std.specs.Prelude.{◌≡◌, ◌↔◌};
 ghost use Rattle.std.specs.IoError.{error_kind};
 
-use mx_keeper::CallError;
+use mx_keeper::{CallError, KeeperFault};
 use mx_wire::InputError;
-use std::alloc::AllocError;
+use std::alloc::{AllocError, Global};
+use std::fmt::Display;
 use std::io::{self, ErrorKind};
 use thiserror::Error;
 
@@ -18,6 +19,9 @@ pub enum ServerError {
     Storage,
     #[error("failed read or write")]
     ReadOrWrite,
+    // A thread can't be started.
+    #[error("thread")]
+    Thread,
     // A line of the file of rooms hosts no room. Its answer was written.
     #[error("a line hosts no room")]
     NotHosted,
@@ -25,25 +29,73 @@ pub enum ServerError {
 
 impl ServerError {
     /// Why a read, a write, or a call of the system failed.
-    pub fn of_io(error: io::Error) -> ServerError
-        ensures memory { (result ≡ ServerError.Memory) ↔ (error_kind error ≡ ErrorKind.OutOfMemory) }
-        ensures other { (result ≡ ServerError.ReadOrWrite) ↔ ¬ (error_kind error ≡ ErrorKind.OutOfMemory) }
+    pub fn of_io(error: &io::Error) -> ServerError
+        ensures memory { (result ≡ ServerError.Memory) ↔ (error_kind error.now ≡ ErrorKind.OutOfMemory) }
+        ensures other { (result ≡ ServerError.ReadOrWrite) ↔ ¬ (error_kind error.now ≡ ErrorKind.OutOfMemory) }
     {
         match error.kind() {
             ErrorKind::OutOfMemory => ServerError::Memory,
             _ => ServerError::ReadOrWrite,
         }
     }
+
+    /// Why rows can't be had.
+    pub(crate) fn of_keeper(fault: KeeperFault) -> ServerError {
+        match fault {
+            KeeperFault::Memory => ServerError::Memory,
+            KeeperFault::Store | KeeperFault::Table => ServerError::Storage,
+        }
+    }
 }
 
-impl From<AllocError> for ServerError {
+/// Why a server does not serve, and what that is about.
+#[derive(Debug, Drop)]
+pub struct StartError {
+    pub error: ServerError,
+    // A path, a port or a line, and what is wrong with it; none where no memory is left to say so.
+    pub cause: Option<String>,
+}
+
+impl StartError {
+    /// The error, about this.
+    pub(crate) fn about<C: Display>(
+        alloc: Global,
+        error: ServerError,
+        what: &str,
+        cause: &C,
+    ) -> StartError
+        ensures { result.error ≡ error }
+    {
+        StartError {
+            error,
+            cause: format!(in alloc; "{what}: {cause}").ok(),
+        }
+    }
+
+    /// A read, a write or a call of the system that failed on this.
+    pub(crate) fn of_io(alloc: Global, what: &str, error: &io::Error) -> StartError {
+        StartError::about(alloc, ServerError::of_io(error), what, error)
+    }
+}
+
+impl From<ServerError> for StartError {
+    ghost use Rattle.std.specs.Prelude.{◌≡◌};
+
+    ghost from_gives = { λ error start. start.error ≡ error };
+
+    fn from(error: ServerError) -> StartError {
+        StartError { error, cause: None }
+    }
+}
+
+impl From<AllocError> for StartError {
     ghost use Rattle.std.specs.Prelude.{◌≡◌};
     ghost use Rattle.mx_server.specs.declared.errors.ServerError.TheVariants.{Memory};
 
-    ghost from_gives = { λ _ e. e ≡ Memory };
+    ghost from_gives = { λ _ start. start.error ≡ Memory };
 
-    fn from(_refused: AllocError) -> ServerError {
-        ServerError::Memory
+    fn from(_refused: AllocError) -> StartError {
+        StartError::from(ServerError::Memory)
     }
 }
 

@@ -7,6 +7,6 @@ mod options;
 mod serving;
 mod workers;
 
-pub use errors::ServerError;
+pub use errors::{ServerError, StartError};
 pub use options::{SeatCount, ServeOptions};
 pub use serving::serve;

@@ -18,6 +18,8 @@ pub struct ServeOptions {
     pub connections: usize,
     // A file of lines, each of which hosts a room.
     pub rooms: Option<String>,
+    // Whether the server ends once what keeps rows has failed.
+    pub stop_on_storage: bool,
 }
 
 /// How many workers a server has: 1 to 64.

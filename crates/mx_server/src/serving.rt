@@ -2,38 +2,40 @@
 ghost use Rattle.std.specs.Prelude.{◌≡◌, ◌≤◌, IfOk, length};
 
 use crate::directories::{ServerFiles, open_directory};
-use crate::errors::ServerError;
+use crate::errors::{ServerError, StartError};
 use crate::options::{SeatCount, ServeOptions};
 use crate::workers::{ServerEngine, Shared, Worker, workers_of};
 use mx_engine::{Engine, OpenGate};
-use mx_http::{Limits, ServerRuntime, serve_on};
+use mx_http::{Announcer, Limits, ServeError, ServerRuntime, serve_on};
 use mx_ident::ServerName;
-use mx_keeper::{BookRow, Keeper, MOST_PLACES, ShardRow, SqliteKeeper};
+use mx_keeper::{BookRow, CallError, Keeper, MOST_PLACES, ShardRow, SqliteKeeper};
 use mx_pdu::PresenceVerifier;
 use mx_wire::{HostLineOutcome, LARGEST_BODY, WireServer, first_line, host_by_line, read_all};
 use mx_world::World;
 use sqlite::Alter;
 use std::alloc::{AllocError, AllocGlobal, Global};
 use std::fs;
-use std::io::Write;
+use std::io::{self, Write};
 use std::net::{Ipv4Addr, TcpListener};
 use std::sync::{Arc, Wait};
 use std::time::Duration;
 
-/// Opens the server's directory, hosts the rooms of its file of rooms, binds its port, says so in a line on `out`, and
-/// answers requests for good. Where a room is not hosted, `err` is told what its line is answered; before it listens, it
-/// is told the directory.
+/// Opens the server's directory, hosts the rooms of its file of rooms, binds its port, starts its threads, says so in a line
+/// on `out`, and then on `err` where its files are, and answers requests: for good, or until what keeps rows has failed,
+/// where it is to end then. Where a room is not hosted, `err` is told what its line is answered. That `err` takes what it
+/// is told does not matter.
 ///
-/// `Storage` where a file of rows can't be opened or does not read, where one is missing beside one with rows, or where
-/// there are more than are asked for. `NotHosted` where a line hosts no room. `ReadOrWrite` where the directory can't be
-/// made, the file of rooms not read, the port not bound, or what is told not written. `Memory` where no memory is left.
+/// `Storage` where a file of rows can't be opened or does not read, where one is missing beside one with rows, where
+/// there are more than are asked for, and at the end of a server that was to end. `NotHosted` where a line hosts no room.
+/// `Thread` where a thread can't be started. `ReadOrWrite` where the directory can't be made, the file of rooms not read,
+/// the port not bound, or the line on `out` not written. `Memory` where no memory is left.
 pub fn serve<R: ServerRuntime, W: Write, E: Write>(
     rt: &R,
     host: &HostRuntime,
     options: ServeOptions,
     out: &mut W,
     err: &mut E,
-) -> Result<(), ServerError> {
+) -> Result<(), StartError> {
     let (files, rooms) = rows_and_rooms(host, &options)?;
     let ServerFiles { shards, books } = files;
     serve_rows(rt, shards, books, &rooms, options, out, err)
@@ -43,7 +45,7 @@ pub fn serve<R: ServerRuntime, W: Write, E: Write>(
 fn rows_and_rooms(
     host: &HostRuntime,
     options: &ServeOptions,
-) -> Result<(ServerFiles, Vec<u8>), ServerError>
+) -> Result<(ServerFiles, Vec<u8>), StartError>
     ensures some_shard { IfOk result (λ found. 1 ≤ length found.0.shards.items) }
     ensures few_shards { IfOk result (λ found. length found.0.shards.items ≤ MOST_PLACES) }
     ensures some_book { IfOk result (λ found. 1 ≤ length found.0.books.items) }
@@ -54,13 +56,29 @@ fn rows_and_rooms(
     Ok((files, rooms))
 }
 
-fn rooms_to_host(host: &HostRuntime, options: &ServeOptions) -> Result<Vec<u8>, ServerError> {
-    let Some(rooms) = &options.rooms else {
-        return Ok(Vec::new(host.alloc()));
-    };
-    let mut file = fs::open(host, rooms).map_err(ServerError::of_io)?;
-    let lines = read_all(host.alloc(), &mut file)?;
-    Ok(lines)
+fn rooms_to_host(host: &HostRuntime, options: &ServeOptions) -> Result<Vec<u8>, StartError> {
+    match &options.rooms {
+        Some(path) => lines_of(host, path),
+        None => Ok(Vec::new(host.alloc())),
+    }
+}
+
+// The bytes of a file.
+fn lines_of(host: &HostRuntime, path: &str) -> Result<Vec<u8>, StartError> {
+    let alloc = host.alloc();
+    match fs::open(host, path) {
+        Ok(file) => {
+            let mut file = file;
+            match read_all(alloc, &mut file) {
+                Ok(lines) => Ok(lines),
+                Err(error) => {
+                    let kind = ServerError::from(error);
+                    Err(StartError::about(alloc, kind, path, &"it can't be read"))
+                }
+            }
+        }
+        Err(error) => Err(StartError::of_io(alloc, path, &error)),
+    }
 }
 
 // Serves over rows, once the rooms of these lines are hosted.
@@ -74,7 +92,7 @@ fn serve_rows<S, R, W: Write, E: Write>(
     options: ServeOptions,
     out: &mut W,
     err: &mut E,
-) -> Result<(), ServerError>
+) -> Result<(), StartError>
 where
     S: Alter + Drop + Send,
     R: ServerRuntime,
@@ -84,9 +102,30 @@ where
     requires few_books { length books.items ≤ MOST_PLACES }
 {
     let alloc = rt.alloc();
-    let mut server = World::reopen(alloc, shards, books)?;
-    host_rooms(alloc, &mut server, rooms, err)?;
+    let mut server = match World::reopen(alloc, shards, books) {
+        Ok(server) => server,
+        Err(error) => return Err(not_reopened(alloc, &options.data, error)),
+    };
+    host_rooms(alloc, &mut server, rooms, file_of_rooms(&options), err)?;
     listen(rt, server, options, out, err)
+}
+
+// Files whose rows are read, and are none that a server can have.
+fn not_reopened(alloc: Global, data: &str, error: CallError) -> StartError {
+    StartError::about(
+        alloc,
+        ServerError::from(error),
+        data,
+        &"no server with so many shards has these rows",
+    )
+}
+
+// What the file of rooms is called.
+fn file_of_rooms(options: &ServeOptions) -> &str {
+    match &options.rooms {
+        Some(path) => path,
+        None => "",
+    }
 }
 
 // Hosts the room of each line. `NotHosted` where one is not hosted.
@@ -94,21 +133,35 @@ fn host_rooms<K: Keeper<Row = ShardRow>, L: Keeper<Row = BookRow>, E: Write>(
     alloc: Global,
     server: &mut World<K, L>,
     lines: &[u8],
+    path: &str,
     err: &mut E,
-) -> Result<(), ServerError> {
+) -> Result<(), StartError> {
     let mut rest = lines;
+    let mut number = 1u64;
     while !rest.is_empty() {
         let (line, after) = first_line(rest);
-        match host_by_line(alloc, &PresenceVerifier, server, line, err).map_err(
-            ServerError::of_io,
-        )? {
-            HostLineOutcome::Hosted => rest = after,
-            HostLineOutcome::NotHosted | HostLineOutcome::Refused(_) => {
-                return Err(ServerError::NotHosted);
-            }
+        if !is_hosted_by(alloc, server, line, err) {
+            let place = format!(in alloc; "line {number}")?;
+            return Err(StartError::about(alloc, ServerError::NotHosted, path, &place));
         }
+        rest = after;
+        number = number.saturating_add(1);
     }
     Ok(())
+}
+
+// Whether a line hosts a room, or its room is hosted; else `err` is told what the line is answered.
+fn is_hosted_by<K: Keeper<Row = ShardRow>, L: Keeper<Row = BookRow>, E: Write>(
+    alloc: Global,
+    server: &mut World<K, L>,
+    line: &[u8],
+    err: &mut E,
+) -> bool {
+    match host_by_line(alloc, &PresenceVerifier, server, line, err) {
+        Ok(HostLineOutcome::Hosted) => true,
+        Ok(HostLineOutcome::NotHosted | HostLineOutcome::Refused(_)) => false,
+        Err(_error) => false,
+    }
 }
 
 // How many seconds a client may take to begin a request.
@@ -118,6 +171,26 @@ const HEAD_SECONDS: u64 = 10;
 // For how many seconds a client may send nothing of a body, or read nothing of a reply.
 const QUIET_SECONDS: u64 = 30;
 
+// What is said once connections are taken in.
+#[derive(Drop)]
+struct Opening<'a, W, E> {
+    out: &'a mut W,
+    err: &'a mut E,
+    port: u16,
+    data: String,
+}
+
+impl<'a, W: Write, E: Write> Announcer for Opening<'a, W, E> {
+    fn announce(&mut self) -> io::Result<()> {
+        let port = self.port;
+        writeln!(self.out, "listening 127.0.0.1:{port}")?;
+        self.out.flush()?;
+        let data = self.data.as_str();
+        let _ = writeln!(self.err, "serving {data}");
+        Ok(())
+    }
+}
+
 // Serves at the port.
 fn listen<K, L, R, W: Write, E: Write>(
     rt: &R,
@@ -125,37 +198,72 @@ fn listen<K, L, R, W: Write, E: Write>(
     options: ServeOptions,
     out: &mut W,
     err: &mut E,
-) -> Result<(), ServerError>
+) -> Result<(), StartError>
 where
     K: Keeper<Row = ShardRow> + Send,
     L: Keeper<Row = BookRow> + Send,
     R: ServerRuntime,
 {
+    let alloc = rt.alloc();
+    let listener = listener_at(rt, options.port)?;
+    let port = port_of(alloc, &listener)?;
+    let limits = limits_of(&options);
     let ServeOptions {
         name,
         data,
-        port,
         threads,
-        connections,
+        stop_on_storage,
         ..
     } = options;
-    let address = (Ipv4Addr::LOCALHOST, port);
-    let listener = TcpListener::bind(rt, address).map_err(ServerError::of_io)?;
-    let port = listener.local_addr().map_err(ServerError::of_io)?.port();
-    let workers = workers(rt, server, threads, name)?;
-    writeln!(err, "serving {data}").map_err(ServerError::of_io)?;
-    writeln!(out, "listening 127.0.0.1:{port}").map_err(ServerError::of_io)?;
-    out.flush().map_err(ServerError::of_io)?;
-    let limits = Limits {
-        connections,
+    let workers = workers(rt, server, threads, name, stop_on_storage)?;
+    let mut opening = Opening {
+        out,
+        err,
+        port,
+        data,
+    };
+    match serve_on(rt, &listener, workers, limits, &mut opening) {
+        Ok(_workers) => Err(StartError::from(ServerError::Storage)),
+        Err(error) => Err(unserved(alloc, &error)),
+    }
+}
+
+fn listener_at<R: ServerRuntime>(rt: &R, port: u16) -> Result<TcpListener, StartError> {
+    match TcpListener::bind(rt, (Ipv4Addr::LOCALHOST, port)) {
+        Ok(listener) => Ok(listener),
+        Err(error) => {
+            let alloc = rt.alloc();
+            let place = format!(in alloc; "127.0.0.1:{port}")?;
+            Err(StartError::of_io(alloc, &place, &error))
+        }
+    }
+}
+
+fn port_of(alloc: Global, listener: &TcpListener) -> Result<u16, StartError> {
+    match listener.local_addr() {
+        Ok(address) => Ok(address.port()),
+        Err(error) => Err(StartError::of_io(alloc, "127.0.0.1", &error)),
+    }
+}
+
+fn limits_of(options: &ServeOptions) -> Limits {
+    Limits {
+        connections: options.connections,
         body: LARGEST_BODY,
         idle: Duration::from_secs(IDLE_SECONDS),
         head: Duration::from_secs(HEAD_SECONDS),
         quiet: Duration::from_secs(QUIET_SECONDS),
         stop_after: None,
-    };
-    let _workers = serve_on(rt, &listener, workers, limits)?;
-    Ok(())
+    }
+}
+
+// Why a listener is not served.
+fn unserved(alloc: Global, error: &ServeError) -> StartError {
+    match error {
+        ServeError::Memory => StartError::from(ServerError::Memory),
+        ServeError::Thread => StartError::from(ServerError::Thread),
+        ServeError::Told(error) => StartError::of_io(alloc, "standard output", error),
+    }
 }
 
 // The workers of a server.
@@ -164,11 +272,12 @@ fn workers<K: Keeper<Row = ShardRow>, L: Keeper<Row = BookRow>, R: Wait + AllocG
     server: World<K, L>,
     threads: SeatCount,
     name: ServerName,
-) -> Result<Vec<Worker<K, L>>, ServerError> {
+    stop_on_storage: bool,
+) -> Result<Vec<Worker<K, L>>, StartError> {
     let alloc = rt.alloc();
     let wire_server = WireServer::new(alloc, name)?;
     if !server.none_open() {
-        return Err(ServerError::Storage);
+        return Err(StartError::from(ServerError::Storage));
     }
     let (engine, seats) = Engine::open(
         rt,
@@ -178,7 +287,7 @@ fn workers<K: Keeper<Row = ShardRow>, L: Keeper<Row = BookRow>, R: Wait + AllocG
         OpenGate,
         threads.count,
     )?;
-    let shared = shared_of(alloc, engine, wire_server)?;
+    let shared = shared_of(alloc, engine, wire_server, stop_on_storage)?;
     Ok(workers_of(alloc, &shared, seats)?)
 }
 
@@ -187,9 +296,15 @@ fn shared_of<K: Keeper<Row = ShardRow>, L: Keeper<Row = BookRow>>(
     alloc: Global,
     engine: ServerEngine<K, L>,
     server: WireServer,
+    stop_on_storage: bool,
 ) -> Result<Arc<Shared<K, L>>, AllocError>
     ensures { IfOk result (λ shared. shared.value.engine ≡ engine) }
 {
-    let shared = Arc::new(alloc, Shared { engine, server })?;
+    let shared = Shared {
+        engine,
+        server,
+        stop_on_storage,
+    };
+    let shared = Arc::new(alloc, shared)?;
     Ok(shared)
 }

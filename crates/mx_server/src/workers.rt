@@ -9,15 +9,18 @@ use mx_keeper::{BookRow, CallError, Keeper, ShardRow};
 use mx_pdu::PresenceVerifier;
 use mx_room::{LATEST_MILLISECONDS, Moment};
 use mx_wire::{
-    Fault, WireReply, WireRequest, WireServer, fault_reply, memory_body, respond, storage_body,
+    Fault, ReplyBody, RequestReply, WireReply, WireRequest, WireServer, fault_reply, memory_reply,
+    respond,
 };
 use std::alloc::{AllocError, Global};
 use std::marker::Model;
 use std::sync::{Arc, Wait};
 use std::time::Clock;
 
-// The status where a request can't be answered now.
-const UNAVAILABLE: u16 = 503;
+// The status where a body does not come in its coding.
+const BAD_REQUEST: u16 = 400;
+// The status where the request has another method than its target.
+const METHOD_NOT_ALLOWED: u16 = 405;
 // The status where a body comes in a transfer coding that is not known.
 const NOT_IMPLEMENTED: u16 = 501;
 
@@ -29,6 +32,8 @@ pub type ServerEngine<K, L> = Engine<K, L, PresenceVerifier, OpenGate>;
 pub struct Shared<K: Keeper<Row = ShardRow>, L: Keeper<Row = BookRow>> {
     pub engine: ServerEngine<K, L>,
     pub server: WireServer,
+    // Whether the server ends once what keeps rows has failed.
+    pub stop_on_storage: bool,
 }
 
 /// A worker: a seat, and what it shares with the others, whose engine it is a seat of.
@@ -36,6 +41,8 @@ pub struct Shared<K: Keeper<Row = ShardRow>, L: Keeper<Row = BookRow>> {
 pub struct Worker<K: Keeper<Row = ShardRow>, L: Keeper<Row = BookRow>> {
     shared: Arc<Shared<K, L>>,
     seat: Seat<K, L>,
+    // Whether it saw that what keeps rows has failed.
+    has_failed: bool,
 }
 
 impl<K: Keeper<Row = ShardRow>, L: Keeper<Row = BookRow>> Model for Worker<K, L> {
@@ -57,23 +64,48 @@ impl<K: Keeper<Row = ShardRow>, L: Keeper<Row = BookRow>> Responder for Worker<K
         alloc: Global,
         request: HttpRequest,
     ) -> HttpReply {
-        reply_in(rt, alloc, &self.shared, &mut self.seat, &asked(request))
+        let request = asked(request);
+        let answered = answer_in(rt, alloc, &self.shared, &mut self.seat, &request);
+        let RequestReply { reply, refused } = answered;
+        if refused == Some(CallError::Storage) {
+            self.has_failed = true;
+            // Who runs the server has to know that its storage fails.
+            let _ = rt.eprintln("storage");
+        }
+        sent(&self.shared.server, &request, reply)
+    }
+
+    fn is_done(&self) -> bool {
+        self.has_failed && self.shared.stop_on_storage
     }
 
     fn refuse_body(&self, alloc: Global) -> HttpReply {
         match fault_reply(alloc, Fault::TooLarge) {
-            Ok(reply) => sent(reply),
-            Err(_refused) => unavailable(CallError::Memory),
+            Ok(reply) => sent_plainly(reply),
+            Err(_refused) => sent_plainly(memory_reply()),
         }
     }
 
     fn refuse_coding(&self, _alloc: Global) -> HttpReply {
-        HttpReply {
-            status: NOT_IMPLEMENTED,
-            body: Bytes::from_static(
-                b"{\"errcode\":\"M_UNRECOGNIZED\",\"error\":\"unknown transfer coding\"}",
-            ),
-        }
+        refusal(
+            NOT_IMPLEMENTED,
+            b"{\"errcode\":\"M_UNRECOGNIZED\",\"error\":\"unknown transfer coding\"}",
+        )
+    }
+
+    fn refuse_framing(&self, _alloc: Global) -> HttpReply {
+        refusal(
+            BAD_REQUEST,
+            b"{\"errcode\":\"M_UNRECOGNIZED\",\"error\":\"malformed body\"}",
+        )
+    }
+}
+
+fn refusal(status: u16, body: &'static [u8]) -> HttpReply {
+    HttpReply {
+        status,
+        body: Bytes::from_static(body),
+        allowed: None,
     }
 }
 
@@ -93,18 +125,18 @@ fn asked(request: HttpRequest) -> WireRequest {
 }
 
 // The reply to a request through a seat.
-fn reply_in<K: Keeper<Row = ShardRow>, L: Keeper<Row = BookRow>, R: Wait + Clock + Eprint>(
+fn answer_in<K: Keeper<Row = ShardRow>, L: Keeper<Row = BookRow>, R: Wait + Clock>(
     rt: &R,
     alloc: Global,
     shared: &Shared<K, L>,
     seat: &mut Seat<K, L>,
     request: &WireRequest,
-) -> HttpReply
+) -> RequestReply
     requires { IsSeatOf shared.now.engine seat.old }
     ensures seat { IsSeatOf shared.now.engine seat.new }
     ensures number { seat_number seat.new ≡ seat_number seat.old }
 {
-    let replied = respond(
+    respond(
         rt,
         alloc,
         &shared.server,
@@ -112,24 +144,7 @@ fn reply_in<K: Keeper<Row = ShardRow>, L: Keeper<Row = BookRow>, R: Wait + Clock
         seat,
         moment(rt),
         request,
-    );
-    match replied {
-        Ok(reply) => sent(reply),
-        Err(error) => {
-            tell(rt, error);
-            unavailable(error)
-        }
-    }
-}
-
-// Who runs the server has to know that its storage fails.
-fn tell<R: Eprint>(rt: &R, error: CallError) {
-    match error {
-        CallError::Storage => {
-            let _ = rt.eprintln("storage");
-        }
-        CallError::Memory => {}
-    }
+    )
 }
 
 // The moment of the clock: the first one where it can't be read, the latest one where it shows more.
@@ -145,24 +160,42 @@ fn moment<C: Clock>(clock: &C) -> Moment {
     }
 }
 
+// The reply to a request. Where its target has another method, that is told.
+fn sent(server: &WireServer, request: &WireRequest, reply: WireReply) -> HttpReply {
+    let mut sent = sent_plainly(reply);
+    if sent.status == METHOD_NOT_ALLOWED {
+        sent.allowed = server.method_at(&request.target);
+    }
+    sent
+}
+
 // A reply, or where no memory is left for it that one.
-fn sent(reply: WireReply) -> HttpReply {
+fn sent_plainly(reply: WireReply) -> HttpReply {
     let WireReply { status, body } = reply;
-    match Bytes::from_vec(body) {
-        Ok(body) => HttpReply { status, body },
-        Err(_refused) => unavailable(CallError::Memory),
+    match bytes_of(body) {
+        Some(body) => HttpReply {
+            status,
+            body,
+            allowed: None,
+        },
+        None => without_memory(),
     }
 }
 
-// The reply where no memory is left, or what keeps rows failed. It takes no memory.
-fn unavailable(error: CallError) -> HttpReply {
-    let body = match error {
-        CallError::Memory => memory_body(),
-        CallError::Storage => storage_body(),
-    };
+fn bytes_of(body: ReplyBody) -> Option<Bytes> {
+    match body {
+        ReplyBody::Made(bytes) => Bytes::from_vec(bytes).ok(),
+        ReplyBody::Fixed(bytes) => Some(Bytes::from_static(bytes)),
+    }
+}
+
+// The reply where no memory is left. It takes none.
+fn without_memory() -> HttpReply {
+    let WireReply { status, body } = memory_reply();
     HttpReply {
-        status: UNAVAILABLE,
-        body: Bytes::from_static(body),
+        status,
+        body: bytes_of(body).unwrap_or(Bytes::from_static(b"")),
+        allowed: None,
     }
 }
 
@@ -188,5 +221,9 @@ fn worker_of<K: Keeper<Row = ShardRow>, L: Keeper<Row = BookRow>>(
     requires { IsSeatOf shared.now.value.engine seat }
 {
     let shared = Arc::try_clone(shared)?;
-    Ok(Worker { shared, seat })
+    Ok(Worker {
+        shared,
+        seat,
+        has_failed: false,
+    })
 }

@@ -19,6 +19,9 @@ use Rattle.mx_requests.specs.Calls.{Call, Request, sends, asks, joins, call_of}
 use Rattle.mx_wire.specs.LineSteps.{first_step, reply_to}
 use Rattle.mx_requests.specs.ReplyBodies.{Response, failure}
 use Rattle.mx_requests.specs.Requests.{Read}
+use Rattle.mx_requests.specs.declared.faults.Fault.TheVariants as faults
+use Rattle.mx_keeper.specs.declared.refusals.CallError.{CallError}
+use Rattle.mx_keeper.specs.declared.refusals.CallError.TheVariants as refused
 
 abbrev pub ShardViews : Type 0
 ShardViews = List (BerthView Entry)
@@ -79,3 +82,8 @@ IsResponse judges server now caller shards books shards' books' r response =
 abbrev pub IsUnanswered : Judge → (server : List ℕ) → (caller : ℕ) → (shards : ShardViews) → (books : BookViews) → (shards' : ShardViews) → (books' : BookViews) → Request → Type 0
 IsUnanswered judges server caller shards books shards' books' r =
     IsReadRefused caller (call_of judges server r) shards books shards' books'
+
+-- the reply where no memory is left, or what keeps rows failed: status 503
+abbrev pub unavailable : CallError → Response
+unavailable refused.Memory = failure faults.Memory
+unavailable refused.Storage = failure faults.Storage

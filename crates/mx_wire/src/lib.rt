@@ -16,8 +16,8 @@ pub use input::{InputError, read_all};
 pub use lines::splitting::first_line;
 pub use logs::{LinesError, run_lines};
 pub use mx_requests::{
-    Fault, LARGEST_BODY, Routes, WireReply, WireRequest, WireServer, fault_reply, memory_body,
-    storage_body,
+    Fault, LARGEST_BODY, ReplyBody, Routes, WireReply, WireRequest, WireServer, fault_reply,
+    memory_reply,
 };
-pub use responses::respond;
+pub use responses::{RequestReply, respond};
 pub use shard_counts::ShardCount;

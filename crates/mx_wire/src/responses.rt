@@ -1,34 +1,94 @@
 // The replies to requests, by an engine that callers share.
-ghost use Rattle.std.specs.Prelude.{◌≡◌, ◌≢◌, ℕ, IfOk, OnErr};
+ghost use Rattle.std.specs.Prelude.{◌≡◌, ◌≢◌, ℕ, IfOk, IfSome, OnErr, None};
 ghost use Rattle.mx_engine.specs.Seats.{IsSeatOf, book_views, seat_number, shard_views, verifier_of};
 ghost use Rattle.mx_engine.specs.Views.{AreSameViews};
 ghost use Rattle.mx_requests.specs.Calls.{asks, joins, sends};
 ghost use Rattle.mx_requests.specs.CallsShown.{call_shown, request_shown};
 ghost use Rattle.mx_requests.specs.RepliesShown.{reply_shown};
 ghost use Rattle.mx_requests.specs.ReplyBodies.{failure};
-ghost use Rattle.mx_wire.specs.Responses.{IsCallAnswered, IsCallRefused, IsResponse, IsUnanswered, last_step_reply};
+ghost use Rattle.mx_wire.specs.Responses.{IsCallAnswered, IsCallRefused, IsResponse, IsUnanswered, last_step_reply, unavailable};
 
 use crate::steps::replies::{asked_reply, joined_reply, sent_reply};
 use mx_engine::{Engine, Gate, Seat, TransactionReply};
 use mx_ident::ServerName;
 use mx_keeper::{BookRow, CallError, Keeper, ShardRow, TransactionId};
 use mx_pdu::{Offered, Verifier};
-use mx_requests::{Fault, WireCall, WireReply, WireRequest, WireServer, fault_reply, read_request};
+use mx_requests::{
+    Fault, WireCall, WireReply, WireRequest, WireServer, fault_reply, memory_reply, read_request,
+    storage_reply,
+};
 use mx_room::{Moment, Query};
 use mx_world::{StepReply, TransactionKey};
 use std::alloc::Global;
 use std::sync::Wait;
 
+/// The reply to a request, and why it stands in place of an answer, where it does.
+#[derive(Debug, Drop)]
+pub struct RequestReply {
+    pub reply: WireReply,
+    // No memory was left, or what keeps rows failed: the reply tells that, with status 503.
+    pub refused: Option<CallError>,
+}
+
 /// The reply of this server to a request at this moment, by an engine that callers share.
 ///
 /// A request with a fault is told it, and the engine is not called. Else the engine is called once, and the reply is the
-/// one by its answer. `Memory` where no memory is left, `Storage` where what keeps rows failed, now or before. Then a
-/// query has added nothing; a join or a transaction was refused by the engine, or it was answered, and no memory was
-/// left for the bytes of its reply.
+/// one by its answer. `refused` is `Memory` where no memory is left, and `Storage` where what keeps rows failed, now or
+/// before. Then a query has added nothing; a join or a transaction was refused by the engine, or it was answered, and no
+/// memory was left for the bytes of its reply.
 ///
 /// It waits where the engine does. Source: the Server-Server API of the Matrix specification: "Request Authentication",
 /// "Transactions", "Retrieving events", "Backfilling and retrieving missing events" and "Joining Rooms".
 pub fn respond<
+    K: Keeper<Row = ShardRow>,
+    L: Keeper<Row = BookRow>,
+    V: Verifier + Drop,
+    G: Gate + Drop,
+    R: Wait,
+>(
+    rt: &R,
+    alloc: Global,
+    server: &WireServer,
+    engine: &Engine<K, L, V, G>,
+    seat: &mut Seat<K, L>,
+    now: Moment,
+    request: &WireRequest,
+) -> RequestReply
+    requires { IsSeatOf engine.now seat.old }
+    ensures seat { IsSeatOf engine.now seat.new }
+    ensures number { seat_number seat.new ≡ seat_number seat.old }
+    ensures same_shards { AreSameViews (shard_views seat.old) (shard_views seat.new) }
+    ensures same_books { AreSameViews (book_views seat.old) (book_views seat.new) }
+    ensures reply { result.refused ≡ None → IsResponse (V.judges (verifier_of engine.now)) server.now.name now (seat_number seat.old)
+        (shard_views seat.old) (book_views seat.old) (shard_views seat.new) (book_views seat.new) (request_shown request.now) (reply_shown result.reply) }
+    ensures refused { IfSome result.refused (λ error. IsUnanswered (V.judges (verifier_of engine.now)) server.now.name (seat_number seat.old)
+        (shard_views seat.old) (book_views seat.old) (shard_views seat.new) (book_views seat.new) (request_shown request.now)
+        × (reply_shown result.reply ≡ unavailable error)) }
+{
+    match reply_or_refusal(rt, alloc, server, engine, seat, now, request) {
+        Ok(reply) => RequestReply {
+            reply,
+            refused: None,
+        },
+        Err(error) => RequestReply {
+            reply: unavailable_reply(error),
+            refused: Some(error),
+        },
+    }
+}
+
+// The reply where no memory is left, or what keeps rows failed. It takes no memory.
+fn unavailable_reply(error: CallError) -> WireReply
+    ensures { reply_shown result ≡ unavailable error }
+{
+    match error {
+        CallError::Memory => memory_reply(),
+        CallError::Storage => storage_reply(),
+    }
+}
+
+// The reply to a request, or why there is none.
+fn reply_or_refusal<
     K: Keeper<Row = ShardRow>,
     L: Keeper<Row = BookRow>,
     V: Verifier + Drop,

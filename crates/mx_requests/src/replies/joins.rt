@@ -7,7 +7,7 @@ ghost use Rattle.mx_requests.specs.RepliesShown.{reply_shown};
 use crate::faults::{Denial, Fault};
 use crate::replies::pieces::write_events;
 use crate::replies::queries::denied_fault;
-use crate::replies::{WireReply, fault_reply};
+use crate::replies::{ReplyBody, WireReply, fault_reply};
 use mx_canon::{TextBuffer, TextSink, write_key, write_object, write_string};
 use mx_ident::ServerName;
 use mx_receipt::Verdict;
@@ -30,7 +30,10 @@ pub fn join_reply(
         JoinReply::Offered { outcome, joined } => match joined {
             Some(joined) => {
                 let body = joined_body(alloc, name, &joined)?;
-                Ok(WireReply { status: 200, body })
+                Ok(WireReply {
+                    status: 200,
+                    body: ReplyBody::Made(body),
+                })
             }
             None => fault_reply(alloc, outcome_fault(outcome)),
         },

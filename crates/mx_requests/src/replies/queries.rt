@@ -8,7 +8,7 @@ ghost use Rattle.mx_requests.specs.RepliesShown.{reply_shown};
 
 use crate::faults::{Denial, Fault};
 use crate::replies::pieces::{write_events, write_ids, write_number};
-use crate::replies::{WireReply, fault_reply};
+use crate::replies::{ReplyBody, WireReply, fault_reply};
 use mx_canon::{TextBuffer, TextSink, write_key, write_object, write_string};
 use mx_ident::{EventId, ServerName};
 use mx_pdu::Pdu;
@@ -33,7 +33,10 @@ pub fn query_reply(
     match answered {
         Ok(reply) => {
             let body = query_body(alloc, name, now, query, reply)?;
-            Ok(WireReply { status: 200, body })
+            Ok(WireReply {
+                status: 200,
+                body: ReplyBody::Made(body),
+            })
         }
         Err(denied) => fault_reply(alloc, denied_fault(denied)),
     }

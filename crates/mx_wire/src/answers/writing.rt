@@ -116,7 +116,7 @@ fn write_response<W: Write>(out: &mut W, reply: &WireReply) -> io::Result<()>
 {
     let mut digits = itoa::Buffer::new();
     out.write_all(b"{\"body\":")?;
-    out.write_all(&reply.body)?;
+    out.write_all(reply.body.as_bytes())?;
     out.write_all(b",\"status\":")?;
     out.write_all(digits.format(reply.status).as_bytes())?;
     out.write_all(b"}")?;

@@ -8,7 +8,7 @@ ghost use Rattle.mx_pdu.specs.declared.offering.Offered.{Offered as AnyOffered};
 ghost use Rattle.mx_requests.specs.RepliesShown.{reply_shown};
 
 use mx_ident::ServerName;
-use mx_requests::{Fault, WireReply, fault_reply, join_reply, query_reply};
+use mx_requests::{Fault, ReplyBody, WireReply, fault_reply, join_reply, query_reply};
 use mx_room::{Moment, Query};
 use mx_world::{Answer, Step, StepReply};
 use std::alloc::{AllocError, Global};
@@ -88,7 +88,7 @@ pub(crate) fn sent_reply(alloc: Global, last: StepReply) -> Result<WireReply, Al
     match last {
         StepReply::Closed(body) | StepReply::Replayed(body) => Ok(WireReply {
             status: 200,
-            body: body.into_string().into_bytes(),
+            body: ReplyBody::Made(body.into_string().into_bytes()),
         }),
         _ => fault_reply(alloc, Fault::Busy),
     }

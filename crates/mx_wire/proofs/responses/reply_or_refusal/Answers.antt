@@ -7,7 +7,7 @@ use Rattle.mx_requests.specs.Calls.{call_of}
 use Rattle.mx_requests.specs.CallsShown.{call_shown, request_shown}
 use Rattle.mx_requests.specs.RepliesShown.{reply_shown}
 use Rattle.mx_wire.proofs.ResponseLemmas.{call_answered, call_refused, fault_answered, none_asked}
-use Rattle.mx_wire.proofs.responses.respond.Goals as goal
+use Rattle.mx_wire.proofs.responses.reply_or_refusal.Goals as goal
 
 pub returns-in_ok-reply-in-Ok-clause-reply : goal.returns-in_ok-reply-in-Ok-clause-reply
 returns-in_ok-reply-in-Ok-clause-reply g c =
