@@ -1,9 +1,9 @@
 -- For proofs and private clauses alone.
 -- What went wrong, to the program.
-use Rattle.mx_wire.specs.declared.input.InputError.{InputError}
-use Rattle.mx_wire.specs.declared.input.InputError.TheVariants as input
-use Rattle.mx_wire.specs.declared.logs.LinesError.{LinesError}
-use Rattle.mx_wire.specs.declared.logs.LinesError.TheVariants as lines
+use Rattle.mx_log.specs.declared.input.InputError.{InputError}
+use Rattle.mx_log.specs.declared.input.InputError.TheVariants as input
+use Rattle.mx_log.specs.declared.logs.LinesError.{LinesError}
+use Rattle.mx_log.specs.declared.logs.LinesError.TheVariants as lines
 use Rattle.mx_federd.specs.declared.output.Failure.{Failure}
 use Rattle.mx_federd.specs.declared.output.Failure.TheVariants.{Memory, Storage, ReadOrWrite}
 

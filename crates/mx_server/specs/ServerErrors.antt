@@ -2,8 +2,8 @@
 -- Why a server does not serve, where that is for a call or an input.
 use Rattle.mx_keeper.specs.declared.refusals.CallError.{CallError}
 use Rattle.mx_keeper.specs.declared.refusals.CallError.TheVariants as call
-use Rattle.mx_wire.specs.declared.input.InputError.{InputError}
-use Rattle.mx_wire.specs.declared.input.InputError.TheVariants as input
+use Rattle.mx_log.specs.declared.input.InputError.{InputError}
+use Rattle.mx_log.specs.declared.input.InputError.TheVariants as input
 use Rattle.mx_server.specs.declared.errors.ServerError.{ServerError}
 use Rattle.mx_server.specs.declared.errors.ServerError.TheVariants.{Memory, Storage, ReadOrWrite}
 

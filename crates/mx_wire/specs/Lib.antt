@@ -3,13 +3,4 @@ pub use Rattle.mx_requests.specs.CallsShown
 pub use Rattle.mx_requests.specs.ReplyBodies
 pub use Rattle.mx_requests.specs.RepliesShown
 pub use Rattle.mx_requests.specs.Requests
-pub mod Lines
-pub mod LineOutputs
-pub mod LineSteps
-pub mod LinesShown
-pub mod LineRuns
-pub mod TextMembers
-pub mod LineErrors
-pub mod HostLines
-pub mod HostAnswers
 pub mod Responses

@@ -8,10 +8,10 @@ ghost use Rattle.mx_requests.specs.RepliesShown.{reply_shown};
 ghost use Rattle.mx_requests.specs.ReplyBodies.{failure};
 ghost use Rattle.mx_wire.specs.Responses.{IsCallAnswered, IsCallRefused, IsResponse, IsUnanswered, last_step_reply, unavailable};
 
-use crate::steps::replies::{asked_reply, joined_reply, sent_reply};
 use mx_engine::{Engine, Gate, Seat, TransactionReply};
 use mx_ident::ServerName;
 use mx_keeper::{BookRow, CallError, Keeper, ShardRow, TransactionId};
+use mx_log::{asked_reply, joined_reply, sent_reply};
 use mx_pdu::{Offered, Verifier};
 use mx_requests::{
     Fault, WireCall, WireReply, WireRequest, WireServer, fault_reply, memory_reply, read_request,

@@ -1,7 +1,7 @@
 use Rattle.std.proofs.Common.{inl, inr, ap, ◌∙◌}
 use Rattle.mx_world.proofs.RefusalLemmas.{on_err}
-use Rattle.mx_wire.specs.Lines.{open_step}
-use Rattle.mx_wire.specs.LineSteps.{reply_to}
+use Rattle.mx_log.specs.Lines.{open_step}
+use Rattle.mx_log.specs.LineSteps.{reply_to}
 use Rattle.mx_wire.proofs.responses.answer_transaction.Goals as goal
 
 pub returns-in_err-told-clause-err : goal.returns-in_err-told-clause-err

@@ -1,0 +1,11 @@
+pub mod LineLemmas
+pub mod OutputLemmas
+pub mod OutputRows
+pub mod RefusalLineLemmas
+pub mod LineRunLemmas
+pub mod CallStepLemmas
+pub mod LogLemmas
+pub mod TextMemberLemmas
+pub mod LineRows
+pub mod AnswerLemmas
+pub mod HostLineLemmas

@@ -1,0 +1,77 @@
+-- What was written for the lines so far, and for one line more.
+use Rattle.std.proofs.Common.{◌≡◌, ◌<◌, ℕ, zero, suc, List, [], ◌∷◌, ◌++◌, length, Bool, true, false, Option, Some, None, sym, ◌∙◌, ap, subst, ⊎_elim, arith}
+use Rattle.std.specs.Prelude.{IfSome, flat_map, ◌==◌, if◌then◌else◌}
+use Rattle.std.proofs.lemmas.Bool.{cases_Bool, eqb-true, true≢false}
+use Rattle.std.proofs.lemmas.List.{nil_from_length}
+use Rattle.std.specs.Io.KnownBytes.{Appends}
+use Rattle.mx_redact.specs.Fields.{Event}
+use Rattle.mx_world.specs.Calls.{Start}
+use Rattle.mx_world.specs.View.{WorldView}
+use Rattle.mx_world.specs.declared.steps.Step.{Step}
+use Rattle.mx_world.specs.Worlds.{IsAfter}
+use Rattle.mx_log.specs.LineOutputs.{has_refusal}
+use Rattle.mx_log.specs.LineRuns.{AreAnswered, IsDone, IsEnded, IsWritten, answered, not_answered}
+use Rattle.mx_log.specs.Lines.{lines_of, read_line}
+use Rattle.mx_log.specs.declared.answers.LineRefusal.TheVariants.{Memory}
+use Rattle.mx_log.specs.LinesShown.{refusal_output}
+use Rattle.mx_log.specs.LineSteps.{AreRun, IsAnswered, nothing_yet}
+use Rattle.mx_pdu.specs.Offers.{Judge, offer_by}
+use Rattle.mx_pdu.specs.declared.offering.Offered.{Offered}
+use Rattle.mx_log.proofs.LineRunLemmas.{appends_more, appends_none, none_so_far, one_more}
+use Rattle.mx_log.proofs.RefusalLineLemmas.{ended-more, ended-none, refusal-stays, refused}
+
+-- what comes before a clean end is clean
+clean-before : (out rest : List ℕ) → IsEnded out → has_refusal (out ++ rest) ≡ false → has_refusal out ≡ false
+clean-before out rest ended clean =
+    ⊎_elim (λ yes. absurd (true≢false (sym (refusal-stays out rest ended yes) ∙ clean))) (λ no. no) (cases_Bool (has_refusal out))
+
+pub answered_none : {K L : Type 0} (offer : Event → Offered) (server : List ℕ) (start : Start) (contents : Option (List ℕ)) (w : WorldView K L) → IsAfter start [] w → AreAnswered offer server start [] contents contents w
+answered_none offer server start contents w now = record {
+  written = [];
+  appends = appends_none contents;
+  ended = ended-none;
+  run = λ clean. none_so_far offer server start w now;
+}
+
+pub answered_more : {K L : Type 0} (offer : Event → Offered) (server : List ℕ) (start : Start) (lines : List (List ℕ)) (line : List ℕ) (before between after : Option (List ℕ)) (w w' : WorldView K L) → AreAnswered offer server start lines before between w → IsWritten offer server line w w' between after → AreAnswered offer server start (lines ++ line ∷ []) before after w'
+answered_more offer server start lines line before between after w w' so_far (answered output appends done) = record {
+  written = so_far.written ++ (output ++ 10 ∷ []);
+  appends = appends_more before between after so_far.written (output ++ 10 ∷ []) so_far.appends appends;
+  ended = ended-more so_far.written output;
+  run = λ clean.
+      let run = so_far.run (clean-before so_far.written (output ++ 10 ∷ []) so_far.ended clean) in
+      one_more offer server start lines so_far.written line output w w' run (done start (flat_map (λ x. x.steps) run.exchanges) run.after);
+}
+answered_more offer server start lines line before between after w w' so_far (not_answered refusal appends) = record {
+  written = so_far.written ++ (refusal_output refusal ++ 10 ∷ []);
+  appends = appends_more before between after so_far.written (refusal_output refusal ++ 10 ∷ []) so_far.appends appends;
+  ended = ended-more so_far.written (refusal_output refusal);
+  run = λ clean. absurd (true≢false (sym (refused so_far.written [] refusal so_far.ended) ∙ clean));
+}
+
+-- what is written for an answer, or for an answer that found no memory
+pub written_by : {K L : Type 0} (offer : Event → Offered) (server text output : List ℕ) (told : Bool) (old new : WorldView K L) (before after : Option (List ℕ)) → Appends before after ((if told then output else refusal_output Memory) ++ 10 ∷ []) → ((start : Start) (earlier : List Step) → IsAfter start earlier old → IsDone offer server (read_line offer text) output start earlier new) → IsWritten offer server text old new before after
+written_by offer server text output true old new before after appends done = answered output appends done
+written_by offer server text output false old new before after appends done = not_answered Memory appends
+
+-- ---- what is left
+
+pub some-left : (n : ℕ) (b : Bool) → b ≡ (n == 0) → b ≡ false → 0 < n
+some-left zero b is test = absurd (true≢false (sym is ∙ test))
+some-left (suc n) b is test = omega arith
+
+pub none-left : (rest : List ℕ) (b : Bool) → b ≡ (length rest == 0) → b ≡ true → lines_of rest ≡ []
+unfolding lines_of
+none-left rest b is test = ap lines_of (nil_from_length rest (eqb-true (length rest) 0 (sym is ∙ test)))
+
+-- a whole log
+pub log_answered : {K L : Type 0} (judges : Judge) (server log : List ℕ) (remaining before after : Option (List ℕ)) (w : WorldView K L) → IfSome remaining (λ all. log ≡ all) → AreAnswered (offer_by judges) server nothing_yet (lines_of log) before after w → IfSome remaining (λ read. (written : List ℕ) × Appends before after written × (has_refusal written ≡ false → IsAnswered judges server read written))
+log_answered judges server log None before after w read done = tt
+log_answered judges server log (Some all) before after w read done = (
+  done.written,
+  done.appends,
+  λ clean.
+      let so_far = done.run clean in
+      let P : List ℕ → Type 0 = λ input. AreRun nothing_yet (offer_by judges) server (lines_of input) done.written so_far.exchanges in
+      (so_far.exchanges, subst P read so_far.run),
+)

@@ -1,0 +1,14 @@
+pub use Rattle.mx_requests.specs.Calls
+pub use Rattle.mx_requests.specs.CallsShown
+pub use Rattle.mx_requests.specs.ReplyBodies
+pub use Rattle.mx_requests.specs.RepliesShown
+pub use Rattle.mx_requests.specs.Requests
+pub mod Lines
+pub mod LineOutputs
+pub mod LineSteps
+pub mod LinesShown
+pub mod LineRuns
+pub mod TextMembers
+pub mod LineErrors
+pub mod HostLines
+pub mod HostAnswers

@@ -1,0 +1,28 @@
+-- For proofs and private clauses alone.
+-- What went wrong, to a log and to one of its lines.
+use Rattle.mx_keeper.specs.declared.refusals.CallError.{CallError}
+use Rattle.mx_keeper.specs.declared.refusals.CallError.TheVariants as call
+use Rattle.mx_log.specs.declared.input.InputError.{InputError}
+use Rattle.mx_log.specs.declared.input.InputError.TheVariants as input
+use Rattle.mx_log.specs.declared.answers.LineRefusal.{LineRefusal}
+use Rattle.mx_log.specs.declared.answers.LineRefusal.TheVariants as refusal
+use Rattle.mx_log.specs.declared.logs.LinesError.{LinesError}
+use Rattle.mx_log.specs.declared.logs.LinesError.TheVariants.{Memory, Storage, Read}
+
+abbrev pub of_input : InputError → LinesError
+of_input input.Memory = Memory
+of_input input.Read = Read
+
+abbrev pub of_call : CallError → LinesError
+of_call call.Memory = Memory
+of_call call.Storage = Storage
+
+-- of a step of a line
+abbrev pub step_refusal : CallError → LineRefusal
+step_refusal call.Memory = refusal.Memory
+step_refusal call.Storage = refusal.Storage
+
+-- of a step of a request
+abbrev pub request_refusal : CallError → LineRefusal
+request_refusal call.Memory = refusal.CallMemory
+request_refusal call.Storage = refusal.CallStorage

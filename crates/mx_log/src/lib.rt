@@ -1,0 +1,18 @@
+//! Logs of steps and of other servers' requests, answered line by line by a server on one thread; and the replies to
+//! requests, by the replies to their steps.
+#![tactic(auto)]
+
+mod answers;
+mod host_lines;
+mod input;
+mod lines;
+mod logs;
+mod shard_counts;
+mod steps;
+
+pub use host_lines::{HostLineOutcome, host_by_line};
+pub use input::{InputError, read_all};
+pub use lines::splitting::first_line;
+pub use logs::{LinesError, run_lines};
+pub use shard_counts::ShardCount;
+pub use steps::replies::{asked_reply, joined_reply, sent_reply};

@@ -1,0 +1,102 @@
+// The lines of a log.
+ghost use Rattle.std.specs.Prelude.{◌≡◌, IfOk};
+ghost use Rattle.serde_json.specs.Data.{object};
+ghost use Rattle.serde_json.specs.View.{view, members_view};
+ghost use Rattle.mx_log.specs.Lines as definition;
+ghost use Rattle.mx_log.specs.LinesShown.{line_shown};
+ghost use Rattle.mx_pdu.specs.Offers.{offer_by};
+
+pub(crate) mod call_forms;
+mod keys;
+mod members;
+pub(crate) mod splitting;
+mod step_forms;
+mod texts;
+
+use crate::lines::call_forms::{CallLine, call_line};
+use crate::lines::step_forms::{close_line, host_line, next_line, open_line};
+use crate::lines::texts::text_line;
+use json::Scratch;
+use mx_pdu::Verifier;
+use mx_redact::text_field;
+use mx_world::Step;
+use serde_json::{Map, Value};
+use std::alloc::{AllocError, Global};
+
+/// What a line of a log asks for.
+#[derive(Drop)]
+pub(crate) enum Line {
+    // It has no form.
+    Bad,
+    // To host a room by an event that is malformed.
+    MalformedHost,
+    // One step of the server.
+    Step(Step),
+    // A request of another server.
+    Call(CallLine),
+}
+
+/// What a line asks for, by the `step` of its object. A key beyond its form makes it bad, and of a key that is repeated
+/// the last value stands.
+///
+/// `AllocError` where no memory is left. A line that names a transaction and nothing else, as most do, is read without a
+/// JSON value of it; the scratch for that is kept from line to line.
+pub(crate) fn read_line<V: Verifier>(
+    alloc: Global,
+    scratch: &mut Scratch,
+    verifier: &V,
+    line: &[u8],
+) -> Result<Line, AllocError>
+    ensures { IfOk result (λ read. line_shown read
+        ≡ definition.read_line (offer_by (V.judges verifier.now)) line.now) }
+{
+    match text_line(alloc, scratch, line)? {
+        Some(read) => Ok(read),
+        None => value_line(alloc, verifier, line),
+    }
+}
+
+// What a line asks for, by its JSON value.
+fn value_line<V: Verifier>(alloc: Global, verifier: &V, line: &[u8]) -> Result<Line, AllocError>
+    ensures { IfOk result (λ read. line_shown read
+        ≡ definition.read_line (offer_by (V.judges verifier.now)) line.now) }
+{
+    match Value::from_slice(alloc, line) {
+        Ok(value) => line_of(alloc, verifier, value),
+        Err(error) => {
+            if error.is_memory() {
+                Err(AllocError)
+            } else {
+                Ok(Line::Bad)
+            }
+        }
+    }
+}
+
+fn line_of<V: Verifier>(alloc: Global, verifier: &V, value: Value) -> Result<Line, AllocError>
+    ensures { IfOk result (λ read. line_shown read
+        ≡ definition.line_in (offer_by (V.judges verifier.now)) (view value)) }
+{
+    match value {
+        Value::Object(members) => line_in(alloc, verifier, members),
+        _ => Ok(Line::Bad),
+    }
+}
+
+fn line_in<V: Verifier>(
+    alloc: Global,
+    verifier: &V,
+    members: Map<String, Value>,
+) -> Result<Line, AllocError>
+    ensures { IfOk result (λ read. line_shown read
+        ≡ definition.line_in (offer_by (V.judges verifier.now)) (object (members_view members.entries))) }
+{
+    match text_field(&members, "step") {
+        Some("host") => host_line(alloc, verifier, members),
+        Some("open") => open_line(alloc, verifier, members),
+        Some("next") => next_line(alloc, &members),
+        Some("close") => close_line(alloc, &members),
+        Some("call") => call_line(alloc, members),
+        _ => Ok(Line::Bad),
+    }
+}

@@ -1,0 +1,124 @@
+// What is done for a line of a log: its steps, and its answer.
+ghost use Rattle.std.specs.Prelude.{◌≡◌, ◌≢◌, List, IfOk};
+ghost use Rattle.mx_world.specs.Calls.{Start};
+ghost use Rattle.mx_world.specs.Worlds.{IsAfter};
+ghost use Rattle.mx_world.specs.declared.steps.Step.{Step as AnyStep};
+ghost use Rattle.mx_requests.specs.CallsShown.{call_shown, request_shown};
+ghost use Rattle.mx_log.specs.LineOutputs.{response_output};
+ghost use Rattle.mx_log.specs.LineRuns.{IsCalled, IsDone, IsTaken};
+ghost use Rattle.mx_log.specs.Lines.{call_line};
+ghost use Rattle.mx_log.specs.LinesShown.{answer_output, line_shown};
+ghost use Rattle.mx_pdu.specs.Offers.{offer_by};
+ghost use Rattle.mx_requests.specs.RepliesShown.{reply_shown};
+ghost use Rattle.mx_requests.specs.ReplyBodies.{failure};
+
+pub(crate) mod replies;
+mod sequences;
+
+use crate::answers::{LineAnswer, LineRefusal};
+use crate::lines::Line;
+use crate::lines::call_forms::CallLine;
+use crate::steps::replies::write_reply;
+use crate::steps::sequences::{first_step_of, last_reply};
+use mx_ident::ServerName;
+use mx_keeper::{BookRow, Keeper, ShardRow};
+use mx_pdu::Verifier;
+use mx_requests::{Fault, WireCall, WireReply, WireServer, fault_reply, read_request};
+use mx_room::Moment;
+use mx_world::{Step, StepReply, World};
+use std::alloc::Global;
+
+/// Does the steps of a line, and gives what it is answered.
+///
+/// A line that is refused has done the steps before the one that was, and a transaction that it opened is given up.
+pub(crate) fn answer_line<K: Keeper<Row = ShardRow>, L: Keeper<Row = BookRow>, V: Verifier>(
+    alloc: Global,
+    server: &WireServer,
+    verifier: &V,
+    world: &mut World<K, L>,
+    line: Line,
+) -> Result<LineAnswer, LineRefusal>
+    ensures { IfOk result (λ answer. (start : Start) (earlier : List AnyStep) → IsAfter start earlier world.old
+        → IsDone (offer_by (V.judges verifier.now)) server.now.name (line_shown line) (answer_output answer) start earlier world.new) }
+{
+    match line {
+        Line::Bad => Ok(LineAnswer::Bad),
+        Line::MalformedHost => Ok(LineAnswer::MalformedHost),
+        Line::Step(step) => {
+            let reply = taken(alloc, world, &step)?;
+            Ok(LineAnswer::Step(reply))
+        }
+        Line::Call(call) => {
+            let reply = answer_request(alloc, server, verifier, world, &call)?;
+            Ok(LineAnswer::Response(reply))
+        }
+    }
+}
+
+// The step of a line.
+fn taken<K: Keeper<Row = ShardRow>, L: Keeper<Row = BookRow>>(
+    alloc: Global,
+    world: &mut World<K, L>,
+    step: &Step,
+) -> Result<StepReply, LineRefusal>
+    ensures { IfOk result (λ reply. (start : Start) (earlier : List AnyStep) → IsAfter start earlier world.old
+        → IsTaken start earlier step.now reply world.new) }
+{
+    let reply = world.step(alloc, step).map_err(LineRefusal::of_step)?;
+    Ok(reply)
+}
+
+// The reply to a request at a moment.
+fn answer_request<K: Keeper<Row = ShardRow>, L: Keeper<Row = BookRow>, V: Verifier>(
+    alloc: Global,
+    server: &WireServer,
+    verifier: &V,
+    world: &mut World<K, L>,
+    line: &CallLine,
+) -> Result<WireReply, LineRefusal>
+    ensures { IfOk result (λ reply. (start : Start) (earlier : List AnyStep) → IsAfter start earlier world.old
+        → IsDone (offer_by (V.judges verifier.now)) server.now.name (call_line line.entry.now.now (request_shown line.entry.now.request))
+        (response_output (reply_shown reply)) start earlier world.new) }
+{
+    match read_request(alloc, server, verifier, &line.request) {
+        Ok(call) => {
+            let reply = answer_call(alloc, &server.name, world, line.now, call)?;
+            Ok(reply)
+        }
+        Err(fault) => {
+            let reply = fault_answer(alloc, fault)?;
+            Ok(reply)
+        }
+    }
+}
+
+// The reply that tells a fault, unless it is want of memory.
+fn fault_answer(alloc: Global, fault: Fault) -> Result<WireReply, LineRefusal>
+    ensures other { IfOk result (λ _. fault ≢ Fault.Memory) }
+    ensures reply { IfOk result (λ reply. reply_shown reply ≡ failure fault) }
+{
+    match fault {
+        Fault::Memory => Err(LineRefusal::CallMemory),
+        fault => {
+            let reply = fault_reply(alloc, fault)?;
+            Ok(reply)
+        }
+    }
+}
+
+// The reply to a call at a moment.
+fn answer_call<K: Keeper<Row = ShardRow>, L: Keeper<Row = BookRow>>(
+    alloc: Global,
+    name: &ServerName,
+    world: &mut World<K, L>,
+    now: Moment,
+    call: WireCall,
+) -> Result<WireReply, LineRefusal>
+    ensures { IfOk result (λ reply. (start : Start) (earlier : List AnyStep) → IsAfter start earlier world.old
+        → IsCalled name.now now (call_shown call) (reply_shown reply) start earlier world.new) }
+{
+    let first = first_step_of(call, now);
+    let last = last_reply(alloc, world, &first)?;
+    let reply = write_reply(alloc, name, &first, last)?;
+    Ok(reply)
+}
