@@ -18,7 +18,7 @@ use std::sync::Wait;
 // ---- at the book of a transaction
 
 /// Begins the transaction, unless it is begun and not ended or its reply is kept.
-pub(crate) fn begin_in<R: Wait, L: Keeper<Row = BookRow>>(
+pub(crate) fn begin_transaction<R: Wait, L: Keeper<Row = BookRow>>(
     rt: &R,
     docks: &[PaddedDock<DockedBook<L>>],
     berths: &mut Vec<Berth<DockedBook<L>>>,
@@ -39,7 +39,7 @@ pub(crate) fn begin_in<R: Wait, L: Keeper<Row = BookRow>>(
 
 /// Ends the transaction, which this caller has begun, with this reply, which is kept for good; where that is refused it
 /// is given up.
-pub(crate) fn keep_in<R: Wait, L: Keeper<Row = BookRow>>(
+pub(crate) fn keep_reply<R: Wait, L: Keeper<Row = BookRow>>(
     rt: &R,
     docks: &[PaddedDock<DockedBook<L>>],
     berths: &mut Vec<Berth<DockedBook<L>>>,
@@ -61,7 +61,7 @@ pub(crate) fn keep_in<R: Wait, L: Keeper<Row = BookRow>>(
 }
 
 /// Gives up the transaction, which this caller has begun.
-pub(crate) fn give_up_in<R: Wait, L: Keeper<Row = BookRow>>(
+pub(crate) fn give_up_transaction<R: Wait, L: Keeper<Row = BookRow>>(
     rt: &R,
     docks: &[PaddedDock<DockedBook<L>>],
     berths: &mut Vec<Berth<DockedBook<L>>>,

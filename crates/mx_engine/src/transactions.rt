@@ -9,7 +9,7 @@ ghost use Rattle.mx_engine.specs.BookTurns.{HasBegunIn, IsEndedIn};
 ghost use Rattle.mx_engine.specs.Transactions.{IsOffered, AreOffered, SomeOffered, IsReplied, IsRefused};
 ghost use Rattle.mx_engine.specs.Berths.{AreBerthsAt, views_of};
 
-use crate::book_turns::{begin_in, give_up_in, keep_in};
+use crate::book_turns::{begin_transaction, give_up_transaction, keep_reply};
 use crate::calls::{ShardCall, call_in};
 use crate::docked::{DockedBook, DockedShard, PaddedDock};
 use crate::gates::Gate;
@@ -65,7 +65,7 @@ pub(crate) fn transact<R: Wait, K: Keeper<Row = ShardRow>, L: Keeper<Row = BookR
     ensures err { OnErr result (IsRefused seat.old.number key.now events.now (views_of seat.old.shards.items) (views_of seat.old.books.items) (views_of seat.new.shards.items) (views_of seat.new.books.items)) }
 {
     let caller = seat.number;
-    let opening = begin_in(rt, docks.books, &mut seat.books, caller, key)?;
+    let opening = begin_transaction(rt, docks.books, &mut seat.books, caller, key)?;
     match opening {
         Opening::Kept(reply) => Ok(TransactionReply::Replayed(reply)),
         Opening::Busy => Ok(TransactionReply::Busy),
@@ -112,11 +112,11 @@ fn close_begun<R: Wait, K: Keeper<Row = ShardRow>, L: Keeper<Row = BookRow>, G: 
         events,
     ) {
         Ok((reply, kept)) => {
-            keep_in(rt, docks.books, &mut seat.books, caller, key, kept)?;
+            keep_reply(rt, docks.books, &mut seat.books, caller, key, kept)?;
             Ok(TransactionReply::Closed(reply))
         }
         Err(error) => {
-            give_up_in(rt, docks.books, &mut seat.books, caller, key);
+            give_up_transaction(rt, docks.books, &mut seat.books, caller, key);
             Err(error)
         }
     }

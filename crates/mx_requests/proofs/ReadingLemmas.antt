@@ -3,12 +3,12 @@ use Rattle.std.proofs.Common.{◌≡◌, ◌≤◌, ◌<◌, ℕ, suc, List, [],
 use Rattle.std.specs.Char.{encode_utf8}
 use Rattle.std.proofs.lemmas.Bool.{cases_lt}
 use Rattle.std.proofs.lemmas.Str.{encode_ascii, inside_one, length-encode, len_utf8_bounds}
-use Rattle.mx_requests.specs.declared.authorization.Place.{Place}
-use Rattle.mx_requests.specs.declared.authorization.Place.TheVariants.{BeforeName, InName, BeforeValue, InValue, InQuotes, AfterBackslash, AfterQuote, AfterSpaces, Outside}
+use Rattle.mx_requests.specs.declared.authorization.HeaderState.{HeaderState}
+use Rattle.mx_requests.specs.declared.authorization.HeaderState.TheVariants.{BeforeName, InName, BeforeValue, InValue, InQuotes, AfterBackslash, AfterQuote, AfterSpaces, Outside}
 use Rattle.mx_requests.specs.Authorization.{PartView, Reading, step, stepped, feed}
 
 -- such a byte ends nothing
-pub step_other : (p : Place) (c : ℕ) → 128 ≤ c → step p c ≡ step p 128
+pub step_other : (p : HeaderState) (c : ℕ) → 128 ≤ c → step p c ≡ step p 128
 step_other BeforeName c large = grind arith
 step_other InName c large = grind arith
 step_other BeforeValue c large = grind arith
@@ -19,11 +19,11 @@ step_other AfterQuote c large = grind arith
 step_other AfterSpaces c large = grind arith
 step_other Outside c large = refl
 
-abbrev reading : List PartView → Place → List ℕ → List ℕ → Reading
+abbrev reading : List PartView → HeaderState → List ℕ → List ℕ → Reading
 reading parts place name value = record { parts = parts; place = place; name = name; value = value }
 
 -- two steps of such bytes are one of both
-twice : (parts : List PartView) (p : Place) (name value xs ys : List ℕ)
+twice : (parts : List PartView) (p : HeaderState) (name value xs ys : List ℕ)
     → stepped (step (stepped (step p 128) (reading parts p name value) xs).place 128) (stepped (step p 128) (reading parts p name value) xs) ys
     ≡ stepped (step p 128) (reading parts p name value) (xs ++ ys)
 twice parts BeforeName name value xs ys = ap (λ n. reading parts InName n value) (append_assoc name xs ys)

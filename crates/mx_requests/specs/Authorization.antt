@@ -4,10 +4,10 @@ use Rattle.std.specs.Prelude.{ℕ, ◌==◌, Bool, true, false, not, ◌&&◌, �
 use Rattle.std.specs.List.{list_any, before_first, after_first}
 use Rattle.std.specs.Str.{str_eq_ignore_ascii_case}
 use Rattle.mx_ident.specs.Identifier.{is_server_name}
-use Rattle.mx_requests.specs.declared.authorization.Place.{Place}
-use Rattle.mx_requests.specs.declared.authorization.Place.TheVariants.{BeforeName, InName, BeforeValue, InValue, InQuotes, AfterBackslash, AfterQuote, AfterSpaces, Outside}
-use Rattle.mx_requests.specs.declared.authorization.Step.{Step}
-use Rattle.mx_requests.specs.declared.authorization.Step.TheVariants.{Move, AddToName, AddToValue, EndPart}
+use Rattle.mx_requests.specs.declared.authorization.HeaderState.{HeaderState}
+use Rattle.mx_requests.specs.declared.authorization.HeaderState.TheVariants.{BeforeName, InName, BeforeValue, InValue, InQuotes, AfterBackslash, AfterQuote, AfterSpaces, Outside}
+use Rattle.mx_requests.specs.declared.authorization.HeaderAction.{HeaderAction}
+use Rattle.mx_requests.specs.declared.authorization.HeaderAction.TheVariants.{Move, AddToName, AddToValue, EndPart}
 use Rattle.mx_requests.specs.declared.faults.Fault.{Fault}
 use Rattle.mx_requests.specs.declared.faults.Fault.TheVariants.{NoOrigin, WrongDestination}
 
@@ -19,7 +19,7 @@ pub record PartView : Type 0 where
 -- the parts before the one that is being read, the place in it, and its name and value as far as they are read
 pub record Reading : Type 0 where
   pub parts : List PartView
-  pub place : Place
+  pub place : HeaderState
   pub name : List ℕ
   pub value : List ℕ
 
@@ -45,11 +45,11 @@ abbrev pub ends_name : ℕ → Bool
 ends_name c = c == equals_sign || c == comma || c == space || c == quote
 
 -- a character after a whole value
-abbrev pub after_value : ℕ → Step
+abbrev pub after_value : ℕ → HeaderAction
 after_value c = if c == comma then EndPart else (if c == space then Move AfterSpaces else Move Outside)
 
 -- what a character does at a place
-abbrev pub step : Place → ℕ → Step
+abbrev pub step : HeaderState → ℕ → HeaderAction
 step BeforeName c = if c == space then Move BeforeName else (if ends_name c then Move Outside else AddToName)
 step InName c = if c == equals_sign then Move BeforeValue else (if ends_name c then Move Outside else AddToName)
 step BeforeValue c =
@@ -68,7 +68,7 @@ abbrev pub last_part : Reading → PartView
 last_part r = record { name = r.name; value = r.value }
 
 -- a reading after a step on these bytes
-abbrev pub stepped : Step → Reading → List ℕ → Reading
+abbrev pub stepped : HeaderAction → Reading → List ℕ → Reading
 stepped (Move place) r bytes = record r { place = place }
 stepped AddToName r bytes = record r { place = InName; name = r.name ++ bytes }
 stepped (AddToValue place) r bytes = record r { place = place; value = r.value ++ bytes }
@@ -79,7 +79,7 @@ abbrev pub feed : Reading → ℕ → Reading
 feed r c = stepped (step r.place c) r (c ∷ [])
 
 -- whether a value is whole, so that the header may end here
-abbrev pub is_whole : Place → Bool
+abbrev pub is_whole : HeaderState → Bool
 is_whole BeforeValue = true
 is_whole InValue = true
 is_whole AfterQuote = true

@@ -18,7 +18,7 @@ pub(crate) struct Part {
 
 // Where a reading stands in a part; `Outside` where the form is broken.
 #[derive(Clone, Copy, Drop)]
-pub(crate) enum Place {
+pub(crate) enum HeaderState {
     BeforeName,
     InName,
     // Right after the `=`.
@@ -34,10 +34,10 @@ pub(crate) enum Place {
 
 // What a character does to a reading.
 #[derive(Clone, Copy, Drop)]
-pub(crate) enum Step {
-    Move(Place),
+pub(crate) enum HeaderAction {
+    Move(HeaderState),
     AddToName,
-    AddToValue(Place),
+    AddToValue(HeaderState),
     EndPart,
 }
 
@@ -45,7 +45,7 @@ pub(crate) enum Step {
 #[derive(Drop)]
 pub(crate) struct Reader {
     parts: Vec<Part>,
-    place: Place,
+    place: HeaderState,
     name: String,
     value: String,
 }
@@ -162,30 +162,30 @@ impl Part {
     }
 }
 
-impl Place {
+impl HeaderState {
     ghost use Rattle.std.specs.Prelude.{◌≡◌};
     ghost use Rattle.mx_requests.specs.Authorization.{after_value, is_whole, step};
 
-    fn step(self, character: char) -> Step
+    fn step(self, character: char) -> HeaderAction
         ensures { result ≡ step self character }
     {
         match (self, character) {
-            (Place::BeforeName, ' ') => Step::Move(Place::BeforeName),
-            (Place::InName, '=') => Step::Move(Place::BeforeValue),
-            (Place::BeforeName | Place::InName, '=' | ',' | ' ' | '"') => Step::Move(
-                Place::Outside,
+            (HeaderState::BeforeName, ' ') => HeaderAction::Move(HeaderState::BeforeName),
+            (HeaderState::InName, '=') => HeaderAction::Move(HeaderState::BeforeValue),
+            (HeaderState::BeforeName | HeaderState::InName, '=' | ',' | ' ' | '"') => HeaderAction::Move(
+                HeaderState::Outside,
             ),
-            (Place::BeforeName | Place::InName, _) => Step::AddToName,
-            (Place::BeforeValue, '"') => Step::Move(Place::InQuotes),
-            (Place::BeforeValue, ' ') => Step::Move(Place::Outside),
-            (Place::InQuotes, '"') => Step::Move(Place::AfterQuote),
-            (Place::InQuotes, '\\') => Step::Move(Place::AfterBackslash),
-            (Place::InQuotes | Place::AfterBackslash, _) => Step::AddToValue(Place::InQuotes),
-            (Place::Outside, _) => Step::Move(Place::Outside),
-            (_, ',') => Step::EndPart,
-            (_, ' ') => Step::Move(Place::AfterSpaces),
-            (Place::BeforeValue | Place::InValue, _) => Step::AddToValue(Place::InValue),
-            (Place::AfterQuote | Place::AfterSpaces, _) => Step::Move(Place::Outside),
+            (HeaderState::BeforeName | HeaderState::InName, _) => HeaderAction::AddToName,
+            (HeaderState::BeforeValue, '"') => HeaderAction::Move(HeaderState::InQuotes),
+            (HeaderState::BeforeValue, ' ') => HeaderAction::Move(HeaderState::Outside),
+            (HeaderState::InQuotes, '"') => HeaderAction::Move(HeaderState::AfterQuote),
+            (HeaderState::InQuotes, '\\') => HeaderAction::Move(HeaderState::AfterBackslash),
+            (HeaderState::InQuotes | HeaderState::AfterBackslash, _) => HeaderAction::AddToValue(HeaderState::InQuotes),
+            (HeaderState::Outside, _) => HeaderAction::Move(HeaderState::Outside),
+            (_, ',') => HeaderAction::EndPart,
+            (_, ' ') => HeaderAction::Move(HeaderState::AfterSpaces),
+            (HeaderState::BeforeValue | HeaderState::InValue, _) => HeaderAction::AddToValue(HeaderState::InValue),
+            (HeaderState::AfterQuote | HeaderState::AfterSpaces, _) => HeaderAction::Move(HeaderState::Outside),
         }
     }
 
@@ -195,7 +195,7 @@ impl Place {
     {
         matches!(
             self,
-            Place::BeforeValue | Place::InValue | Place::AfterQuote
+            HeaderState::BeforeValue | HeaderState::InValue | HeaderState::AfterQuote
         )
     }
 }
@@ -211,7 +211,7 @@ impl Reader {
     {
         Reader {
             parts: Vec::new(alloc),
-            place: Place::BeforeName,
+            place: HeaderState::BeforeName,
             name: String::new(alloc),
             value: String::new(alloc),
         }
@@ -223,18 +223,18 @@ impl Reader {
             ≡ definition.stepped (definition.step self.old.place character) (reading_of self.old) (encode_utf8 character)) }
     {
         match self.place.step(character) {
-            Step::Move(place) => self.place = place,
-            Step::AddToName => {
+            HeaderAction::Move(place) => self.place = place,
+            HeaderAction::AddToName => {
                 self.name.push(character)?;
-                self.place = Place::InName;
+                self.place = HeaderState::InName;
             }
-            Step::AddToValue(place) => {
+            HeaderAction::AddToValue(place) => {
                 self.value.push(character)?;
                 self.place = place;
             }
-            Step::EndPart => {
+            HeaderAction::EndPart => {
                 self.end_part(alloc)?;
-                self.place = Place::BeforeName;
+                self.place = HeaderState::BeforeName;
             }
         }
         Ok(())
@@ -243,7 +243,7 @@ impl Reader {
     // Adds the part that is being read to the parts, and begins another.
     fn end_part(&mut self, alloc: Global) -> Result<(), AllocError>
         ensures { OnOk result (reading_of self.new
-            ≡ record (definition.stepped Step.EndPart (reading_of self.old) []) { place = self.old.place }) }
+            ≡ record (definition.stepped HeaderAction.EndPart (reading_of self.old) []) { place = self.old.place }) }
     {
         let name = replace(&mut self.name, String::new(alloc));
         let value = replace(&mut self.value, String::new(alloc));

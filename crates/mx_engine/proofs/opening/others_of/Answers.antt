@@ -25,3 +25,13 @@ loop-made-preserved g c =
       first_books = λ journals f. e.first_books journals c.loop-made.made (i.first_books journals f);
       lists = (e.lists.0 ∙ i.lists.0, e.lists.1 ∙ i.lists.1, e.lists.2 ∙ i.lists.2);
     }
+
+pub next_seat-requires-shards : goal.next_seat-requires-shards
+next_seat-requires-shards g c =
+    let r = c.requires.shards in
+    (r.0, c.loop-made.made, c.loop-made.invariant.first_shards r.0 r.1)
+
+pub next_seat-requires-books : goal.next_seat-requires-books
+next_seat-requires-books g c =
+    let r = c.requires.books in
+    (r.0, c.loop-made.made, c.loop-made.invariant.first_books r.0 r.1)

@@ -4,9 +4,9 @@ use Rattle.mx_engine.proofs.transactions.transact.Goals as goal
 
 pub returns-in_err-opening-clause-ended : goal.returns-in_err-opening-clause-ended
 returns-in_err-opening-clause-ended g c =
-    nothing_ended (views_of c.args.seat.now.books.items) (views_of c.begin_in.new.berths.items) c.in_err-opening.ensures.opened.err c.requires.ended
+    nothing_ended (views_of c.args.seat.now.books.items) (views_of c.begin_transaction.new.berths.items) c.in_err-opening.ensures.opened.err c.requires.ended
 
 pub returns-in-Fresh-clause-ended : goal.returns-in-Fresh-clause-ended
 returns-in-Fresh-clause-ended g c =
-    closed_all c.args.seat.now.number c.args.key.now c.args.events.now (views_of c.args.seat.now.shards.items) (views_of c.close_begun.new.seat.shards.items) (views_of c.args.seat.now.books.items) (views_of c.begin_in.new.berths.items) (views_of c.close_begun.new.seat.books.items) c.close_begun.result c.in_ok-opening.opening c.in-Fresh.is
+    closed_all c.args.seat.now.number c.args.key.now c.args.events.now (views_of c.args.seat.now.shards.items) (views_of c.close_begun.new.seat.shards.items) (views_of c.args.seat.now.books.items) (views_of c.begin_transaction.new.berths.items) (views_of c.close_begun.new.seat.books.items) c.close_begun.result c.in_ok-opening.opening c.in-Fresh.is
     c.in_ok-opening.ensures.opened c.close_begun.ensures.ok c.close_begun.ensures.err c.requires.ended

@@ -2,7 +2,7 @@ use Rattle.std.proofs.Common.{◌≡◌, ◌<◌, ◌∙◌, ap, sym, length, ar
 use Rattle.mx_keeper.specs.Places.{place_number}
 use Rattle.mx_book.specs.declared.entries.BookEntry.TheVariants.{Kept, GivenUp}
 use Rattle.mx_engine.proofs.TransactionLemmas.{begun_there, kept_same, kept_in, refused_in}
-use Rattle.mx_engine.proofs.book_turns.keep_in.Goals as goal
+use Rattle.mx_engine.proofs.book_turns.keep_reply.Goals as goal
 
 pub keep_at-requires-clause-begun : goal.keep_at-requires-clause-begun
 keep_at-requires-clause-begun g c =

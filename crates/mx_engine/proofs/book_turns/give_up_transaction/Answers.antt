@@ -2,7 +2,7 @@ use Rattle.std.proofs.Common.{◌≡◌, ◌<◌, ◌∙◌, ap, sym, length, ar
 use Rattle.mx_keeper.specs.Places.{place_number}
 use Rattle.mx_book.specs.declared.entries.BookEntry.TheVariants.{GivenUp}
 use Rattle.mx_engine.proofs.TransactionLemmas.{begun_there, ended_same, ended_in}
-use Rattle.mx_engine.proofs.book_turns.give_up_in.Goals as goal
+use Rattle.mx_engine.proofs.book_turns.give_up_transaction.Goals as goal
 
 pub give_up_at-requires-clause-begun : goal.give_up_at-requires-clause-begun
 give_up_at-requires-clause-begun g c =

@@ -1,7 +1,7 @@
 use Rattle.std.proofs.Common.{◌≡◌, ◌<◌, ◌∙◌, ap, sym, length, arith}
 use Rattle.mx_keeper.specs.Places.{place_number}
 use Rattle.mx_engine.proofs.TransactionLemmas.{opened_same, opened_in, begun_in}
-use Rattle.mx_engine.proofs.book_turns.begin_in.Goals as goal
+use Rattle.mx_engine.proofs.book_turns.begin_transaction.Goals as goal
 
 pub returns-clause-same : goal.returns-clause-same
 returns-clause-same g c =
