@@ -172,20 +172,25 @@ impl HeaderState {
         match (self, character) {
             (HeaderState::BeforeName, ' ') => HeaderAction::Move(HeaderState::BeforeName),
             (HeaderState::InName, '=') => HeaderAction::Move(HeaderState::BeforeValue),
-            (HeaderState::BeforeName | HeaderState::InName, '=' | ',' | ' ' | '"') => HeaderAction::Move(
-                HeaderState::Outside,
-            ),
+            (HeaderState::BeforeName | HeaderState::InName, '=' | ',' | ' ' | '"') =>
+                HeaderAction::Move(HeaderState::Outside),
             (HeaderState::BeforeName | HeaderState::InName, _) => HeaderAction::AddToName,
             (HeaderState::BeforeValue, '"') => HeaderAction::Move(HeaderState::InQuotes),
             (HeaderState::BeforeValue, ' ') => HeaderAction::Move(HeaderState::Outside),
             (HeaderState::InQuotes, '"') => HeaderAction::Move(HeaderState::AfterQuote),
             (HeaderState::InQuotes, '\\') => HeaderAction::Move(HeaderState::AfterBackslash),
-            (HeaderState::InQuotes | HeaderState::AfterBackslash, _) => HeaderAction::AddToValue(HeaderState::InQuotes),
+            (HeaderState::InQuotes | HeaderState::AfterBackslash, _) => HeaderAction::AddToValue(
+                HeaderState::InQuotes,
+            ),
             (HeaderState::Outside, _) => HeaderAction::Move(HeaderState::Outside),
             (_, ',') => HeaderAction::EndPart,
             (_, ' ') => HeaderAction::Move(HeaderState::AfterSpaces),
-            (HeaderState::BeforeValue | HeaderState::InValue, _) => HeaderAction::AddToValue(HeaderState::InValue),
-            (HeaderState::AfterQuote | HeaderState::AfterSpaces, _) => HeaderAction::Move(HeaderState::Outside),
+            (HeaderState::BeforeValue | HeaderState::InValue, _) => HeaderAction::AddToValue(
+                HeaderState::InValue,
+            ),
+            (HeaderState::AfterQuote | HeaderState::AfterSpaces, _) => HeaderAction::Move(
+                HeaderState::Outside,
+            ),
         }
     }
 
