@@ -1,0 +1,5 @@
+pub mod GrammarLemmas
+pub mod ReadableLemmas
+pub mod PieceLemmas
+pub mod ItemLemmas
+pub mod MemberLemmas

@@ -1,0 +1,4 @@
+pub mod Bodies
+pub mod Numbers
+pub mod Readable
+pub mod Pieces

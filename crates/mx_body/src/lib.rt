@@ -1,0 +1,11 @@
+//! The bodies of requests, read with memory of a few times their length: the canonical texts of what they hold, with
+//! no value kept that is not asked for (Matrix specification, Server-Server API).
+#![tactic(auto)]
+
+mod errors;
+mod members;
+mod numbers;
+mod pieces;
+mod reading;
+
+pub use errors::BodyError;
