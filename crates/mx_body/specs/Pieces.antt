@@ -71,3 +71,15 @@ AreKept room ms (Some es) = ArePiecesOf (room - count ms) ms es
 abbrev pub room_beside : Option (List Kept) → ℕ → ℕ
 room_beside None room = 0
 room_beside (Some es) room = room - length es
+
+-- the text of a piece, where it fits
+abbrev pub within : ℕ → Option (List ℕ) → Option (List ℕ)
+within room None = None
+within room (Some text) = cut room text
+
+-- a whole text was read to this value, and this is its text
+pub record ReadsText (room : ℕ) (found : Option Data) (piece : Option (List ℕ)) : Type 0 where
+  pub value : Data
+  pub read : found ≡ Some value
+  pub readable : IsReadable value
+  pub text : IsPieceOf room value piece

@@ -7,5 +7,7 @@ mod members;
 mod numbers;
 mod pieces;
 mod reading;
+mod texts;
 
 pub use errors::BodyError;
+pub use texts::event_text;

@@ -133,3 +133,13 @@ pub(crate) fn room_after(text: &Option<Vec<u8>>, room: usize) -> usize
         None => 0,
     }
 }
+
+/// The piece, where it fits.
+pub(crate) fn within(piece: Option<Vec<u8>>, largest: usize) -> Option<Vec<u8>>
+    ensures { bytes_of result ≡ definition.within largest (bytes_of piece) }
+{
+    match piece {
+        Some(text) if text.len() <= largest => Some(text),
+        _ => None,
+    }
+}
