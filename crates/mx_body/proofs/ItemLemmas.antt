@@ -1,5 +1,5 @@
 -- The items of an array, as they are read.
-use Rattle.std.proofs.Common.{◌≡◌, ℕ, ◌+◌, ◌-◌, ◌<◌, ◌≤◌, nat_le, Bool, true, false, ◌&&◌, List, [], ◌∷◌, ◌++◌, length, if◌then◌else◌, Option, Some, None, refl, sym, ap, ◌∙◌, arith, length-append, append_assoc}
+use Rattle.std.proofs.Common.{◌≡◌, ℕ, ◌-◌, ◌<◌, ◌≤◌, nat_le, Bool, true, false, ◌&&◌, List, [], ◌∷◌, ◌++◌, length, Option, Some, None, refl, sym, ap, ◌∙◌, arith, length-append, append_assoc}
 use Rattle.std.specs.List.{list_all}
 use Rattle.std.proofs.lemmas.List.Folds.{list_all-append}
 use Rattle.json.specs.Token.{Token}
@@ -57,6 +57,9 @@ module _ (p : Parse json.Json) where
       → parse_map array (converted of_items (items p (length first) first)) ≡ None
   items_fail first now front h going e = ap (parse_map array) (h.same ∙ ap (parse_map front) (item_refused p h.turns now going e))
 
+  pub items_over_all : (first now r : List Token) (front : Items → Items) → ItemsRead p first now front → after_end_array now ≡ Some r → parse_map array (converted of_items (items p (length first) first)) ≡ Some (array (front no_items), r)
+  items_over_all first now r front h e = ap (parse_map array) (h.same ∙ ap (parse_map front) (items_over p h.turns now r h.enough e))
+
   text_end : (room : ℕ) (front : Items → Items) (later : Bool) (text : Option (List ℕ)) → AreTexts room front later text → IsPieceOf room (array (front no_items)) (closed text)
   text_end room front later None h = h no_items
   text_end room front later (Some t) h = let w = h no_items in (w.0, sym w.1)
@@ -65,7 +68,7 @@ module _ (p : Parse json.Json) where
       → ReadsPiece room (parse_map array (converted of_items (items p (length first) first))) r (closed text)
   items_end room first now r front later text h texts e = record {
     value = array (front no_items);
-    read = ap (parse_map array) (h.same ∙ ap (parse_map front) (items_over p h.turns now r h.enough e));
+    read = items_over_all first now r front h e;
     readable = h.readable no_items tt;
     text = text_end room front later text texts;
   }

@@ -5,3 +5,7 @@ pub mod ItemLemmas
 pub mod MemberLemmas
 pub mod BackLemmas
 pub mod BodyLemmas
+pub mod KindLemmas
+pub mod EntryLemmas
+pub mod PartLemmas
+pub mod TransactionLemmas

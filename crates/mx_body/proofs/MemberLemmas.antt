@@ -17,7 +17,7 @@ use Rattle.serde_json.specs.Written.{compact_text, members_text, comma_if}
 use Rattle.mx_body.proofs.GrammarLemmas.{member_read, member_refused, key_refused, members_over}
 use Rattle.mx_canon.specs.Canonical.{is_canonical, is_exact, numbers, member_numbers}
 use Rattle.mx_body.specs.Bodies.{bytes_of}
-use Rattle.mx_body.specs.Pieces.{IsPieceOf, ReadsPiece, Kept, ArePiecesOf, AreKept, count}
+use Rattle.mx_body.specs.Pieces.{IsPieceOf, ReadsPiece, Kept, ArePiecesOf, count}
 use Rattle.mx_body.specs.Readable.{IsReadable}
 use Rattle.mx_body.proofs.ReadableLemmas.{IsReadable-put}
 
@@ -60,11 +60,14 @@ module _ (p : Parse json.Json) where
     pub members_no_key : read_key now ≡ None → parse_map object (converted (λ ms. of_members ms no_members) (members p (length first) first)) ≡ None
     members_no_key e = ap (parse_map object) (h.same ∙ key_refused p old h.turns now e)
 
+    pub members_over_all : (r : List Token) → read_key now ≡ Some (None, r) → parse_map object (converted (λ ms. of_members ms no_members) (members p (length first) first)) ≡ Some (object old, r)
+    members_over_all r e = ap (parse_map object) (h.same ∙ members_over p old h.turns now r h.enough e)
+
     pub members_end : (room : ℕ) (r : List Token) (piece : Option (List ℕ)) → read_key now ≡ Some (None, r) → IsPieceOf room (object old) piece
         → ReadsPiece room (parse_map object (converted (λ ms. of_members ms no_members) (members p (length first) first))) r piece
     members_end room r piece e text = record {
       value = object old;
-      read = ap (parse_map object) (h.same ∙ members_over p old h.turns now r h.enough e);
+      read = members_over_all r e;
       readable = h.readable;
       text = text;
     }

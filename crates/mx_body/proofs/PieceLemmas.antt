@@ -1,7 +1,6 @@
 -- The texts of parts, and what fits.
-use Rattle.std.proofs.Common.{◌≡◌, ℕ, ◌+◌, ◌-◌, ◌<◌, ◌≤◌, nat_le, Bool, true, false, List, [], ◌∷◌, ◌++◌, length, if◌then◌else◌, Option, Some, None, refl, sym, ap, ◌∙◌, arith, length-append, leb-true, le-leb}
-use Rattle.std.specs.List.{flat_map}
-use Rattle.json.specs.Print.{escape, escape_byte, quoted}
+use Rattle.std.proofs.Common.{◌≡◌, ℕ, ◌<◌, ◌≤◌, nat_le, Bool, true, false, List, [], ◌∷◌, length, Option, None, ap, ◌∙◌, arith, length-append}
+use Rattle.json.specs.Print.{escape, escape_byte}
 use Rattle.serde_json.specs.Data.{Data, string}
 use Rattle.serde_json.specs.Written.{compact_text}
 use Rattle.mx_canon.specs.Canonical.{is_canonical}

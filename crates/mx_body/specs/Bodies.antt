@@ -1,5 +1,5 @@
 -- What the body of a request says (Matrix specification, Server-Server API: "API standards", "Transactions").
-use Rattle.std.specs.Prelude.{ℕ, nat_le, Bool, ◌&&◌, if◌then◌else◌, List, codes, filter, filter_map, length, map, Vec, Option, Some, None, option_map, option_and_then, is_some}
+use Rattle.std.specs.Prelude.{ℕ, nat_le, Bool, ◌&&◌, if◌then◌else◌, List, codes, filter_map, length, map, Vec, Option, Some, None, option_map, option_and_then, is_some}
 use Rattle.std.specs.declared.alloc.Global.{Global}
 use Rattle.std.specs.Str.{is_utf8}
 use Rattle.serde_json.specs.Data.{Data}

@@ -2,3 +2,4 @@ pub mod Bodies
 pub mod Numbers
 pub mod Readable
 pub mod Pieces
+pub mod Transactions

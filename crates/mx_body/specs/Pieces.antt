@@ -3,7 +3,7 @@ use Rattle.std.specs.Prelude.{◌≡◌, ℕ, ◌+◌, ◌-◌, ◌<◌, ◌≤�
 use Rattle.std.specs.declared.alloc.Global.{Global}
 use Rattle.std.specs.BTreeMap.{BTreeMap}
 use Rattle.json.specs.Token.{Token}
-use Rattle.serde_json.specs.Data.{Data, Members, no_members, member, object}
+use Rattle.serde_json.specs.Data.{Data, Members, no_members, member}
 use Rattle.serde_json.specs.Written.{compact_text, comma_if}
 use Rattle.mx_canon.specs.Canonical.{is_canonical}
 use Rattle.mx_body.specs.Bodies.{bytes_of}

@@ -1,5 +1,5 @@
 -- A value as text is read. Only the crate's private clauses cite it.
-use Rattle.std.specs.Prelude.{◌≡◌, ℕ, List, ⊤, IsUtf8, true, pos, int_lt}
+use Rattle.std.specs.Prelude.{◌≡◌, ⊤, IsUtf8, true, pos, int_lt}
 use Rattle.std.specs.Cmp.Lexicographic.{slice_cmp}
 use Rattle.std.specs.Ordering.{nat_cmp}
 use Rattle.std.specs.List.Sorted.{IsStrictlySortedBy}

@@ -1,10 +1,10 @@
-use Rattle.std.proofs.Common.{◌≡◌, ◌-◌, ◌<◌, ◌∷◌, ◌++◌, [], length, string_bytes, sym, ap, ◌∙◌, subst, arith, Some, true}
+use Rattle.std.proofs.Common.{◌≡◌, ◌∷◌, ◌++◌, [], string_bytes, sym, ap, ◌∙◌, subst, arith, Some, true}
 use Rattle.json.specs.Print.{quoted}
-use Rattle.serde_json.specs.Data.{Members, object}
+use Rattle.serde_json.specs.Data.{object}
 use Rattle.serde_json.specs.Written.{comma_if}
 use Rattle.mx_body.specs.Bodies.{bytes_of}
-use Rattle.mx_body.specs.Pieces.{Kept, ArePiecesOf, IsPieceOf, count}
-use Rattle.mx_body.proofs.MemberLemmas.{MembersLeft, left_begin, left_none, left_more, left_long, left_end}
+use Rattle.mx_body.specs.Pieces.{Kept, IsPieceOf}
+use Rattle.mx_body.proofs.MemberLemmas.{MembersLeft, left_none, left_more, left_long, left_end}
 use Rattle.mx_body.proofs.members.piece_of_members.Goals as goal
 
 pub returns-in_default : goal.returns-in_default

@@ -1,4 +1,4 @@
-use Rattle.std.proofs.Common.{◌≡◌, ◌≤◌, ◌-◌, length, string_bytes, sym, ap, ◌∙◌, subst, arith, rules, Some, None}
+use Rattle.std.proofs.Common.{◌≤◌, ◌-◌, subst, arith, Some}
 use Rattle.serde_json.specs.Data.{put}
 use Rattle.mx_body.specs.Pieces.{AreKept, ArePiecesOf, IsPieceOf, count, kept_of, room_beside}
 use Rattle.mx_body.specs.Bodies.{bytes_of}

@@ -1,4 +1,4 @@
-use Rattle.std.proofs.Common.{◌<◌, length, arith}
+use Rattle.std.proofs.Common.{arith}
 use Rattle.mx_body.proofs.PieceLemmas.{string-long}
 use Rattle.mx_body.proofs.pieces.string_piece.Goals as goal
 

@@ -1,4 +1,4 @@
-use Rattle.std.proofs.Common.{◌≡◌, Some, inr, refl, sym, ap, ◌∙◌}
+use Rattle.std.proofs.Common.{Some, inr, refl, sym, ap, ◌∙◌}
 use Rattle.serde_json.specs.Read.{read}
 use Rattle.mx_body.specs.Bodies.{bytes_of, json_of}
 use Rattle.mx_body.proofs.BodyLemmas.{has_json, has_no_json, piece-within, reads_back, of_bytes, shallow-read}
