@@ -9,3 +9,4 @@ pub mod KindLemmas
 pub mod EntryLemmas
 pub mod PartLemmas
 pub mod TransactionLemmas
+pub mod BodyRows

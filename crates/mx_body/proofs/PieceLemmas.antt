@@ -1,5 +1,5 @@
 -- The texts of parts, and what fits.
-use Rattle.std.proofs.Common.{◌≡◌, ℕ, ◌<◌, ◌≤◌, nat_le, Bool, true, false, List, [], ◌∷◌, length, Option, None, ap, ◌∙◌, arith, length-append}
+use Rattle.std.proofs.Common.{◌≡◌, ℕ, ◌+◌, ◌<◌, ◌≤◌, nat_le, Bool, true, false, List, [], ◌∷◌, length, Option, None, ap, ◌∙◌, arith, length-append}
 use Rattle.json.specs.Print.{escape, escape_byte}
 use Rattle.serde_json.specs.Data.{Data, string}
 use Rattle.serde_json.specs.Written.{compact_text}
@@ -15,8 +15,8 @@ pub length-escape : (s : List ℕ) → length s ≤ length (escape s)
 length-escape [] = omega arith
 length-escape (b ∷ s) = omega (arith, escaped-some b, length-escape s, length-append (escape_byte b) (escape s))
 
--- a string that is longer than the room has a text that is
-pub string-long : (room : ℕ) (s : List ℕ) → room < length s → IsPieceOf room (string s) None
+-- a string that is longer than the room, with its quotation marks, has a text that is
+pub string-long : (room : ℕ) (s : List ℕ) → room < length s + 2 → IsPieceOf room (string s) None
 string-long room s h = λ _. omega (arith, length-escape s, length-append (escape s) (34 ∷ []))
 
 pub too_long : (room n : ℕ) → nat_le n room ≡ false → room < n

@@ -1,7 +1,7 @@
 // The members of an object, by key, each with its value's text.
 ghost use Rattle.std.specs.Prelude.{◌≡◌, ◌++◌, ◌∷◌, [], ◌-◌, IfOk, IsUtf8, OnOk, Some, None};
 ghost use Rattle.json.specs.Print.{quoted};
-ghost use Rattle.serde_json.specs.Data.{Data, Members, object, put};
+ghost use Rattle.serde_json.specs.Data.{Data, Members, no_members, object, put};
 ghost use Rattle.serde_json.specs.Written.{comma_if};
 ghost use Rattle.mx_body.specs.Bodies.{bytes_of};
 ghost use Rattle.mx_body.specs.Pieces as definition;
@@ -13,6 +13,17 @@ use std::alloc::{AllocError, Global};
 
 /// The texts of members, by key. One that has no text that fits may still be followed by another of its key.
 pub(crate) type Kept = Map<String, Option<Vec<u8>>>;
+
+/// No members, to which others may be added where there is room for any.
+pub(crate) fn no_kept(alloc: Global, room: usize) -> Option<Kept>
+    ensures { AreKept room no_members (kept_of result) }
+{
+    if room == 0 {
+        None
+    } else {
+        Some(Map::new(alloc))
+    }
+}
 
 /// The room for one member more.
 pub(crate) fn room_beside(found: &Option<Kept>, room: usize) -> usize

@@ -56,7 +56,7 @@ pub(crate) fn string_piece(
     ensures piece { IfOk result (λ piece. IsPieceOf room (string text.now) (bytes_of piece)) }
     ensures utf8 { IsUtf8 text.now }
 {
-    if text.len() > room {
+    if text.len() + 2 > room {
         return Ok(None);
     }
     let bytes = string_text(alloc, text)?;

@@ -8,11 +8,10 @@ ghost use Rattle.mx_body.specs.Bodies.{bytes_of};
 ghost use Rattle.mx_body.specs.Pieces.{ReadsPiece};
 
 use crate::errors::BodyError;
-use crate::members::{object_piece, room_beside, with_member};
+use crate::members::{no_kept, object_piece, room_beside, with_member};
 use crate::numbers::{number_piece, parse};
 use crate::pieces::{bool_piece, closed, fitting, null_piece, room_after, string_piece, with_item};
 use json::{Reader, Token};
-use serde_json::Map;
 use std::alloc::Global;
 
 /// How deep arrays and objects of a body may nest.
@@ -116,7 +115,7 @@ fn read_members(
     ensures err { IsErrOf result BodyError.NotJson → parse_map object
         (converted (λ ms. of_members ms no_members) (members (value depth) (length reader.old) reader.old)) ≡ None }
 {
-    let mut found = Some(Map::new(alloc));
+    let mut found = no_kept(alloc, room);
     'members: while let Some(key) = reader.next_key()? {
         let left = room_beside(&found, room);
         let member = read(alloc, reader, depth, left)?;

@@ -144,8 +144,7 @@ read_items-returns-clause-ok t c =
     subst (ReadsPiece c.args.room _ r) (sym c.in_ok-all.ensures) whole
 
 pub read_members-members-init : goal.read_members-members-init
-read_members-members-init t c =
-    (no_members, members_begin (value c.args.depth) c.args.reader.now, subst (ArePiecesOf (c.args.room - 0) no_members) (sym c.new.ensures.empty) tt)
+read_members-members-init t c = (no_members, members_begin (value c.args.depth) c.args.reader.now, c.no_kept-found.ensures)
 
 pub read_members-returns-in_err-key-clause-err : goal.read_members-returns-in_err-key-clause-err
 read_members-returns-in_err-key-clause-err t c = λ refused.
