@@ -17,16 +17,6 @@ use Rattle.mx_requests.specs.Requests.{entries_up_to, events_in, is_array_up_to}
 use Rattle.mx_pdu.specs.Format.{is_well_formed}
 use Rattle.mx_requests.proofs.BodyIdLemmas.{values}
 
-is_some_if : {A : Type 0} (x : A) (b : Bool) → is_some (if b then Some x else None) ≡ b
-is_some_if x true = refl
-is_some_if x false = refl
-
-pub array-length : (n : ℕ) (d : Data) (vs : List Value) → Some (items_view vs) ≡ as_array d → is_array_up_to n d ≡ nat_le (length vs) n
-array-length n d vs e =
-    ap (λ o. is_some (option_and_then (λ ds. if nat_le (length (item_list ds)) n then Some (item_list ds) else None) o)) (sym e)
-    ∙ is_some_if (item_list (items_view vs)) (nat_le (length (item_list (items_view vs))) n)
-    ∙ ap (λ k. nat_le k n) (items-length vs)
-
 entries-by : (n : ℕ) (vs : List Value) (b : Bool) → nat_le (length vs) n ≡ b → entries_up_to n (array (items_view vs)) ≡ (if b then Some (map (λ (v : Value). view v) vs) else None)
 entries-by n vs b e =
     ap (λ k. if nat_le k n then Some (item_list (items_view vs)) else None) (items-length vs)
@@ -39,12 +29,6 @@ short n vs e = entries-by n vs true e
 
 pub long : (n : ℕ) (vs : List Value) → nat_le (length vs) n ≡ false → entries_up_to n (array (items_view vs)) ≡ None
 long n vs e = entries-by n vs false e
-
--- the events of a body with few ephemeral ones
-pub events-at : (d : Data) (o : Option Data) → is_none_or (is_array_up_to 100) (field (codes "edus") d) ≡ true → field (codes "pdus") d ≡ o → events_in d ≡ option_map (filter is_well_formed) (option_and_then (entries_up_to 50) o)
-events-at d o few e =
-    ap (λ b. if b then option_map (filter is_well_formed) (option_and_then (entries_up_to 50) (field (codes "pdus") d)) else None) few
-    ∙ ap (λ x. option_map (filter is_well_formed) (option_and_then (entries_up_to 50) x)) e
 
 pub not_below : (m n : ℕ) → n < m → nat_le m n ≡ false
 not_below m n over = by (nat_le m n) refl

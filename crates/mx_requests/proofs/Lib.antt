@@ -12,6 +12,7 @@ pub mod DigitLemmas
 pub mod BodyIdLemmas
 pub mod JsonLemmas
 pub mod EntryLemmas
+pub mod BodyEventLemmas
 pub mod RequestRows
 pub mod CallRows
 pub mod ReplyRows

@@ -6,6 +6,7 @@ pub mod Targets
 pub mod Parameters
 pub mod Requests
 pub mod BodyIds
+pub mod BodyEvents
 pub mod Calls
 pub mod CallsShown
 pub mod ReplyBodies

@@ -5,12 +5,13 @@ ghost use Rattle.mx_pdu.specs.Format.{is_well_formed};
 ghost use Rattle.mx_requests.specs.Calls as definition;
 ghost use Rattle.mx_requests.specs.CallsShown.{call_shown};
 ghost use Rattle.mx_pdu.specs.Offers.{offer_by};
-ghost use Rattle.mx_requests.specs.Requests.{missing_query as missing_query_of};
+ghost use Rattle.serde_json.specs.Data.{Data};
+ghost use Rattle.mx_requests.specs.Requests.{body_value as body_value_of, missing_query as missing_query_of};
 ghost use Rattle.mx_requests.specs.Targets.{parameters};
 
 use crate::bodies::json_values::body_value;
 use crate::bodies::missing_events::missing_query;
-use crate::bodies::transactions::transaction_events;
+use crate::bodies::transactions::{event_of_body, transaction_events};
 use crate::faults::{Fault, InvalidPart};
 use crate::targets::parameters::parameters_of;
 use crate::targets::route_parameters::{
@@ -20,7 +21,7 @@ use crate::targets::routes::Route;
 use crate::targets::segments::{event_at, room_at, txn_at, user_at};
 use crate::targets::{path_of, query_of};
 use mx_ident::{EventId, RoomId, ServerName};
-use mx_pdu::{Offered, Pdu, PduError, Verifier};
+use mx_pdu::{Offered, Pdu, Verifier};
 use mx_redact::{is_text, text_field};
 use mx_room::{EventIdList, Query};
 use serde_json::Value;
@@ -95,8 +96,7 @@ fn send_call<V: Verifier>(
         ⊎ (definition.send_call (offer_by (V.judges verifier.now)) origin path.now body.now ≡ Err fault)) }
 {
     let transaction = txn_at(alloc, path, 0)?;
-    let value = body_value(alloc, body)?;
-    let events = events_offered(alloc, verifier, value)?;
+    let events = events_offered(alloc, verifier, body)?;
     Ok(WireCall::Sends {
         origin,
         transaction,
@@ -104,21 +104,19 @@ fn send_call<V: Verifier>(
     })
 }
 
-// The events of a transaction; `WrongForm` where the value is no transaction.
+// The events of a transaction; `WrongForm` where the body is none.
 fn events_offered<V: Verifier>(
     alloc: Global,
     verifier: &V,
-    body: Value,
+    body: &[u8],
 ) -> Result<Vec<Offered>, Fault>
-    ensures ok { IfOk result (λ events.
-        definition.events_offered (offer_by (V.judges verifier.now)) (view body) ≡ Some events.items) }
-    ensures err { IfErr result (λ fault. (fault ≡ Fault.Memory) ⊎ ((fault ≡ Fault.WrongForm)
-        × (definition.events_offered (offer_by (V.judges verifier.now)) (view body) ≡ None))) }
+    ensures ok { IfOk result (λ events. (d : Data) × (body_value_of body.now ≡ Ok d)
+        × (definition.events_offered (offer_by (V.judges verifier.now)) d ≡ Some events.items)) }
+    ensures err { IfErr result (λ fault. (fault ≡ Fault.Memory) ⊎ ((body_value_of body.now ≡ Err fault)
+        ⊎ ((fault ≡ Fault.WrongForm) × (d : Data) × (body_value_of body.now ≡ Ok d)
+        × (definition.events_offered (offer_by (V.judges verifier.now)) d ≡ None)))) }
 {
-    let Value::Object(mut members) = body else {
-        return Err(Fault::WrongForm);
-    };
-    match transaction_events(alloc, &mut members, verifier)? {
+    match transaction_events(alloc, body, verifier)? {
         Some(events) => Ok(events),
         None => Err(Fault::WrongForm),
     }
@@ -264,23 +262,22 @@ fn send_join_call<V: Verifier>(
 {
     let room = room_at(alloc, path, 0)?;
     let id = event_at(alloc, path, 1)?;
-    let value = body_value(alloc, body)?;
-    let event = event_offered(alloc, verifier, value)?;
+    let event = event_offered(alloc, verifier, body)?;
     let call = join_of(origin, &room, &id, event)?;
     Ok(call)
 }
 
-// The event that a value is, as it is offered; `WrongForm` where it is none.
-fn event_offered<V: Verifier>(alloc: Global, verifier: &V, body: Value) -> Result<Offered, Fault>
-    ensures ok { IfOk result (λ event. (is_well_formed (view body) ≡ true)
-        × (event ≡ offer_by (V.judges verifier.now) (view body))) }
-    ensures err { IfErr result (λ fault. (fault ≡ Fault.Memory)
-        ⊎ ((fault ≡ Fault.WrongForm) × (is_well_formed (view body) ≡ false))) }
+// The event that a body is, as it is offered; `WrongForm` where it is none.
+fn event_offered<V: Verifier>(alloc: Global, verifier: &V, body: &[u8]) -> Result<Offered, Fault>
+    ensures ok { IfOk result (λ event. (d : Data) × (body_value_of body.now ≡ Ok d)
+        × (is_well_formed d ≡ true) × (event ≡ offer_by (V.judges verifier.now) d)) }
+    ensures err { IfErr result (λ fault. (fault ≡ Fault.Memory) ⊎ ((body_value_of body.now ≡ Err fault)
+        ⊎ ((fault ≡ Fault.WrongForm) × (d : Data) × (body_value_of body.now ≡ Ok d)
+        × (is_well_formed d ≡ false)))) }
 {
-    match Offered::from_value(alloc, body, verifier) {
-        Ok(event) => Ok(event),
-        Err(PduError::Memory) => Err(Fault::Memory),
-        Err(PduError::NotAnEvent(_)) => Err(Fault::WrongForm),
+    match event_of_body(alloc, body, verifier)? {
+        Some(event) => Ok(event),
+        None => Err(Fault::WrongForm),
     }
 }
 

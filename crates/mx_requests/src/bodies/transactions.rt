@@ -1,15 +1,17 @@
 // What the body of a transaction says.
-ghost use Rattle.std.specs.Prelude.{◌≡◌, IfOk, None, Some, codes, if◌then◌else◌, filter, map, option_and_then, option_map};
-ghost use Rattle.serde_json.specs.Data.{object};
-ghost use Rattle.serde_json.specs.View.{view, members_view};
+ghost use Rattle.std.specs.Prelude.{◌≡◌, ◌⊎◌, Err, IfErr, IfOk, None, Ok, Some, if◌then◌else◌, filter, map, option_and_then, option_map};
+ghost use Rattle.serde_json.specs.Data.{Data};
+ghost use Rattle.serde_json.specs.View.{view};
 ghost use Rattle.mx_pdu.specs.Format.{is_well_formed};
-ghost use Rattle.mx_redact.specs.Fields.{field as field_of, is_none_or};
+ghost use Rattle.mx_body.specs.Bodies.{texts_of};
+ghost use Rattle.mx_requests.specs.BodyEvents.{offered_if_formed, offered_in};
 ghost use Rattle.mx_requests.specs.Requests as definition;
 ghost use Rattle.mx_pdu.specs.Offers.{offer_by};
 
+use crate::faults::Fault;
+use mx_body::{BodyError, event_text, transaction_texts};
 use mx_pdu::{Offered, PduError, Verifier};
-use mx_redact::field;
-use serde_json::{Map, Value};
+use serde_json::Value;
 use std::alloc::{AllocError, Global};
 
 /// How many events (PDUs) a transaction has at most.
@@ -17,49 +19,95 @@ use std::alloc::{AllocError, Global};
 /// Source: the Matrix specification, Server-Server API, "Transactions".
 pub(crate) const MOST_EVENTS: usize = 50;
 
-/// How many ephemeral events (EDUs) a transaction has at most. They are not looked at.
+/// How many bytes the canonical text of an event has at most.
 ///
-/// Source: the Matrix specification, Server-Server API, "Transactions".
-pub(crate) const MOST_EPHEMERAL_EVENTS: usize = 100;
+/// Source: the Matrix specification, Client-Server API, "Size limits".
+const LONGEST_EVENT: usize = 65_536;
 
-/// The events of a transaction that are well formed, in their order, each with its id and the verifier's answer.
+/// The events of a transaction that are well formed, in their order, each with its id and the verifier's answer. No value
+/// is made of the body, and one at a time of its events.
 ///
-/// None where `pdus` is no array of at most [`MOST_EVENTS`], or `edus` is there and is no array of at most
-/// [`MOST_EPHEMERAL_EVENTS`]. `AllocError` where it is a transaction and no memory is left. Source: the Matrix
-/// specification, Server-Server API, `PUT /_matrix/federation/v1/send/{txnId}`.
+/// None where `pdus` is no array of at most [`MOST_EVENTS`], or `edus` is there and is no array of at most 100. `NotJson`
+/// as for a body; `Memory`. Source: the Matrix specification, Server-Server API, `PUT /_matrix/federation/v1/send/{txnId}`.
 pub(crate) fn transaction_events<V: Verifier>(
     alloc: Global,
-    body: &mut Map<String, Value>,
+    body: &[u8],
     verifier: &V,
-) -> Result<Option<Vec<Offered>>, AllocError>
-    ensures { IfOk result (λ events. option_map (λ events. events.items) events
-        ≡ option_map (map (offer_by (V.judges verifier.now))) (definition.events_in (object (members_view body.old.entries)))) }
+) -> Result<Option<Vec<Offered>>, Fault>
+    ensures ok { IfOk result (λ events. (d : Data) × (definition.body_value body.now ≡ Ok d)
+        × (option_map (λ events. events.items) events
+        ≡ option_map (map (offer_by (V.judges verifier.now))) (definition.events_in d))) }
+    ensures err { IfErr result (λ fault. (fault ≡ Fault.Memory) ⊎ (definition.body_value body.now ≡ Err fault)) }
 {
-    if !has_few_ephemeral_events(body) {
-        return Ok(None);
-    }
-    match body.remove("pdus") {
-        Some(events) => events_in(alloc, events, verifier),
-        None => Ok(None),
-    }
-}
-
-fn has_few_ephemeral_events(body: &Map<String, Value>) -> bool
-    ensures { result ≡ is_none_or (definition.is_array_up_to 100)
-        (field_of (codes "edus") (object (members_view body.now.entries))) }
-{
-    match field(body, "edus") {
-        Some(events) => is_array_up_to(events, MOST_EPHEMERAL_EVENTS),
-        None => true,
+    match transaction_texts(alloc, body, LONGEST_EVENT) {
+        Ok(Some(texts)) => {
+            let events = events_of_texts(alloc, texts, verifier)?;
+            Ok(Some(events))
+        }
+        Ok(None) => Ok(None),
+        Err(BodyError::Memory) => Err(Fault::Memory),
+        Err(BodyError::NotJson) => Err(Fault::NotJson),
     }
 }
 
-fn is_array_up_to(value: &Value, most: usize) -> bool
-    ensures { result ≡ definition.is_array_up_to most (view value.now) }
+/// The event that a body is JSON for, as it is offered; none where it is malformed. No value is made of a body that is
+/// longer than an event may be.
+///
+/// `NotJson` as for a body; `Memory`. Source: the Matrix specification, Server-Server API, "Joining Rooms".
+pub(crate) fn event_of_body<V: Verifier>(
+    alloc: Global,
+    body: &[u8],
+    verifier: &V,
+) -> Result<Option<Offered>, Fault>
+    ensures ok { IfOk result (λ event. (d : Data) × (definition.body_value body.now ≡ Ok d)
+        × (event ≡ offered_if_formed (offer_by (V.judges verifier.now)) d)) }
+    ensures err { IfErr result (λ fault. (fault ≡ Fault.Memory) ⊎ (definition.body_value body.now ≡ Err fault)) }
 {
-    match value.as_array() {
-        Some(entries) => entries.len() <= most,
-        None => false,
+    match event_text(alloc, body, LONGEST_EVENT) {
+        Ok(Some(text)) => {
+            let event = event_of_text(alloc, &text, verifier)?;
+            Ok(event)
+        }
+        Ok(None) => Ok(None),
+        Err(BodyError::Memory) => Err(Fault::Memory),
+        Err(BodyError::NotJson) => Err(Fault::NotJson),
+    }
+}
+
+// The well-formed events that these texts are JSON for.
+fn events_of_texts<V: Verifier>(
+    alloc: Global,
+    texts: Vec<Vec<u8>>,
+    verifier: &V,
+) -> Result<Vec<Offered>, AllocError>
+    ensures { IfOk result (λ events.
+        events.items ≡ offered_in (offer_by (V.judges verifier.now)) (texts_of texts.items)) }
+{
+    let mut events = Vec::with_capacity(alloc, texts.len())?;
+    for text in texts {
+        if let Some(event) = event_of_text(alloc, &text, verifier)? {
+            events.push(event)?;
+        }
+    }
+    Ok(events)
+}
+
+// The event that a text is JSON for; none where it is malformed, or no JSON.
+fn event_of_text<V: Verifier>(
+    alloc: Global,
+    text: &[u8],
+    verifier: &V,
+) -> Result<Option<Offered>, AllocError>
+    ensures { IfOk result (λ event.
+        event ≡ option_and_then (offered_if_formed (offer_by (V.judges verifier.now))) (definition.json_of text.now)) }
+{
+    match Value::from_slice(alloc, text) {
+        Ok(value) => well_formed(alloc, value, verifier),
+        Err(error) => if error.is_memory() {
+            Err(AllocError)
+        } else {
+            Ok(None)
+        },
     }
 }
 

@@ -1,24 +1,19 @@
-use Rattle.std.proofs.Common.{◌≡◌, sym, ap, ◌∙◌, codes, subst, IfOk, map}
-use Rattle.std.specs.Prelude.{option_map, Some, None}
-use Rattle.serde_json.specs.Data.{object}
-use Rattle.serde_json.specs.View.{view, members_view}
-use Rattle.serde_json.specs.declared.value.Value.{Value}
+use Rattle.std.proofs.Common.{sym, ap, ◌∙◌, map}
+use Rattle.std.specs.Prelude.{option_map}
+use Rattle.mx_body.specs.Bodies.{pdus_in, texts_of}
 use Rattle.mx_pdu.specs.Offers.{offer_by}
-use Rattle.mx_requests.proofs.EntryLemmas.{events-at, shown_at}
+use Rattle.mx_requests.specs.declared.faults.Fault.TheVariants.{NotJson}
+use Rattle.mx_requests.specs.Requests.{json_of, ok_or_fault}
+use Rattle.mx_requests.proofs.BodyEventLemmas.{events-pdus, some_events}
 use Rattle.mx_requests.proofs.bodies.transactions.transaction_events.Goals as goal
 
-pub returns-in-Some : goal.returns-in-Some
-returns-in-Some g c =
-    let at = shown_at (codes "pdus") c.args.body.now.entries in
-    let some = ap (option_map (λ (v : Value). view v)) (sym c.in-Some.is ∙ c.remove.ensures.value) ∙ at in
-    let few = sym c.has_few_ephemeral_events.ensures ∙ c.if-not-has_few_ephemeral_events.false in
-    subst (λ found. IfOk c.events_in.result (λ events. option_map (λ events'. events'.items) events ≡ option_map (map (offer_by (g.V.Verifier.judges c.args.verifier.now))) found))
-    (sym (events-at (object (members_view c.args.body.now.entries)) (Some (view c.in-Some.events)) few (sym some)))
-    c.events_in.ensures
-
-pub returns-in-None : goal.returns-in-None
-returns-in-None g c =
-    let at = shown_at (codes "pdus") c.args.body.now.entries in
-    let none = ap (option_map (λ (v : Value). view v)) (sym c.in-None.is ∙ c.remove.ensures.value) ∙ at in
-    let few = sym c.has_few_ephemeral_events.ensures ∙ c.if-not-has_few_ephemeral_events.false in
-    sym (ap (option_map (map (offer_by (g.V.Verifier.judges c.args.verifier.now)))) (events-at (object (members_view c.args.body.now.entries)) None few (sym none)))
+pub returns-in_ok-events-in-Ok-Some-clause-ok : goal.returns-in_ok-events-in-Ok-Some-clause-ok
+returns-in_ok-events-in-Ok-Some-clause-ok g c =
+    let arm = c.in-Ok-Some in
+    let (d, is, texts, back) = arm.ensures.ok in
+    let offer = offer_by (g.V.Verifier.judges c.args.verifier.now) in
+    let here = sym (ap (option_map (λ all. map json_of (texts_of all.items))) arm.field-0-is) ∙ back in (
+      d,
+      ap (ok_or_fault NotJson) is,
+      some_events offer (texts_of arm.texts.items) c.in_ok-events-in-Ok-Some.events.items (pdus_in d) here c.in_ok-events-in-Ok-Some.ensures ∙ ap (option_map (map offer)) (events-pdus d),
+    )

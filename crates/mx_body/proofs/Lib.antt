@@ -1,0 +1,12 @@
+pub mod GrammarLemmas
+pub mod ReadableLemmas
+pub mod PieceLemmas
+pub mod ItemLemmas
+pub mod MemberLemmas
+pub mod BackLemmas
+pub mod BodyLemmas
+pub mod KindLemmas
+pub mod EntryLemmas
+pub mod PartLemmas
+pub mod TransactionLemmas
+pub mod BodyRows

@@ -1,0 +1,5 @@
+pub mod Bodies
+pub mod Numbers
+pub mod Readable
+pub mod Pieces
+pub mod Transactions

@@ -1,0 +1,80 @@
+-- The events that a body's texts are JSON for.
+use Rattle.std.proofs.Common.{◌≡◌, ◌<◌, ◌≤◌, ℕ, Bool, true, false, ◌&&◌, if◌then◌else◌, nat_le, nat_lt, List, [], ◌∷◌, length, map, filter, codes, arith, refl, sym, ap, ap₂, ◌∙◌, IsTrue}
+use Rattle.std.proofs.lemmas.Bool.{le-leb, ltb-false}
+use Rattle.std.specs.List.{cons_option}
+use Rattle.std.specs.Prelude.{Option, Some, None, option_map, option_and_then}
+use Rattle.serde_json.specs.Data.{Data}
+use Rattle.mx_canon.specs.Canonical.{canonical_text}
+use Rattle.mx_redact.specs.Fields.{Event, field, is_none_or}
+use Rattle.mx_pdu.specs.Format.{is_well_formed, longest_text}
+use Rattle.mx_pdu.specs.declared.offering.Offered.{Offered}
+use Rattle.mx_pdu.proofs.FormatLemmas.{formed}
+use Rattle.mx_body.specs.Bodies.{has_text_within, pdus_in, text_within}
+use Rattle.mx_requests.specs.BodyEvents.{offered_if_formed, offered_in}
+use Rattle.mx_requests.specs.Requests.{entries_up_to, events_in, is_array_up_to, json_of}
+
+-- the length of an event's text
+abbrev pub longest : ℕ
+longest = 65536
+
+-- a well-formed event has a text that is not too long
+has_text : (d : Data) → is_well_formed d ≡ true → has_text_within longest d ≡ true
+has_text d h =
+    let w = formed d h in
+    let short : length (canonical_text d) ≤ 65536 = ltb-false 65536 (length (canonical_text d)) w.short in
+    ap₂ (λ a b. a && b) w.canonical (le-leb (length (canonical_text d)) 65536 short)
+
+no_text-by : (offer : Event → Offered) (d : Data) (b : Bool) → is_well_formed d ≡ b → None ≡ text_within longest d → None ≡ (if b then Some (offer d) else None)
+no_text-by offer d true is e = let some = ap (λ b. if b then Some (canonical_text d) else None) (has_text d is) in absurd (cc)
+no_text-by offer d false is e = refl
+
+-- what has no such text is no event
+pub no_text : (offer : Event → Offered) (d : Data) → None ≡ text_within longest d → None ≡ offered_if_formed offer d
+no_text offer d e = no_text-by offer d (is_well_formed d) refl e
+
+-- ---- in a list
+
+filter-by : (d : Data) (ds : List Data) (b w : Bool) → has_text_within longest d ≡ b → is_well_formed d ≡ w → filter is_well_formed (filter (has_text_within longest) ds) ≡ filter is_well_formed ds
+    → filter is_well_formed (if b then d ∷ filter (has_text_within longest) ds else filter (has_text_within longest) ds) ≡ (if w then d ∷ filter is_well_formed ds else filter is_well_formed ds)
+filter-by d ds true w has is rest = ap (λ b. if b then d ∷ filter is_well_formed (filter (has_text_within longest) ds) else filter is_well_formed (filter (has_text_within longest) ds)) is ∙ ap (λ xs. if w then d ∷ xs else xs) rest
+filter-by d ds false true has is rest = let other = has_text d is in absurd (cc)
+filter-by d ds false false has is rest = rest
+
+-- no well-formed event is left out
+none_left_out : (ds : List Data) → filter is_well_formed (filter (has_text_within longest) ds) ≡ filter is_well_formed ds
+none_left_out [] = refl
+none_left_out (d ∷ ds) = filter-by d ds (has_text_within longest d) (is_well_formed d) refl refl (none_left_out ds)
+
+module _ (offer : Event → Offered) where
+  one : (d : Data) (ds : List Data) (rest : List Offered) (b : Bool) → rest ≡ map offer (filter is_well_formed ds) → cons_option (if b then Some (offer d) else None) rest ≡ map offer (if b then d ∷ filter is_well_formed ds else filter is_well_formed ds)
+  one d ds rest true e = ap (λ xs. offer d ∷ xs) e
+  one d ds rest false e = e
+
+  -- texts that are JSON for these values, one by one
+  offered-values : (texts : List (List ℕ)) (ds : List Data) → map json_of texts ≡ map Some ds → offered_in offer texts ≡ map offer (filter is_well_formed ds)
+  offered-values [] [] e = refl
+  offered-values [] (d ∷ ds) e = absurd (cc)
+  offered-values (t ∷ texts) [] e = absurd (cc)
+  offered-values (t ∷ texts) (d ∷ ds) e =
+      let here : json_of t ≡ Some d = cc in
+      let later : map json_of texts ≡ map Some ds = cc in
+      ap (λ o. cons_option (option_and_then (offered_if_formed offer) o) (offered_in offer texts)) here ∙ one d ds (offered_in offer texts) (is_well_formed d) (offered-values texts ds later)
+
+  pub some_events : (texts : List (List ℕ)) (events : List Offered) (o : Option (List Data)) → Some (map json_of texts) ≡ option_map (λ entries. map Some (filter (has_text_within longest) entries)) o → events ≡ offered_in offer texts
+      → Some events ≡ option_map (map offer) (option_map (filter is_well_formed) o)
+  some_events texts events None e same = absurd (cc)
+  some_events texts events (Some entries) e same =
+      let back : map json_of texts ≡ map Some (filter (has_text_within longest) entries) = cc in
+      ap Some (same ∙ offered-values texts (filter (has_text_within longest) entries) back ∙ ap (map offer) (none_left_out entries))
+
+  pub no_events : {A : Type 0} (f : List Data → A) (o : Option (List Data)) → None ≡ option_map f o → None ≡ option_map (map offer) (option_map (filter is_well_formed) o)
+  no_events f None e = refl
+  no_events f (Some entries) e = absurd (cc)
+
+few-by : (b : Bool) (o : Option (List Data)) → option_map (filter is_well_formed) (if b then o else None) ≡ (if b then option_map (filter is_well_formed) o else None)
+few-by true o = refl
+few-by false o = refl
+
+-- the events of a transaction are the well-formed ones among its PDUs
+pub events-pdus : (d : Data) → option_map (filter is_well_formed) (pdus_in d) ≡ events_in d
+events-pdus d = few-by (is_none_or (is_array_up_to 100) (field (codes "edus") d)) (option_and_then (entries_up_to 50) (field (codes "pdus") d))
