@@ -5,13 +5,13 @@ use Rattle.std.specs.List.{cons_option}
 use Rattle.std.specs.Prelude.{Option, Some, None, option_map, option_and_then}
 use Rattle.serde_json.specs.Data.{Data}
 use Rattle.mx_canon.specs.Canonical.{canonical_text}
-use Rattle.mx_redact.specs.Fields.{Event, field, is_none_or}
+use Rattle.mx_redact.specs.Fields.{Event}
 use Rattle.mx_pdu.specs.Format.{is_well_formed, longest_text}
 use Rattle.mx_pdu.specs.declared.offering.Offered.{Offered}
 use Rattle.mx_pdu.proofs.FormatLemmas.{formed}
-use Rattle.mx_body.specs.Bodies.{has_text_within, pdus_in, text_within}
+use Rattle.mx_body.specs.Bodies.{has_text_within, text_within}
 use Rattle.mx_requests.specs.BodyEvents.{offered_if_formed, offered_in}
-use Rattle.mx_requests.specs.Requests.{entries_up_to, events_in, is_array_up_to, json_of}
+use Rattle.mx_requests.specs.Requests.{json_of}
 
 -- the length of an event's text
 abbrev pub longest : ℕ
@@ -70,11 +70,3 @@ module _ (offer : Event → Offered) where
   pub no_events : {A : Type 0} (f : List Data → A) (o : Option (List Data)) → None ≡ option_map f o → None ≡ option_map (map offer) (option_map (filter is_well_formed) o)
   no_events f None e = refl
   no_events f (Some entries) e = absurd (cc)
-
-few-by : (b : Bool) (o : Option (List Data)) → option_map (filter is_well_formed) (if b then o else None) ≡ (if b then option_map (filter is_well_formed) o else None)
-few-by true o = refl
-few-by false o = refl
-
--- the events of a transaction are the well-formed ones among its PDUs
-pub events-pdus : (d : Data) → option_map (filter is_well_formed) (pdus_in d) ≡ events_in d
-events-pdus d = few-by (is_none_or (is_array_up_to 100) (field (codes "edus") d)) (option_and_then (entries_up_to 50) (field (codes "pdus") d))

@@ -13,7 +13,7 @@ use Rattle.serde_json.proofs.Views.{view-lookup}
 use Rattle.serde_json.specs.declared.value.Value.{Value}
 use Rattle.mx_redact.specs.Fields.{field, is_none_or, item_list}
 use Rattle.mx_pdu.proofs.FieldLemmas.{items-length}
-use Rattle.mx_requests.specs.Requests.{entries_up_to, events_in, is_array_up_to}
+use Rattle.mx_requests.specs.Requests.{entries_up_to}
 use Rattle.mx_pdu.specs.Format.{is_well_formed}
 use Rattle.mx_requests.proofs.BodyIdLemmas.{values}
 

@@ -8,6 +8,7 @@ use Rattle.serde_json.specs.Data.{Data}
 use Rattle.serde_json.specs.Read.{read}
 use Rattle.serde_json.specs.Find.{as_str, as_array, as_number, as_u64}
 use Rattle.mx_ident.specs.Identifier.{decimal_value, is_event_id}
+pub use Rattle.mx_body.specs.Bodies.{json_of, entries_up_to, is_array_up_to, pdus_in}
 use Rattle.mx_redact.specs.Fields.{Event, field, is_none_or, is_object, item_list}
 use Rattle.mx_pdu.specs.Format.{is_well_formed}
 use Rattle.mx_room.specs.declared.queries.Query.{Query}
@@ -35,20 +36,8 @@ on_ok (Err f) rest = Err f
 
 -- ---- the body
 
--- JSON text is UTF-8
-abbrev pub json_of : List ℕ → Option Data
-json_of text = if is_utf8 text then read text else None
-
 abbrev pub body_value : List ℕ → Read Data
 body_value body = ok_or_fault NotJson (json_of body)
-
--- the entries of an array of at most n
-abbrev pub entries_up_to : ℕ → Data → Option (List Data)
-entries_up_to n d =
-    option_and_then (λ ds. if nat_le (length (item_list ds)) n then Some (item_list ds) else None) (as_array d)
-
-abbrev pub is_array_up_to : ℕ → Data → Bool
-is_array_up_to n d = is_some (entries_up_to n d)
 
 -- an integer from 0 that 64 bits hold
 abbrev pub natural_of : Data → Option ℕ
@@ -74,10 +63,7 @@ ids_or_none (Some d) = option_and_then all_event_ids (option_and_then (λ ds. te
 -- Server-Server API, transactions: at most 50 PDUs, and at most 100 EDUs, which are not looked at; a malformed PDU has no
 -- result
 abbrev pub events_in : Data → Option (List Event)
-events_in d =
-    if is_none_or (is_array_up_to 100) (field (codes "edus") d)
-    then option_map (filter is_well_formed) (option_and_then (entries_up_to 50) (field (codes "pdus") d))
-    else None
+events_in d = option_map (filter is_well_formed) (pdus_in d)
 
 -- ---- parameters
 

@@ -9,15 +9,10 @@ ghost use Rattle.mx_requests.specs.Requests as definition;
 ghost use Rattle.mx_pdu.specs.Offers.{offer_by};
 
 use crate::faults::Fault;
-use mx_body::{BodyError, event_text, transaction_texts};
+use mx_body::{BodyError, MOST_EVENTS, event_text, transaction_texts};
 use mx_pdu::{Offered, PduError, Verifier};
 use serde_json::Value;
 use std::alloc::{AllocError, Global};
-
-/// How many events (PDUs) a transaction has at most.
-///
-/// Source: the Matrix specification, Server-Server API, "Transactions".
-pub(crate) const MOST_EVENTS: usize = 50;
 
 /// How many bytes the canonical text of an event has at most.
 ///
