@@ -5,7 +5,7 @@ use Rattle.std.specs.List.{join_with_byte}
 use Rattle.std.specs.Str.{chars, is_utf8}
 use Rattle.serde_json.proofs.OnLiterals.{serde_json_on_literals}
 use Rattle.mx_canon.specs.Canonical.{canonical_text}
-use Rattle.mx_body.specs.Bodies.{json_of, pdus_in, text_within, texts_within}
+use Rattle.mx_body.specs.Bodies.{Question, json_of, pdus_in, question_of, text_within, texts_within}
 
 -- what is unfolded to compute them
 unfoldable bodies_on_literals : ⊤
@@ -91,3 +91,26 @@ fifty-one = refl
 hundred-and-one : sent (codes "{\"pdus\":[],\"edus\":[" ++ (entries 101 ++ codes "]}")) ≡ Some None
 unfolding bodies_on_literals
 hundred-and-one = refl
+
+-- ---- a question for missing events
+
+abbrev asked : List ℕ → Option (Option Question)
+asked body = option_map question_of (json_of body)
+
+usual : asked (codes "{}") ≡ Some (Some (record { earliest = []; latest = []; limit = 10; min_depth = 0 }))
+unfolding bodies_on_literals
+usual = refl
+
+-- the last value of a key counts
+whole-question : asked (codes "{\"limit\":1.5,\"latest_events\":[\"$b\"],\"limit\":3,\"earliest_events\":[\"$a\",\"$c\"],\"min_depth\":2,\"x\":[]}")
+    ≡ Some (Some (record { earliest = codes "$a" ∷ codes "$c" ∷ []; latest = codes "$b" ∷ []; limit = 3; min_depth = 2 }))
+unfolding bodies_on_literals
+whole-question = refl
+
+no-id : asked (codes "{\"latest_events\":[\"$b\",\"b\"]}") ≡ Some None
+unfolding bodies_on_literals
+no-id = refl
+
+no-question : asked (codes "[]") ≡ Some None
+unfolding bodies_on_literals
+no-question = refl

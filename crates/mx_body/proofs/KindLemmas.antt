@@ -1,5 +1,5 @@
 -- What kind of value a token begins.
-use Rattle.std.proofs.Common.{◌≡◌, ℕ, ◌<◌, List, ◌∷◌, length, ◌-◌, Option, Some, None, option_map, refl, sym, ap, ◌∙◌}
+use Rattle.std.proofs.Common.{◌≡◌, Bor, ℕ, ◌<◌, List, ◌∷◌, length, ◌-◌, Option, Some, None, option_map, refl, sym, ap, ◌∙◌}
 use Rattle.json.specs.Token as spec
 use Rattle.json.specs.Json.{parse_map, items, members, value}
 use Rattle.json.specs.Reads.{token_of}
@@ -8,7 +8,7 @@ use Rattle.json.specs.declared.token.Token.TheVariants.{BeginObject, EndObject, 
 use Rattle.json.proofs.Grammar.{value_is, value-begin_array, value-begin_object}
 use Rattle.serde_json.specs.Data.{Num, Data, null, boolean, number, string, array, object, Items, Members}
 use Rattle.serde_json.specs.Read.{number_of, of_json, converted}
-use Rattle.serde_json.specs.Find.{as_array, get}
+use Rattle.serde_json.specs.Find.{as_array, as_number, as_object, as_str, get}
 use Rattle.mx_body.proofs.GrammarLemmas.{converted-array, converted-object}
 
 abbrev Kind : Token → Data → Type 0
@@ -84,3 +84,50 @@ module _ (depth : ℕ) (some : 0 < depth) (ts r : List spec.Token) (d : Data) wh
 
   pub no_object : (key : List ℕ) (t : Token) → (t ≡ BeginObject → ⊥) → converted of_json (value depth (token_of t ∷ ts)) ≡ Some (d, r) → get key d ≡ None
   no_object key t other e = no_object-of key t other (kind t e)
+
+  no_members-of : (t : Token) → (t ≡ BeginObject → ⊥) → Kind t d → as_object d ≡ None
+  no_members-of BeginObject other k = absurd (other refl)
+  no_members-of EndObject other k = absurd k
+  no_members-of BeginArray other k = ap as_object k.1
+  no_members-of EndArray other k = absurd k
+  no_members-of (Key s) other k = absurd k
+  no_members-of (String s) other k = ap as_object k
+  no_members-of (Number s) other k = ap as_object k.1
+  no_members-of (Bool b) other k = ap as_object k
+  no_members-of Null other k = ap as_object k
+  no_members-of Bad other k = absurd k
+
+  pub no_members_in : (t : Token) → (t ≡ BeginObject → ⊥) → converted of_json (value depth (token_of t ∷ ts)) ≡ Some (d, r) → as_object d ≡ None
+  no_members_in t other e = no_members-of t other (kind t e)
+
+  -- no string is another token
+  no_string-of : (t : Token) → ((s : Bor (List ℕ)) → t ≡ String s → ⊥) → Kind t d → as_str d ≡ None
+  no_string-of BeginObject other k = ap as_str k.1
+  no_string-of EndObject other k = absurd k
+  no_string-of BeginArray other k = ap as_str k.1
+  no_string-of EndArray other k = absurd k
+  no_string-of (Key s) other k = absurd k
+  no_string-of (String s) other k = absurd (other s refl)
+  no_string-of (Number s) other k = ap as_str k.1
+  no_string-of (Bool b) other k = ap as_str k
+  no_string-of Null other k = ap as_str k
+  no_string-of Bad other k = absurd k
+
+  pub no_string : (t : Token) → ((s : Bor (List ℕ)) → t ≡ String s → ⊥) → converted of_json (value depth (token_of t ∷ ts)) ≡ Some (d, r) → as_str d ≡ None
+  no_string t other e = no_string-of t other (kind t e)
+
+  -- no number is another token
+  no_number-of : (t : Token) → ((s : Bor (List ℕ)) → t ≡ Number s → ⊥) → Kind t d → as_number d ≡ None
+  no_number-of BeginObject other k = ap as_number k.1
+  no_number-of EndObject other k = absurd k
+  no_number-of BeginArray other k = ap as_number k.1
+  no_number-of EndArray other k = absurd k
+  no_number-of (Key s) other k = absurd k
+  no_number-of (String s) other k = ap as_number k
+  no_number-of (Number s) other k = absurd (other s refl)
+  no_number-of (Bool b) other k = ap as_number k
+  no_number-of Null other k = ap as_number k
+  no_number-of Bad other k = absurd k
+
+  pub no_number : (t : Token) → ((s : Bor (List ℕ)) → t ≡ Number s → ⊥) → converted of_json (value depth (token_of t ∷ ts)) ≡ Some (d, r) → as_number d ≡ None
+  no_number t other e = no_number-of t other (kind t e)

@@ -10,3 +10,5 @@ pub mod EntryLemmas
 pub mod PartLemmas
 pub mod TransactionLemmas
 pub mod BodyRows
+pub mod IdLemmas
+pub mod QuestionLemmas

@@ -3,3 +3,4 @@ pub mod Numbers
 pub mod Readable
 pub mod Pieces
 pub mod Transactions
+pub mod Questions

@@ -1,12 +1,12 @@
 -- The events that a body's texts are JSON for.
-use Rattle.std.proofs.Common.{◌≡◌, ◌<◌, ◌≤◌, ℕ, Bool, true, false, ◌&&◌, if◌then◌else◌, nat_le, nat_lt, List, [], ◌∷◌, length, map, filter, codes, arith, refl, sym, ap, ap₂, ◌∙◌, IsTrue}
+use Rattle.std.proofs.Common.{◌≡◌, ◌≤◌, ℕ, Bool, true, false, ◌&&◌, if◌then◌else◌, List, [], ◌∷◌, length, map, filter, codes, refl, ap, ap₂, ◌∙◌}
 use Rattle.std.proofs.lemmas.Bool.{le-leb, ltb-false}
 use Rattle.std.specs.List.{cons_option}
 use Rattle.std.specs.Prelude.{Option, Some, None, option_map, option_and_then}
 use Rattle.serde_json.specs.Data.{Data}
 use Rattle.mx_canon.specs.Canonical.{canonical_text}
 use Rattle.mx_redact.specs.Fields.{Event}
-use Rattle.mx_pdu.specs.Format.{is_well_formed, longest_text}
+use Rattle.mx_pdu.specs.Format.{is_well_formed}
 use Rattle.mx_pdu.specs.declared.offering.Offered.{Offered}
 use Rattle.mx_pdu.proofs.FormatLemmas.{formed}
 use Rattle.mx_body.specs.Bodies.{has_text_within, text_within}

@@ -1,8 +1,7 @@
 -- The entries of an array.
-use Rattle.std.proofs.Common.{◌≡◌, ◌<◌, ◌≤◌, ℕ, Bool, true, false, if◌then◌else◌, nat_le, List, length, string_bytes, String, map, codes, filter, arith, refl, sym, ap, ◌∙◌, leb-true}
-use Rattle.std.specs.Prelude.{Option, Some, None, option_map, option_and_then, is_some}
-use Rattle.serde_json.specs.Data.{Data, array, object}
-use Rattle.serde_json.specs.Find.{as_array}
+use Rattle.std.proofs.Common.{◌≡◌, ◌<◌, ◌≤◌, ℕ, Bool, true, false, if◌then◌else◌, nat_le, List, [], ◌∷◌, length, string_bytes, String, map, arith, refl, ap, ◌∙◌, leb-true}
+use Rattle.std.specs.Prelude.{Some, None, option_map}
+use Rattle.serde_json.specs.Data.{array, object}
 use Rattle.std.specs.Map.{lookup}
 use Rattle.std.specs.BTreeMap.{is_at}
 use Rattle.std.specs.Ordering.{nat_cmp}
@@ -11,11 +10,13 @@ use Rattle.std.specs.declared.alloc.Global.{Global}
 use Rattle.serde_json.specs.View.{view, items_view, members_view}
 use Rattle.serde_json.proofs.Views.{view-lookup}
 use Rattle.serde_json.specs.declared.value.Value.{Value}
-use Rattle.mx_redact.specs.Fields.{field, is_none_or, item_list}
+use Rattle.mx_redact.specs.Fields.{field, item_list}
 use Rattle.mx_pdu.proofs.FieldLemmas.{items-length}
 use Rattle.mx_requests.specs.Requests.{entries_up_to}
-use Rattle.mx_pdu.specs.Format.{is_well_formed}
-use Rattle.mx_requests.proofs.BodyIdLemmas.{values}
+
+values : (vs : List Value) → item_list (items_view vs) ≡ map (λ (v : Value). view v) vs
+values [] = refl
+values (v ∷ vs) = ap (λ ds. view v ∷ ds) (values vs)
 
 entries-by : (n : ℕ) (vs : List Value) (b : Bool) → nat_le (length vs) n ≡ b → entries_up_to n (array (items_view vs)) ≡ (if b then Some (map (λ (v : Value). view v) vs) else None)
 entries-by n vs b e =

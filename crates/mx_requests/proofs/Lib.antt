@@ -9,8 +9,8 @@ pub mod RouteLemmas
 pub mod OnExamples
 pub mod WireRows
 pub mod DigitLemmas
-pub mod BodyIdLemmas
 pub mod JsonLemmas
+pub mod QuestionLemmas
 pub mod EntryLemmas
 pub mod BodyEventLemmas
 pub mod RequestRows

@@ -5,7 +5,6 @@ pub mod Reading
 pub mod Targets
 pub mod Parameters
 pub mod Requests
-pub mod BodyIds
 pub mod BodyEvents
 pub mod Calls
 pub mod CallsShown

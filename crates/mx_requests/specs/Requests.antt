@@ -1,15 +1,12 @@
 -- What the parameters and the body of a request say (Matrix specification, Server-Server API: transactions, retrieving
 -- events, joining rooms).
-use Rattle.std.specs.Prelude.{ℕ, ◌==◌, nat_le, nat_lt, min, Bool, ◌&&◌, if◌then◌else◌, List, [], ◌∷◌, codes, filter, length, Option, Some, None, option_map, option_and_then, is_some, Result, Ok, Err}
+use Rattle.std.specs.Prelude.{ℕ, ◌==◌, nat_lt, min, Bool, ◌&&◌, if◌then◌else◌, List, codes, filter, length, Option, Some, None, option_map, Result, Ok, Err}
 use Rattle.std.specs.List.{list_all}
 use Rattle.std.specs.Char.{is_ascii_digit}
-use Rattle.std.specs.Str.{is_utf8}
 use Rattle.serde_json.specs.Data.{Data}
-use Rattle.serde_json.specs.Read.{read}
-use Rattle.serde_json.specs.Find.{as_str, as_array, as_number, as_u64}
 use Rattle.mx_ident.specs.Identifier.{decimal_value, is_event_id}
-pub use Rattle.mx_body.specs.Bodies.{json_of, entries_up_to, is_array_up_to, pdus_in}
-use Rattle.mx_redact.specs.Fields.{Event, field, is_none_or, is_object, item_list}
+pub use Rattle.mx_body.specs.Bodies.{json_of, entries_up_to, is_array_up_to, pdus_in, natural_of, question_of}
+use Rattle.mx_redact.specs.Fields.{Event}
 use Rattle.mx_pdu.specs.Format.{is_well_formed}
 use Rattle.mx_room.specs.declared.queries.Query.{Query}
 use Rattle.mx_room.specs.declared.queries.Query.TheVariants as ask
@@ -38,27 +35,6 @@ on_ok (Err f) rest = Err f
 
 abbrev pub body_value : List ℕ → Read Data
 body_value body = ok_or_fault NotJson (json_of body)
-
--- an integer from 0 that 64 bits hold
-abbrev pub natural_of : Data → Option ℕ
-natural_of d = option_and_then as_u64 (as_number d)
-
--- the integer at a key, or what stands for an absent one
-abbrev pub natural_or : ℕ → Option Data → Option ℕ
-natural_or default None = Some default
-natural_or default (Some d) = natural_of d
-
-abbrev pub texts_of : List Data → Option (List (List ℕ))
-texts_of [] = Some []
-texts_of (d ∷ ds) = option_and_then (λ s. option_map (λ ss. s ∷ ss) (texts_of ds)) (as_str d)
-
-abbrev pub all_event_ids : List (List ℕ) → Option (List (List ℕ))
-all_event_ids ids = if list_all is_event_id ids then Some ids else None
-
--- a list of event ids at a key; an absent one is empty
-abbrev pub ids_or_none : Option Data → Option (List (List ℕ))
-ids_or_none None = Some []
-ids_or_none (Some d) = option_and_then all_event_ids (option_and_then (λ ds. texts_of (item_list ds)) (as_array d))
 
 -- Server-Server API, transactions: at most 50 PDUs, and at most 100 EDUs, which are not looked at; a malformed PDU has no
 -- result
@@ -91,13 +67,6 @@ limit_parameter ps =
 
 -- ---- Server-Server API, get_missing_events
 
--- what the body asks of a room; an absent `limit` is 10, an absent `min_depth` 0
+-- what the body asks of a room
 abbrev pub missing_query : List ℕ → Data → Option Query
-missing_query room d =
-    if is_object d
-    then option_and_then (λ earliest. option_and_then (λ latest. option_and_then (λ limit. option_map (λ min_depth. ask.Missing room earliest latest limit min_depth)
-    (natural_or 0 (field (codes "min_depth") d)))
-    (natural_or 10 (field (codes "limit") d)))
-    (ids_or_none (field (codes "latest_events") d)))
-    (ids_or_none (field (codes "earliest_events") d))
-    else None
+missing_query room d = option_map (λ q. ask.Missing room q.earliest q.latest q.limit q.min_depth) (question_of d)

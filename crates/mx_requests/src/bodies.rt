@@ -1,4 +1,3 @@
 // What the bodies of requests say.
-pub(crate) mod json_values;
 pub(crate) mod missing_events;
 pub(crate) mod transactions;

@@ -1,15 +1,13 @@
 // What a request of a known origin asks for, route by route.
 ghost use Rattle.std.specs.Prelude.{◌≡◌, ◌⊎◌, Ok, Err, IfErr, IfOk, None, Some, false, true};
-ghost use Rattle.serde_json.specs.View.{view};
 ghost use Rattle.mx_pdu.specs.Format.{is_well_formed};
 ghost use Rattle.mx_requests.specs.Calls as definition;
 ghost use Rattle.mx_requests.specs.CallsShown.{call_shown};
 ghost use Rattle.mx_pdu.specs.Offers.{offer_by};
 ghost use Rattle.serde_json.specs.Data.{Data};
-ghost use Rattle.mx_requests.specs.Requests.{body_value as body_value_of, missing_query as missing_query_of};
+ghost use Rattle.mx_requests.specs.Requests.{body_value as body_value_of};
 ghost use Rattle.mx_requests.specs.Targets.{parameters};
 
-use crate::bodies::json_values::body_value;
 use crate::bodies::missing_events::missing_query;
 use crate::bodies::transactions::{event_of_body, transaction_events};
 use crate::faults::{Fault, InvalidPart};
@@ -24,7 +22,6 @@ use mx_ident::{EventId, RoomId, ServerName};
 use mx_pdu::{Offered, Pdu, Verifier};
 use mx_redact::{is_text, text_field};
 use mx_room::{EventIdList, Query};
-use serde_json::Value;
 use std::alloc::Global;
 
 /// What a server asks for.
@@ -205,24 +202,8 @@ fn missing_events_call(
         ⊎ (definition.missing_events_call origin path.now body.now ≡ Err fault)) }
 {
     let room = room_at(alloc, path, 0)?;
-    let value = body_value(alloc, body)?;
-    let query = missing_query_in(alloc, room, &value)?;
+    let query = missing_query(alloc, room, body)?;
     Ok(WireCall::Asks { origin, query })
-}
-
-// What the value asks of a room; `WrongForm` where it asks nothing.
-fn missing_query_in(alloc: Global, room: RoomId, body: &Value) -> Result<Query, Fault>
-    ensures ok { IfOk result (λ query. missing_query_of room (view body.now) ≡ Some query) }
-    ensures err { IfErr result (λ fault. (fault ≡ Fault.Memory)
-        ⊎ ((fault ≡ Fault.WrongForm) × (missing_query_of room (view body.now) ≡ None))) }
-{
-    let Value::Object(members) = body else {
-        return Err(Fault::WrongForm);
-    };
-    match missing_query(alloc, room, members)? {
-        Some(query) => Ok(query),
-        None => Err(Fault::WrongForm),
-    }
 }
 
 fn make_join_call(

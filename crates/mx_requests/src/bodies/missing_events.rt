@@ -1,48 +1,36 @@
 // What the body of a query for missing events says.
-ghost use Rattle.std.specs.Prelude.{◌≡◌, IfOk, Some, map, option_and_then, option_map};
-ghost use Rattle.serde_json.specs.Data.{object};
-ghost use Rattle.serde_json.specs.View.{members_view};
+ghost use Rattle.std.specs.Prelude.{◌≡◌, ◌⊎◌, Err, IfErr, IfOk, None, Ok, Some};
+ghost use Rattle.serde_json.specs.Data.{Data};
 ghost use Rattle.mx_requests.specs.Requests as definition;
 
-use crate::bodies::json_values::{ids_or_none, natural_or};
+use crate::faults::Fault;
+use mx_body::{BodyError, missing_question};
 use mx_ident::RoomId;
-use mx_redact::field;
 use mx_room::{EventIdList, Query};
-use serde_json::{Map, Value};
-use std::alloc::{AllocError, Global};
+use std::alloc::Global;
 
-/// How many events are given where a query for missing events names no limit.
-pub(crate) const USUAL_LIMIT: u64 = 10;
-
-/// What an object asks of a room; none where a value of it is of a wrong kind.
+/// What a body asks of a room about missing events. No value is made of the body.
 ///
-/// An absent list is empty, an absent `limit` 10, an absent `min_depth` 0. `AllocError` where no memory is left for the
-/// ids of a list, which are read before what follows them is looked at. Source: the Matrix specification, Server-Server
-/// API, `POST /_matrix/federation/v1/get_missing_events/{roomId}`.
-pub(crate) fn missing_query(
-    alloc: Global,
-    room: RoomId,
-    body: &Map<String, Value>,
-) -> Result<Option<Query>, AllocError>
-    ensures { IfOk result (λ asked. asked ≡ definition.missing_query room (object (members_view body.now.entries))) }
+/// An absent list is empty, an absent `limit` 10, an absent `min_depth` 0. `NotJson` where it is not UTF-8, or no JSON, or
+/// nested deeper than 127; `WrongForm` where it is no object, or a value of it is of a wrong kind; `Memory`. Source: the
+/// Matrix specification, Server-Server API, `POST /_matrix/federation/v1/get_missing_events/{roomId}`.
+pub(crate) fn missing_query(alloc: Global, room: RoomId, body: &[u8]) -> Result<Query, Fault>
+    ensures ok { IfOk result (λ query. (d : Data) × (definition.body_value body.now ≡ Ok d)
+        × (definition.missing_query room d ≡ Some query)) }
+    ensures err { IfErr result (λ fault. (fault ≡ Fault.Memory) ⊎ ((definition.body_value body.now ≡ Err fault)
+        ⊎ ((fault ≡ Fault.WrongForm) × (d : Data) × (definition.body_value body.now ≡ Ok d)
+        × (definition.missing_query room d ≡ None)))) }
 {
-    let Some(earliest) = ids_or_none(alloc, field(body, "earliest_events"))? else {
-        return Ok(None);
-    };
-    let Some(latest) = ids_or_none(alloc, field(body, "latest_events"))? else {
-        return Ok(None);
-    };
-    let Some(limit) = natural_or(USUAL_LIMIT, field(body, "limit")) else {
-        return Ok(None);
-    };
-    let Some(min_depth) = natural_or(0, field(body, "min_depth")) else {
-        return Ok(None);
-    };
-    Ok(Some(Query::Missing {
-        room,
-        earliest: EventIdList::new(earliest),
-        latest: EventIdList::new(latest),
-        limit,
-        min_depth,
-    }))
+    match missing_question(alloc, body) {
+        Ok(Some(question)) => Ok(Query::Missing {
+            room,
+            earliest: EventIdList::new(question.earliest),
+            latest: EventIdList::new(question.latest),
+            limit: question.limit,
+            min_depth: question.min_depth,
+        }),
+        Ok(None) => Err(Fault::WrongForm),
+        Err(BodyError::Memory) => Err(Fault::Memory),
+        Err(BodyError::NotJson) => Err(Fault::NotJson),
+    }
 }
