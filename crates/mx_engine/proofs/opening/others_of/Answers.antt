@@ -26,12 +26,12 @@ loop-made-preserved g c =
       lists = (e.lists.0 ∙ i.lists.0, e.lists.1 ∙ i.lists.1, e.lists.2 ∙ i.lists.2);
     }
 
-pub next_seat-requires-shards : goal.next_seat-requires-shards
-next_seat-requires-shards g c =
+pub next_seat-requires-clause-shards : goal.next_seat-requires-clause-shards
+next_seat-requires-clause-shards g c =
     let r = c.requires.shards in
     (r.0, c.loop-made.made, c.loop-made.invariant.first_shards r.0 r.1)
 
-pub next_seat-requires-books : goal.next_seat-requires-books
-next_seat-requires-books g c =
+pub next_seat-requires-clause-books : goal.next_seat-requires-clause-books
+next_seat-requires-clause-books g c =
     let r = c.requires.books in
     (r.0, c.loop-made.made, c.loop-made.invariant.first_books r.0 r.1)
