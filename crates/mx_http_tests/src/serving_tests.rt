@@ -1,11 +1,14 @@
 use crate::responders::{Counter, Ear, counters};
-use mx_http::{Limits, serve_on};
-use std::alloc::Global;
+use mx_http::{Limits, ServeError, serve_on};
+use std::alloc::{AllocGlobal, Global};
 use std::io::{self, Read, Write};
 use std::net::{Ipv4Addr, Net, SocketAddr, TcpListener, TcpStream};
+use std::random::RandomSource;
+use std::sync::Wait;
 use std::test::Fail;
 use std::thread;
-use std::time::Duration;
+use std::thread::Threads;
+use std::time::{Clock, Duration};
 
 // That a listener ends, and that each client is answered: no clause says so.
 
@@ -33,6 +36,30 @@ fn asked<N: Net<Stream = TcpStream>>(
     let mut told = Vec::new(alloc);
     stream.read_to_end(&mut told)?;
     Ok(told)
+}
+
+// Serves by these workers until the listener ends.
+fn serve<R>(
+    rt: &R,
+    listener: &TcpListener,
+    workers: Vec<Counter>,
+    stop_after: Option<u64>,
+    ear: &mut Ear,
+) -> Result<Vec<Counter>, ServeError>
+where
+    R: Threads
+        + Wait
+        + Clock
+        + Eprint
+        + Net<Listener = TcpListener, Stream = TcpStream>
+        + RandomSource
+        + AllocGlobal
+        + Copy
+        + Drop
+        + Send
+        + Sync,
+{
+    serve_on(rt, listener, workers, limits(stop_after), ear)
 }
 
 fn is_answered(told: &io::Result<Vec<u8>>) -> bool {
@@ -67,7 +94,7 @@ fn two_clients_and_an_end(rt: HostRuntime) -> Result<(), Fail> {
                 || asked(&rt, alloc, address),
             )
         },
-        || serve_on(&rt, &listener, workers, limits(Some(2)), &mut ear),
+        || serve(&rt, &listener, workers, Some(2), &mut ear),
     );
     assert!(rt; is_answered(&served.0) && is_answered(&served.1));
     match told {
@@ -92,7 +119,7 @@ fn ended_by_a_responder(rt: HostRuntime) -> Result<(), Fail> {
     let (told, served) = thread::join(
         &rt,
         || asked(&rt, alloc, address),
-        || serve_on(&rt, &listener, workers, limits(None), &mut ear),
+        || serve(&rt, &listener, workers, None, &mut ear),
     );
     assert!(rt; is_answered(&told));
     match served {
