@@ -30,6 +30,8 @@ from request_rows import FEDERATION, header, quoted  # noqa: E402
 
 SETTINGS = "PRAGMA journal_mode=WAL; PRAGMA synchronous=FULL;\n"
 TABLE = "CREATE TABLE kept (place INTEGER PRIMARY KEY, room TEXT NOT NULL, event TEXT NOT NULL, caller INTEGER NOT NULL);\n"
+# How many connections a proxy's pool may have.
+MANY = 64
 # More sends a second than one connection can have.
 MOST_SENDS = 25_000
 
@@ -117,8 +119,8 @@ def rows(options, folder):
     print(f"replaying them: median {statistics.median(replayed):.2f} s, least {min(replayed):.2f} s")
 
 
-def wrk(port, target, threads, seconds, origin, *script):
-    words = ["wrk", "-t", str(threads), "-c", str(threads), "-d", f"{seconds}s", "-H", "Authorization: " + header(origin)]
+def wrk(port, target, threads, seconds, origin, *script, connections=None):
+    words = ["wrk", "-t", str(threads), "-c", str(connections or threads), "-d", f"{seconds}s", "-H", "Authorization: " + header(origin)]
     words += ["-s", HERE / "sends.lua"] if script else []
     words += [f"http://127.0.0.1:{port}{target}", *(["--", *script] if script else [])]
     ran = subprocess.run([str(word) for word in words], stdout=subprocess.PIPE, check=True, text=True).stdout
@@ -133,7 +135,8 @@ def told(threads, name, rate):
 
 def queries(options, folder, threads):
     hosts, sends = parts_of(log_of(1_000, members=500))
-    server = Server(options.program, folder / f"queries{threads}", "--threads", str(threads), "--shards", "4", hosts=hosts)
+    words = "--threads", str(threads), "--shards", "4", "--connections", "256"
+    server = Server(options.program, folder / f"queries{threads}", *words, hosts=hosts)
     for send in sends:
         server.send(*send)
     server.connection.close()
@@ -146,6 +149,8 @@ def queries(options, folder, threads):
     }
     for name, target in targets.items():
         told(threads, name, wrk(server.port, target, threads, options.seconds, sends[-1][0]))
+    rate = wrk(server.port, targets["an event"], threads, options.seconds, sends[-1][0], connections=MANY)
+    told(threads, f"an event, {MANY} connections", rate)
     server.stop()
 
 
@@ -176,6 +181,7 @@ def constant(options, threads):
     process = subprocess.Popen([str(options.constant), str(threads)], stdout=subprocess.PIPE)
     port = int(process.stdout.readline().rpartition(b":")[2])
     told(threads, "one answer to all", wrk(port, "/", threads, options.seconds, "a.example"))
+    told(threads, f"one answer to all, {MANY} connections", wrk(port, "/", threads, options.seconds, "a.example", connections=MANY))
     process.terminate()
     process.wait()
 
