@@ -67,11 +67,9 @@ impl<K: Keeper<Row = ShardRow>, L: Keeper<Row = BookRow>> Responder for Worker<K
         let request = asked(request);
         let answered = answer_in(rt, alloc, &self.shared, &mut self.seat, &request);
         let RequestReply { reply, refused } = answered;
-        if refused == Some(CallError::Storage) {
-            self.has_failed = true;
-            // Who runs the server has to know that its storage fails.
-            let _ = rt.eprintln("storage");
-        }
+        let has_failed = refused == Some(CallError::Storage);
+        self.has_failed |= has_failed;
+        tell(rt, has_failed);
         sent(&self.shared.server, &request, reply)
     }
 
@@ -145,6 +143,13 @@ fn answer_in<K: Keeper<Row = ShardRow>, L: Keeper<Row = BookRow>, R: Wait + Cloc
         moment(rt),
         request,
     )
+}
+
+// Who runs the server has to know where its storage fails.
+fn tell<R: Eprint>(rt: &R, has_failed: bool) {
+    if has_failed {
+        let _ = rt.eprintln("storage");
+    }
 }
 
 // The moment of the clock: the first one where it can't be read, the latest one where it shows more.
