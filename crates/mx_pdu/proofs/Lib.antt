@@ -12,3 +12,4 @@ pub mod NestingLemmas
 pub mod RedactionLemmas
 pub mod RefusalLemmas
 pub mod RiseLemmas
+pub mod RuleContentLemmas

@@ -6,8 +6,9 @@ use Rattle.serde_json.specs.View.{members_view}
 use Rattle.mx_canon.specs.KeyOrder.{KeysRise}
 use Rattle.mx_redact.specs.Hashes.{hash_holds}
 use Rattle.mx_redact.specs.Fields.{kind}
-use Rattle.mx_pdu.specs.Event.{room_of, sender_of, state_key_of, prev_ids, auth_ids}
+use Rattle.mx_pdu.specs.Event.{room_of, sender_of, state_key_of, content_of, prev_ids, auth_ids}
 use Rattle.mx_pdu.specs.Format.{is_well_formed}
+use Rattle.mx_pdu.specs.RuleContent.{rule_content}
 use Rattle.mx_pdu.specs.declared.pdus.Parts.{Parts}
 
 abbrev pub event_of : Parts → Data
@@ -23,4 +24,5 @@ pub record IsSound (p : Parts) : Type 0 where
   pub sender : p.sender ≡ sender_of (event_of p)
   pub prev : p.prev_events.items ≡ prev_ids (event_of p)
   pub auth : p.auth_events.items ≡ auth_ids (event_of p)
+  pub content : object (members_view p.content.entries) ≡ rule_content (content_of (event_of p))
   pub hash : p.hash_holds ≡ hash_holds (event_of p)

@@ -5,3 +5,4 @@ pub mod Inside
 pub mod Verifiers
 pub mod Refusals
 pub mod Offers
+pub mod RuleContent

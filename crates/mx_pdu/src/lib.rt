@@ -12,6 +12,7 @@ mod nesting;
 mod offering;
 mod pdus;
 mod refusals;
+mod rule_contents;
 mod verifiers;
 
 pub use laws::redaction_keeps_the_format;

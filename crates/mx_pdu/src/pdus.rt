@@ -10,6 +10,7 @@ ghost use Rattle.mx_redact.specs.Hashes.{event_id, hash_holds, reference_hash, s
 ghost use Rattle.mx_redact.specs.Redaction.{redact as redacted_form};
 ghost use Rattle.mx_pdu.specs.Event.{room_of, sender_of, state_key_of, content_of, prev_ids, auth_ids, depth_of, timestamp_of, redacts_of};
 ghost use Rattle.mx_pdu.specs.Format.{format_error, has_readable_nesting, is_well_formed};
+ghost use Rattle.mx_pdu.specs.RuleContent.{rule_content};
 ghost use Rattle.mx_pdu.specs.declared.refusals.NotAnEvent.{NotAnEvent as Cause};
 
 use crate::checking::{check_canonical_format, check_format};
@@ -17,6 +18,7 @@ use crate::hashes::{holds_hash, names_hash};
 use crate::ids::{event_ids_at, room_id_of, user_id_of};
 use crate::lookups::{integer_at, into_object, object_at, text_copied_from, text_or_empty_at};
 use crate::refusals::{NotAnEvent, PduError};
+use crate::rule_contents::rule_content_at;
 use mx_ident::{EventId, RoomId, UserId};
 use mx_redact::{Digests, event_digests, field, id_with_hash, redact, text_field};
 use serde_json::{Map, Value};
@@ -43,6 +45,7 @@ struct Parts {
     sender: UserId,
     prev_events: Vec<EventId>,
     auth_events: Vec<EventId>,
+    content: Map<String, Value>,
     hash_holds: bool,
 }
 
@@ -173,6 +176,7 @@ impl Pdu {
         let sender = user_id_of(alloc, text_or_empty_at(&event, "sender"))?;
         let prev_events = event_ids_at(alloc, &event, "prev_events")?;
         let auth_events = event_ids_at(alloc, &event, "auth_events")?;
+        let content = rule_content_at(alloc, &event)?;
         let digests = event_digests(alloc, &event)?;
         let hash_holds = names_hash(&event, &digests.content);
         let parts = Arc::new(
@@ -185,6 +189,7 @@ impl Pdu {
                 sender,
                 prev_events,
                 auth_events,
+                content,
                 hash_holds,
             },
         )?;
@@ -233,14 +238,12 @@ impl Pdu {
         }
     }
 
-    /// Its content.
+    /// What the authorization rules, the power levels, the history visibility and the access lists read of its
+    /// content: its members at the keys of `rule_keys`, in events of all types.
     pub fn content(&self) -> &Map<String, Value>
-        ensures { object (members_view result.now.entries) ≡ content_of self.now }
+        ensures { object (members_view result.now.entries) ≡ rule_content (content_of self.now) }
     {
-        match object_at(&self.parts.event, "content") {
-            Some(content) => content,
-            None => unreachable!(),
-        }
+        &self.parts.content
     }
 
     /// The events that it follows, in its order, at most 20.
@@ -311,6 +314,7 @@ impl Pdu {
         let sender = old.sender.clone()?;
         let prev_events = old.prev_events.clone()?;
         let auth_events = old.auth_events.clone()?;
+        let content = rule_content_at(alloc, &event)?;
         let hash_holds = holds_hash(&event);
         let parts = Arc::new(
             alloc,
@@ -322,6 +326,7 @@ impl Pdu {
                 sender,
                 prev_events,
                 auth_events,
+                content,
                 hash_holds,
             },
         )?;

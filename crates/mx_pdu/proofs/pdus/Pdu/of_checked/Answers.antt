@@ -27,5 +27,6 @@ invariant_of-result c =
       sender = c.in_ok-sender.ensures ∙ c.text_or_empty_at-3.ensures;
       prev = c.in_ok-prev_events.ensures;
       auth = c.in_ok-auth_events.ensures;
+      content = c.in_ok-content.ensures;
       hash = c.names_hash-hash_holds.ensures;
     })

@@ -11,6 +11,13 @@ use Rattle.mx_pdu.proofs.FormatLemmas.{formed}
 use Rattle.mx_pdu.proofs.RedactionLemmas.{redact-well_formed, rise-redact, room-redact, sender-redact, prev-redact, auth-redact}
 use Rattle.mx_pdu.proofs.pdus.Pdu.redacted.Goals as goal
 
+pub rule_content_at-requires : goal.rule_content_at-requires
+rule_content_at-requires c =
+    let before = event_of c.deref-old.result.now in
+    let known = subst IsSound (sym c.deref-old.ensures) c.self.invariant in
+    let e : redact before ≡ object (members_view c.in_ok-event.event.entries) = sym c.in_ok-event.ensures in
+    subst (λ (d : Data). IsTrue (is_well_formed d)) e (redact-well_formed before known.well_formed known.rise)
+
 pub invariant_of-result : goal.invariant_of-result
 invariant_of-result c =
     let before = event_of c.deref-old.result.now in
@@ -25,5 +32,6 @@ invariant_of-result c =
       sender = c.in_ok-sender.ensures.cases ∙ known.sender ∙ sym (sender-redact before) ∙ ap sender_of e;
       prev = texts-copied _ c.in_ok-prev_events.prev_events.items c.in_ok-prev_events.ensures.cases.0 ∙ known.prev ∙ sym (prev-redact before) ∙ ap prev_ids e;
       auth = texts-copied _ c.in_ok-auth_events.auth_events.items c.in_ok-auth_events.ensures.cases.0 ∙ known.auth ∙ sym (auth-redact before) ∙ ap auth_ids e;
+      content = c.in_ok-content.ensures;
       hash = c.holds_hash-hash_holds.ensures;
     })
