@@ -13,3 +13,4 @@ pub mod RedactionLemmas
 pub mod RefusalLemmas
 pub mod RiseLemmas
 pub mod RuleContentLemmas
+pub mod TextLemmas

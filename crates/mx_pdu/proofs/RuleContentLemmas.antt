@@ -1,9 +1,9 @@
 -- What rules read of a content.
 use Rattle.std.proofs.Common.{◌≡◌, ℕ, List, Bool, true, false, Some, refl, sym, ap, ◌∙◌, Option, None, option_and_then}
 use Rattle.std.specs.Prelude.{codes, unwrap_or, if◌then◌else◌}
-use Rattle.serde_json.specs.Data.{Data, null, boolean, number, string, array, object, Members, no_members, member}
+use Rattle.serde_json.specs.Data.{Data, null, boolean, number, string, array, object, Members, member}
 use Rattle.serde_json.specs.Find.{as_object}
-use Rattle.mx_redact.specs.Fields.{field, text_field}
+use Rattle.mx_redact.specs.Fields.{field}
 use Rattle.mx_redact.specs.Redaction.{members_where}
 use Rattle.mx_pdu.specs.Event.{content_of}
 use Rattle.mx_pdu.specs.RuleContent.{is_rule_key, rule_content}

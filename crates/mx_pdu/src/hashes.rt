@@ -9,15 +9,8 @@ ghost use Rattle.mx_redact.specs.Hashes.{content_hash, hash_holds};
 
 use crate::lookups::object_at;
 use base64::engine::general_purpose::STANDARD_NO_PAD;
-use mx_redact::{content_digest, text_field};
+use mx_redact::text_field;
 use serde_json::{Map, Value};
-
-// Whether the content hash is the one that the event names.
-pub fn holds_hash(event: &Map<String, Value>) -> bool
-    ensures { result ≡ hash_holds (object (members_view event.now.entries)) }
-{
-    names_hash(event, &content_digest(event))
-}
 
 // Whether the event names this hash, which is its content hash.
 pub fn names_hash(event: &Map<String, Value>, hash: &[u8; 32]) -> bool

@@ -1,14 +1,16 @@
 // The ids in an event that is well formed.
-ghost use Rattle.std.specs.Prelude.{◌≡◌, ◌++◌, ◌∷◌, [], IfOk, true, filter_map};
+ghost use Rattle.std.specs.Prelude.{◌≡◌, ◌++◌, ◌∷◌, [], IfOk, true, filter_map, option_map, string_bytes};
 ghost use Rattle.std.specs.List.{list_all};
 ghost use Rattle.serde_json.specs.Data.{object};
 ghost use Rattle.serde_json.specs.Find.{as_str};
 ghost use Rattle.serde_json.specs.View.{view, members_view};
 ghost use Rattle.mx_ident.specs.Identifier.{is_event_id, is_room_id, is_user_id};
 ghost use Rattle.mx_redact.specs.Fields.{is_none_or, texts_at};
+ghost use Rattle.mx_pdu.specs.Event.{redacts_of};
 
 use crate::lookups::array_at;
 use mx_ident::{EventId, IdError, RoomId, UserId};
+use mx_redact::text_field;
 use serde_json::{Map, Value};
 use std::alloc::{AllocError, Global};
 
@@ -31,6 +33,19 @@ pub fn user_id_of(alloc: Global, text: &str) -> Result<UserId, AllocError>
         Ok(id) => Ok(id),
         Err(IdError::Memory) => Err(AllocError),
         Err(IdError::NotAnId(_)) => unreachable!(),
+    }
+}
+
+// The event id at `redacts`, where one stands there.
+pub fn redacted_id_in(
+    alloc: Global,
+    event: &Map<String, Value>,
+) -> Result<Option<String>, AllocError>
+    ensures { IfOk result (λ id. option_map string_bytes id ≡ redacts_of (object (members_view event.now.entries))) }
+{
+    match text_field(event, "redacts") {
+        Some(id) if EventId::is(id) => Ok(Some(String::from_str(alloc, id)?)),
+        _ => Ok(None),
     }
 }
 

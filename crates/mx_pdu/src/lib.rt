@@ -13,6 +13,7 @@ mod offering;
 mod pdus;
 mod refusals;
 mod rule_contents;
+mod texts;
 mod verifiers;
 
 pub use laws::redaction_keeps_the_format;

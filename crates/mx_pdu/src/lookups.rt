@@ -1,9 +1,11 @@
 // Values in an event.
-ghost use Rattle.std.specs.Prelude.{◌≡◌, IfOk, option_and_then, option_map, string_bytes};
+ghost use Rattle.std.specs.Prelude.{◌≡◌, IfOk, IsTrue, option_and_then, option_map, string_bytes};
 ghost use Rattle.serde_json.specs.Data.{object};
 ghost use Rattle.serde_json.specs.Find.{as_array, as_i64, as_number, as_object};
 ghost use Rattle.serde_json.specs.View.{view, items_view, members_view};
 ghost use Rattle.mx_redact.specs.Fields.{field, text_field as text_field_of, text_at as text_or_empty};
+ghost use Rattle.mx_pdu.specs.Event.{depth_of, timestamp_of};
+ghost use Rattle.mx_pdu.specs.Format.{is_well_formed};
 
 use mx_redact::{field, text_field};
 use serde_json::{Map, Value};
@@ -31,8 +33,23 @@ pub fn text_copied_from(
     }
 }
 
+// The depth of an event.
+pub fn depth_in(event: &Map<String, Value>) -> u64
+    ensures { result ≡ depth_of (object (members_view event.now.entries)) }
+{
+    field(event, "depth").and_then(Value::as_u64).unwrap_or(0)
+}
+
+// When an event was made.
+pub fn timestamp_in(event: &Map<String, Value>) -> i64
+    requires { IsTrue (is_well_formed (object (members_view event.now.entries))) }
+    ensures { result ≡ timestamp_of (object (members_view event.now.entries)) }
+{
+    integer_at(event, "origin_server_ts").unwrap_or(0)
+}
+
 // The 64-bit integer at a key.
-pub fn integer_at(event: &Map<String, Value>, key: &str) -> Option<i64>
+fn integer_at(event: &Map<String, Value>, key: &str) -> Option<i64>
     ensures { result
         ≡ option_and_then as_i64 (option_and_then as_number (field key.now (object (members_view event.now.entries)))) }
 {
@@ -53,15 +70,4 @@ pub fn array_at<'a>(event: &'a Map<String, Value>, key: &str) -> Option<&'a Vec<
         ≡ option_and_then as_array (field key.now (object (members_view event.now.entries))) }
 {
     field(event, key).and_then(Value::as_array)
-}
-
-// The members of an object.
-pub fn into_object(value: Value) -> Option<Map<String, Value>>
-    ensures { option_map (λ event. members_view event.entries) result ≡ as_object (view value) }
-{
-    if let Value::Object(event) = value {
-        Some(event)
-    } else {
-        None
-    }
 }

@@ -1,21 +1,26 @@
 // Events as they are offered to a room.
-ghost use Rattle.std.specs.Prelude.{◌≡◌, ◌↔◌, IfOk, IsErrOf, None, OnOk, Some, codes};
-ghost use Rattle.serde_json.specs.Data.{object};
+ghost use Rattle.std.specs.Prelude.{◌≡◌, ◌≤◌, ◌↔◌, IfOk, IsErrOf, IsTrue, None, OnOk, Some, codes, string_bytes};
+ghost use Rattle.serde_json.specs.Data.{depth as nesting, object};
+ghost use Rattle.serde_json.specs.Read.{max_depth, read};
 ghost use Rattle.serde_json.specs.View.{view, members_view};
+ghost use Rattle.mx_canon.specs.Canonical.{canonical_error, canonical_text};
+ghost use Rattle.mx_canon.specs.KeyOrder.{KeysRise};
 ghost use Rattle.mx_ident.specs.Identifier.{server_of};
 ghost use Rattle.mx_redact.specs.Fields.{value_at};
 ghost use Rattle.mx_redact.specs.Hashes.{event_id as event_id_of, signing_text};
 ghost use Rattle.mx_pdu.specs.Event.{sender_of};
-ghost use Rattle.mx_pdu.specs.Format.{format_error};
+ghost use Rattle.mx_pdu.specs.Format.{format_error, is_well_formed};
 ghost use Rattle.mx_pdu.specs.declared.refusals.NotAnEvent.{NotAnEvent as Cause};
 
+use crate::checking::{check_canonical_format, check_format};
 use crate::lookups::object_at;
 use crate::pdus::Pdu;
 use crate::refusals::PduError;
+use crate::texts::{object_of, text_of};
 use crate::verifiers::Verifier;
 use mx_canon::CanonError;
-use mx_ident::EventId;
-use mx_redact::{event_id_by_text, id_with_hash, signing_bytes};
+use mx_ident::{EventId, UserId};
+use mx_redact::signing_bytes;
 use serde_json::{Map, Value};
 use std::alloc::{AllocError, Global};
 
@@ -29,7 +34,7 @@ pub struct Offered {
 
 impl Offered {
     /// The event, its id, and the verifier's answer on its sender's server, the bytes that are signed of it and its
-    /// `signatures`.
+    /// `signatures`. The event's text is read for them.
     ///
     /// Source: the Matrix specification, Server-Server API, "Validating hashes and signatures on received events".
     pub fn of<V: Verifier>(alloc: Global, pdu: Pdu, verifier: &V) -> Result<Offered, AllocError>
@@ -38,10 +43,12 @@ impl Offered {
         ensures signed { IfOk result (λ offered. offered.signed
             ≡ V.judges verifier.now (server_of (sender_of pdu)) (signing_text pdu) (value_at (codes "signatures") pdu)) }
     {
-        let bytes = signing_bytes_of(alloc, &pdu)?;
-        let id = event_id_by_text(alloc, &bytes)?;
-        let offered = judged(alloc, pdu, id, &bytes, verifier)?;
-        Ok(offered)
+        let value = pdu.value(alloc)?;
+        let event = object_of(&value);
+        let text = signing_bytes_of(alloc, event)?;
+        let id = pdu.event_id(alloc)?;
+        let signed = is_signed(alloc, pdu.sender(), &text, event, verifier)?;
+        Ok(Offered { pdu, id, signed })
     }
 
     /// The event that the value is, as [`Offered::of`] offers it, with one walk over the event for its id and for what
@@ -63,42 +70,60 @@ impl Offered {
         ensures refused { (cause : Cause)
             → (IsErrOf result (PduError.NotAnEvent cause) ↔ (format_error (view value) ≡ Some cause)) }
     {
-        let made = Pdu::hashed_from_value(alloc, value)?;
-        let id = id_with_hash(alloc, &made.1.reference)?;
-        let offered = judged(alloc, made.0, id, &made.1.signing_text, verifier)?;
+        check_format(&value)?;
+        let text = text_of(alloc, &value)?;
+        let offered = Offered::of_checked(alloc, object_of(&value), text, verifier)?;
         Ok(offered)
     }
-}
 
-impl Pdu {
-    /// Its id: `$` and the unpadded URL-safe base64 of its reference hash.
-    ///
-    /// Source: the Matrix specification, Room Version 4, "Event IDs".
-    pub fn event_id(&self, alloc: Global) -> Result<EventId, AllocError>
-        ensures { IfOk result (λ id. id ≡ event_id_of self.now) }
+    /// The event that a value is whose canonical text is at hand, as [`Offered::from_value`] gives it. The event keeps
+    /// the text.
+    pub fn from_canonical<V: Verifier>(
+        alloc: Global,
+        value: Value,
+        text: String,
+        verifier: &V,
+    ) -> Result<Offered, PduError>
+        requires canonical { canonical_error (view value) ≡ None }
+        requires keys { KeysRise (view value) }
+        requires text { string_bytes text ≡ canonical_text (view value) }
+        requires reads { nesting (view value) ≤ max_depth → read (string_bytes text) ≡ Some (view value) }
+        ensures pdu { IfOk result (λ offered. offered.pdu ≡ view value) }
+        ensures id { IfOk result (λ offered. offered.id ≡ event_id_of (view value)) }
+        ensures signed { IfOk result (λ offered. offered.signed
+            ≡ V.judges verifier.now (server_of (sender_of (view value))) (signing_text (view value)) (value_at (codes "signatures") (view value))) }
+        ensures format { OnOk result (format_error (view value) ≡ None) }
+        ensures refused { (cause : Cause)
+            → (IsErrOf result (PduError.NotAnEvent cause) ↔ (format_error (view value) ≡ Some cause)) }
     {
-        let bytes = signing_bytes_of(alloc, self)?;
-        let id = event_id_by_text(alloc, &bytes)?;
-        Ok(id)
+        check_canonical_format(&value, text.as_bytes())?;
+        let offered = Offered::of_checked(alloc, object_of(&value), text, verifier)?;
+        Ok(offered)
     }
-}
 
-// The event as it is offered, by its id and by the text that is signed of it.
-fn judged<V: Verifier>(
-    alloc: Global,
-    pdu: Pdu,
-    id: EventId,
-    text: &[u8],
-    verifier: &V,
-) -> Result<Offered, AllocError>
-    ensures pdu { IfOk result (λ offered. offered.pdu ≡ pdu) }
-    ensures id { IfOk result (λ offered. offered.id ≡ id) }
-    ensures signed { IfOk result (λ offered. offered.signed
-        ≡ V.judges verifier.now (server_of (sender_of pdu)) text.now (value_at (codes "signatures") pdu)) }
-{
-    let server = pdu.sender().server_name(alloc)?;
-    let signed = verifier.accepts(&server, text, signatures_of(&pdu));
-    Ok(Offered { pdu, id, signed })
+    // Of an object that is well formed, and its canonical text.
+    fn of_checked<V: Verifier>(
+        alloc: Global,
+        event: &Map<String, Value>,
+        text: String,
+        verifier: &V,
+    ) -> Result<Offered, AllocError>
+        requires well_formed { IsTrue (is_well_formed (object (members_view event.now.entries))) }
+        requires keys { KeysRise (object (members_view event.now.entries)) }
+        requires text { string_bytes text ≡ canonical_text (object (members_view event.now.entries)) }
+        requires reads { read (string_bytes text) ≡ Some (object (members_view event.now.entries)) }
+        ensures pdu { IfOk result (λ offered. offered.pdu ≡ object (members_view event.now.entries)) }
+        ensures id { IfOk result (λ offered. offered.id ≡ event_id_of (object (members_view event.now.entries))) }
+        ensures signed { IfOk result (λ offered. offered.signed
+            ≡ V.judges verifier.now (server_of (sender_of (object (members_view event.now.entries))))
+            (signing_text (object (members_view event.now.entries)))
+            (value_at (codes "signatures") (object (members_view event.now.entries)))) }
+    {
+        let (pdu, digests) = Pdu::of_checked(alloc, event, text)?;
+        let id = pdu.event_id(alloc)?;
+        let signed = is_signed(alloc, pdu.sender(), &digests.signing_text, event, verifier)?;
+        Ok(Offered { pdu, id, signed })
+    }
 }
 
 impl Clone for Offered {
@@ -115,10 +140,26 @@ impl Clone for Offered {
     }
 }
 
-fn signing_bytes_of(alloc: Global, pdu: &Pdu) -> Result<Vec<u8>, AllocError>
-    ensures { IfOk result (λ bytes. bytes.items ≡ signing_text pdu.now) }
+// Whether a verifier accepts the signatures of an event for its sender's server.
+fn is_signed<V: Verifier>(
+    alloc: Global,
+    sender: &UserId,
+    text: &[u8],
+    event: &Map<String, Value>,
+    verifier: &V,
+) -> Result<bool, AllocError>
+    requires { IsTrue (is_well_formed (object (members_view event.now.entries))) }
+    ensures { IfOk result (λ signed. signed
+        ≡ V.judges verifier.now (server_of sender.now) text.now (value_at (codes "signatures") (object (members_view event.now.entries)))) }
 {
-    let event = pdu.as_map();
+    let server = sender.server_name(alloc)?;
+    Ok(verifier.accepts(&server, text, signatures_of(event)))
+}
+
+fn signing_bytes_of(alloc: Global, event: &Map<String, Value>) -> Result<Vec<u8>, AllocError>
+    requires { IsTrue (is_well_formed (object (members_view event.now.entries))) }
+    ensures { IfOk result (λ bytes. bytes.items ≡ signing_text (object (members_view event.now.entries))) }
+{
     match signing_bytes(alloc, event) {
         Ok(bytes) => Ok(bytes),
         Err(CanonError::Memory) => Err(AllocError),
@@ -126,10 +167,10 @@ fn signing_bytes_of(alloc: Global, pdu: &Pdu) -> Result<Vec<u8>, AllocError>
     }
 }
 
-fn signatures_of(pdu: &Pdu) -> &Map<String, Value>
-    ensures { object (members_view result.now.entries) ≡ value_at (codes "signatures") pdu.now }
+fn signatures_of(event: &Map<String, Value>) -> &Map<String, Value>
+    requires { IsTrue (is_well_formed (object (members_view event.now.entries))) }
+    ensures { object (members_view result.now.entries) ≡ value_at (codes "signatures") (object (members_view event.now.entries)) }
 {
-    let event = pdu.as_map();
     match object_at(event, "signatures") {
         Some(signatures) => signatures,
         None => unreachable!(),

@@ -1,32 +1,35 @@
 // Events.
-ghost use Rattle.std.specs.Prelude.{◌≡◌, ◌≤◌, ◌↔◌, IfOk, IsErrOf, IsTrue, None, OnOk, Some, length, option_map};
+ghost use Rattle.std.specs.Prelude.{◌≡◌, ◌≤◌, ◌↔◌, IfOk, IsErrOf, IsTrue, None, OnOk, Some, length, option_map, string_bytes};
 ghost use Rattle.std.specs.Result.{result_err};
-ghost use Rattle.serde_json.specs.Data.{object};
+ghost use Rattle.serde_json.specs.Data.{depth as nesting, object};
+ghost use Rattle.serde_json.specs.Read.{max_depth, read};
 ghost use Rattle.serde_json.specs.View.{view, members_view};
 ghost use Rattle.mx_canon.specs.Canonical.{canonical_error, canonical_text, in_range, largest};
 ghost use Rattle.mx_canon.specs.KeyOrder.{KeysRise};
 ghost use Rattle.mx_redact.specs.Fields.{kind};
-ghost use Rattle.mx_redact.specs.Hashes.{event_id, hash_holds, reference_hash, signing_text};
+ghost use Rattle.mx_redact.specs.Hashes.{content_hash, event_id, hash_holds, reference_hash, signing_text};
 ghost use Rattle.mx_redact.specs.Redaction.{redact as redacted_form};
 ghost use Rattle.mx_pdu.specs.Event.{room_of, sender_of, state_key_of, content_of, prev_ids, auth_ids, depth_of, timestamp_of, redacts_of};
 ghost use Rattle.mx_pdu.specs.Format.{format_error, has_readable_nesting, is_well_formed};
+ghost use Rattle.mx_pdu.specs.Inside.{event_of, IsSound};
 ghost use Rattle.mx_pdu.specs.RuleContent.{rule_content};
 ghost use Rattle.mx_pdu.specs.declared.refusals.NotAnEvent.{NotAnEvent as Cause};
 
 use crate::checking::{check_canonical_format, check_format};
-use crate::hashes::{holds_hash, names_hash};
-use crate::ids::{event_ids_at, room_id_of, user_id_of};
-use crate::lookups::{integer_at, into_object, object_at, text_copied_from, text_or_empty_at};
+use crate::hashes::names_hash;
+use crate::ids::{event_ids_at, redacted_id_in, room_id_of, user_id_of};
+use crate::lookups::{depth_in, text_copied_from, text_or_empty_at, timestamp_in};
 use crate::refusals::{NotAnEvent, PduError};
 use crate::rule_contents::rule_content_at;
+use crate::texts::{object_of, redacted_value, text_of, value_of};
 use mx_ident::{EventId, RoomId, UserId};
-use mx_redact::{Digests, event_digests, field, id_with_hash, redact, text_field};
+use mx_redact::{Digests, event_digests, id_with_hash};
 use serde_json::{Map, Value};
 use std::alloc::{AllocError, Global};
 use std::marker::Model;
 use std::sync::Arc;
 
-/// An event that is well formed: its JSON object, and with it the ids that it names.
+/// An event that is well formed: its canonical text, and with it the fields that rules and queries ask for.
 ///
 /// Source: the Matrix specification, Room Version 6, "Event format".
 /// Copies share it: [`Clone`] copies no part of the event, and takes no memory.
@@ -35,17 +38,21 @@ pub struct Pdu {
     parts: Arc<Parts>,
 }
 
-// The event, and what is worked out once of it.
+// The event's canonical text, and what is worked out once of it.
 #[derive(Debug, Drop)]
 struct Parts {
-    event: Map<String, Value>,
+    text: String,
     kind: String,
     state_key: Option<String>,
     room_id: RoomId,
     sender: UserId,
     prev_events: Vec<EventId>,
     auth_events: Vec<EventId>,
+    redacts: Option<String>,
+    depth: u64,
+    origin_server_ts: i64,
     content: Map<String, Value>,
+    reference: [u8; 32],
     hash_holds: bool,
 }
 
@@ -76,123 +83,48 @@ impl Pdu {
         ensures refused { (cause : Cause)
             → (IsErrOf result (PduError.NotAnEvent cause) ↔ (format_error (view value) ≡ Some cause)) }
     {
-        let made = Pdu::hashed_from_value(alloc, value)?;
+        check_format(&value)?;
+        let text = text_of(alloc, &value)?;
+        let made = Pdu::of_checked(alloc, object_of(&value), text)?;
         Ok(made.0)
     }
 
-    // The event that the value is, with its hashes and the text that is signed of it.
-    pub(crate) fn hashed_from_value(alloc: Global, value: Value) -> Result<(Pdu, Digests), PduError>
-        ensures ok { IfOk result (λ made. made.0 ≡ view value) }
-        ensures reference { IfOk result (λ made. made.1.reference ≡ reference_hash (view value)) }
-        ensures text { IfOk result (λ made. made.1.signing_text.items ≡ signing_text (view value)) }
-        ensures format { OnOk result (format_error (view value) ≡ None) }
-        ensures refused { (cause : Cause)
-            → (IsErrOf result (PduError.NotAnEvent cause) ↔ (format_error (view value) ≡ Some cause)) }
-    {
-        check_format(&value)?;
-        match into_object(value) {
-            Some(event) => {
-                let made = Pdu::of_checked(alloc, event)?;
-                Ok(made)
-            }
-            None => unreachable!(),
-        }
-    }
-
     /// The event that a value is whose canonical text is at hand, as [`Pdu::from_value`] gives it, with no walk over
-    /// its numbers and no count of its text.
-    pub fn from_canonical(alloc: Global, value: Value, text: &[u8]) -> Result<Pdu, PduError>
+    /// its numbers and no count of its text. The event keeps the text.
+    pub fn from_canonical(alloc: Global, value: Value, text: String) -> Result<Pdu, PduError>
         requires canonical { canonical_error (view value) ≡ None }
         requires keys { KeysRise (view value) }
-        requires text { text.now ≡ canonical_text (view value) }
+        requires text { string_bytes text ≡ canonical_text (view value) }
+        requires reads { nesting (view value) ≤ max_depth → read (string_bytes text) ≡ Some (view value) }
         ensures ok { IfOk result (λ pdu. pdu ≡ view value) }
         ensures format { OnOk result (format_error (view value) ≡ None) }
         ensures refused { (cause : Cause)
             → (IsErrOf result (PduError.NotAnEvent cause) ↔ (format_error (view value) ≡ Some cause)) }
     {
-        let made = Pdu::hashed_from_canonical(alloc, value, text)?;
+        check_canonical_format(&value, text.as_bytes())?;
+        let made = Pdu::of_checked(alloc, object_of(&value), text)?;
         Ok(made.0)
     }
 
-    /// The event as [`Pdu::from_canonical`] gives it, and its id.
-    ///
-    /// Source: the Matrix specification, Room Version 4, "Event IDs".
-    pub fn from_canonical_with_id(
+    // Of an object that is well formed, and its canonical text.
+    pub(crate) fn of_checked(
         alloc: Global,
-        value: Value,
-        text: &[u8],
-    ) -> Result<(Pdu, EventId), PduError>
-        requires canonical { canonical_error (view value) ≡ None }
-        requires keys { KeysRise (view value) }
-        requires text { text.now ≡ canonical_text (view value) }
-        ensures ok { IfOk result (λ made. made.0 ≡ view value) }
-        ensures id { IfOk result (λ made. made.1 ≡ event_id (view value)) }
-        ensures format { OnOk result (format_error (view value) ≡ None) }
-        ensures refused { (cause : Cause)
-            → (IsErrOf result (PduError.NotAnEvent cause) ↔ (format_error (view value) ≡ Some cause)) }
-    {
-        let made = Pdu::hashed_from_canonical(alloc, value, text)?;
-        let id = id_with_hash(alloc, &made.1.reference)?;
-        Ok((made.0, id))
-    }
-
-    fn hashed_from_canonical(
-        alloc: Global,
-        value: Value,
-        text: &[u8],
-    ) -> Result<(Pdu, Digests), PduError>
-        requires canonical { canonical_error (view value) ≡ None }
-        requires keys { KeysRise (view value) }
-        requires text { text.now ≡ canonical_text (view value) }
-        ensures ok { IfOk result (λ made. made.0 ≡ view value) }
-        ensures reference { IfOk result (λ made. made.1.reference ≡ reference_hash (view value)) }
-        ensures format { OnOk result (format_error (view value) ≡ None) }
-        ensures refused { (cause : Cause)
-            → (IsErrOf result (PduError.NotAnEvent cause) ↔ (format_error (view value) ≡ Some cause)) }
-    {
-        check_canonical_format(&value, text)?;
-        match into_object(value) {
-            Some(event) => {
-                let made = Pdu::of_checked(alloc, event)?;
-                Ok(made)
-            }
-            None => unreachable!(),
-        }
-    }
-
-    // Of an object that is well formed.
-    fn of_checked(alloc: Global, event: Map<String, Value>) -> Result<(Pdu, Digests), AllocError>
-        requires well_formed { IsTrue (is_well_formed (object (members_view event.entries))) }
-        requires keys { KeysRise (object (members_view event.entries)) }
-        ensures ok { IfOk result (λ made. made.0 ≡ object (members_view event.entries)) }
+        event: &Map<String, Value>,
+        text: String,
+    ) -> Result<(Pdu, Digests), AllocError>
+        requires well_formed { IsTrue (is_well_formed (object (members_view event.now.entries))) }
+        requires keys { KeysRise (object (members_view event.now.entries)) }
+        requires text { string_bytes text ≡ canonical_text (object (members_view event.now.entries)) }
+        requires reads { read (string_bytes text) ≡ Some (object (members_view event.now.entries)) }
+        ensures ok { IfOk result (λ made. made.0 ≡ object (members_view event.now.entries)) }
         ensures reference { IfOk result (λ made. made.1.reference
-            ≡ reference_hash (object (members_view event.entries))) }
+            ≡ reference_hash (object (members_view event.now.entries))) }
         ensures text { IfOk result (λ made. made.1.signing_text.items
-            ≡ signing_text (object (members_view event.entries))) }
+            ≡ signing_text (object (members_view event.now.entries))) }
     {
-        let kind = String::from_str(alloc, text_or_empty_at(&event, "type"))?;
-        let state_key = text_copied_from(alloc, &event, "state_key")?;
-        let room_id = room_id_of(alloc, text_or_empty_at(&event, "room_id"))?;
-        let sender = user_id_of(alloc, text_or_empty_at(&event, "sender"))?;
-        let prev_events = event_ids_at(alloc, &event, "prev_events")?;
-        let auth_events = event_ids_at(alloc, &event, "auth_events")?;
-        let content = rule_content_at(alloc, &event)?;
-        let digests = event_digests(alloc, &event)?;
-        let hash_holds = names_hash(&event, &digests.content);
-        let parts = Arc::new(
-            alloc,
-            Parts {
-                event,
-                kind,
-                state_key,
-                room_id,
-                sender,
-                prev_events,
-                auth_events,
-                content,
-                hash_holds,
-            },
-        )?;
+        let digests = event_digests(alloc, event)?;
+        let whole = Parts::of(alloc, event, text, &digests)?;
+        let parts = Arc::new(alloc, whole)?;
         Ok((Pdu { parts }, digests))
     }
 
@@ -267,9 +199,7 @@ impl Pdu {
         ensures depth { result ≡ depth_of self.now }
         ensures most { result ≤ largest }
     {
-        field(&self.parts.event, "depth")
-            .and_then(Value::as_u64)
-            .unwrap_or(0)
+        self.parts.depth
     }
 
     /// When its server made it, in milliseconds since 1970, from -(2^53 - 1) to 2^53 - 1.
@@ -277,16 +207,16 @@ impl Pdu {
         ensures timestamp { result ≡ timestamp_of self.now }
         ensures range { IsTrue (in_range result) }
     {
-        integer_at(&self.parts.event, "origin_server_ts").unwrap_or(0)
+        self.parts.origin_server_ts
     }
 
     /// The event that a redaction names, where `redacts` is an event id.
     pub fn redacts(&self) -> Option<&str>
         ensures { option_map (λ id. id.now) result ≡ redacts_of self.now }
     {
-        match text_field(&self.parts.event, "redacts") {
-            Some(id) if EventId::is(id) => Some(id),
-            _ => None,
+        match &self.parts.redacts {
+            Some(id) => Some(id.as_str()),
+            None => None,
         }
     }
 
@@ -300,47 +230,91 @@ impl Pdu {
         self.parts.hash_holds
     }
 
-    /// Its redacted form, with the same ids.
+    /// Its id: `$` and the unpadded URL-safe base64 of its reference hash.
+    ///
+    /// Source: the Matrix specification, Room Version 4, "Event IDs".
+    pub fn event_id(&self, alloc: Global) -> Result<EventId, AllocError>
+        ensures { IfOk result (λ id. id ≡ event_id self.now) }
+    {
+        id_with_hash(alloc, &self.parts.reference)
+    }
+
+    /// Its redacted form, with the same ids. It is made of the event's text, which is read.
     ///
     /// Source: the Matrix specification, Room Version 6, "Redactions".
     pub fn redacted(&self, alloc: Global) -> Result<Pdu, AllocError>
         ensures { IfOk result (λ pdu. pdu ≡ redacted_form self.now) }
     {
-        let old = &*self.parts;
-        let event = redact(alloc, &old.event)?;
-        let kind = String::from_str(alloc, text_or_empty_at(&event, "type"))?;
-        let state_key = text_copied_from(alloc, &event, "state_key")?;
-        let room_id = old.room_id.clone()?;
-        let sender = old.sender.clone()?;
-        let prev_events = old.prev_events.clone()?;
-        let auth_events = old.auth_events.clone()?;
-        let content = rule_content_at(alloc, &event)?;
-        let hash_holds = holds_hash(&event);
-        let parts = Arc::new(
-            alloc,
-            Parts {
-                event,
-                kind,
-                state_key,
-                room_id,
-                sender,
-                prev_events,
-                auth_events,
-                content,
-                hash_holds,
-            },
-        )?;
-        Ok(Pdu { parts })
+        let event = self.value(alloc)?;
+        let redacted = redacted_value(alloc, &event)?;
+        let text = text_of(alloc, &redacted)?;
+        let made = Pdu::of_checked(alloc, object_of(&redacted), text)?;
+        Ok(made.0)
     }
 
-    /// The whole event.
-    pub fn as_map(&self) -> &Map<String, Value>
-        ensures event { object (members_view result.now.entries) ≡ self.now }
+    /// Its canonical text, which reads as the event.
+    ///
+    /// Source: the Matrix specification, appendix "Canonical JSON".
+    pub fn text(&self) -> &str
+        ensures text { result.now ≡ canonical_text self.now }
+        ensures reads { read result.now ≡ Some self.now }
         ensures well_formed { IsTrue (is_well_formed self.now) }
-        // So its text reads back.
         ensures nesting { IsTrue (has_readable_nesting self.now) }
     {
-        &self.parts.event
+        &self.parts.text
+    }
+
+    // The event as a value, read from its text.
+    pub(crate) fn value(&self, alloc: Global) -> Result<Value, AllocError>
+        ensures event { IfOk result (λ value. view value ≡ self.now) }
+        ensures well_formed { IsTrue (is_well_formed self.now) }
+        ensures keys { KeysRise self.now }
+    {
+        value_of(alloc, &self.parts.text)
+    }
+}
+
+impl Parts {
+    // Of an object that is well formed, its canonical text and its hashes.
+    fn of(
+        alloc: Global,
+        event: &Map<String, Value>,
+        text: String,
+        digests: &Digests,
+    ) -> Result<Parts, AllocError>
+        requires well_formed { IsTrue (is_well_formed (object (members_view event.now.entries))) }
+        requires keys { KeysRise (object (members_view event.now.entries)) }
+        requires text { string_bytes text ≡ canonical_text (object (members_view event.now.entries)) }
+        requires reads { read (string_bytes text) ≡ Some (object (members_view event.now.entries)) }
+        requires content { digests.now.content ≡ content_hash (object (members_view event.now.entries)) }
+        requires reference { digests.now.reference ≡ reference_hash (object (members_view event.now.entries)) }
+        ensures sound { IfOk result IsSound }
+        ensures event { IfOk result (λ parts. event_of parts ≡ object (members_view event.now.entries)) }
+    {
+        let kind = String::from_str(alloc, text_or_empty_at(event, "type"))?;
+        let state_key = text_copied_from(alloc, event, "state_key")?;
+        let room_id = room_id_of(alloc, text_or_empty_at(event, "room_id"))?;
+        let sender = user_id_of(alloc, text_or_empty_at(event, "sender"))?;
+        let prev_events = event_ids_at(alloc, event, "prev_events")?;
+        let auth_events = event_ids_at(alloc, event, "auth_events")?;
+        let redacts = redacted_id_in(alloc, event)?;
+        let content = rule_content_at(alloc, event)?;
+        let hash_holds = names_hash(event, &digests.content);
+        Ok(Parts {
+            text,
+            kind,
+            state_key,
+            room_id,
+            sender,
+            prev_events,
+            auth_events,
+            redacts,
+            depth: depth_in(event),
+            origin_server_ts: timestamp_in(event),
+            content,
+            reference: digests.reference,
+            hash_holds,
+        })
     }
 }
 

@@ -12,7 +12,10 @@ use serde_json::{Map, Value};
 use std::alloc::{AllocError, Global};
 
 // A copy of the members that rules read of the content of a well-formed event.
-pub fn rule_content_at(alloc: Global, event: &Map<String, Value>) -> Result<Map<String, Value>, AllocError>
+pub fn rule_content_at(
+    alloc: Global,
+    event: &Map<String, Value>,
+) -> Result<Map<String, Value>, AllocError>
     requires { IsTrue (is_well_formed (object (members_view event.now.entries))) }
     ensures { IfOk result (λ kept. object (members_view kept.entries)
         ≡ rule_content (content_of (object (members_view event.now.entries)))) }
@@ -41,11 +44,7 @@ fn rule_content_of(
     Ok(kept)
 }
 
-fn copy_member(
-    key: &String,
-    value: &Value,
-    kept: &mut Map<String, Value>,
-) -> Result<(), AllocError>
+fn copy_member(key: &String, value: &Value, kept: &mut Map<String, Value>) -> Result<(), AllocError>
     ensures { OnOk result (members_view kept.new.entries
         ≡ put (string_bytes key.now) (view value.now) (members_view kept.old.entries)) }
 {

@@ -1,12 +1,11 @@
-use Rattle.std.proofs.Common.{sym, ap, ◌∙◌, lit<, option_and_then}
+use Rattle.std.proofs.Common.{sym, lit<}
 use Rattle.std.specs.Prelude.{codes}
-use Rattle.serde_json.specs.Find.{as_object}
+use Rattle.serde_json.specs.Data.{object}
+use Rattle.serde_json.specs.View.{members_view}
 use Rattle.mx_redact.specs.Fields.{field}
 use Rattle.mx_pdu.proofs.FormatLemmas.{object-there, required-at}
 use Rattle.mx_pdu.proofs.offering.signatures_of.Goals as goal
 
 pub unreachable-requires : goal.unreachable-requires
 unreachable-requires c =
-    let event = c.as_map-event.ensures in
-    let none = c.in-None.ensures ∙ ap (λ d. option_and_then as_object (field (codes "signatures") d)) event.event in
-    object-there (field (codes "signatures") c.args.pdu.now) (required-at _ 8 event.well_formed (lit< tt)) (sym none)
+    object-there (field (codes "signatures") (object (members_view c.args.event.now.entries))) (required-at _ 8 c.requires (lit< tt)) (sym c.in-None.ensures)

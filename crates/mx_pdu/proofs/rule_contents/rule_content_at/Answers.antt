@@ -1,6 +1,5 @@
 use Rattle.std.proofs.Common.{sym}
 use Rattle.mx_pdu.proofs.FormatLemmas.{content-there}
-use Rattle.mx_pdu.proofs.RuleContentLemmas.{rule_content-at}
 use Rattle.mx_pdu.proofs.rule_contents.rule_content_at.Goals as goal
 
 pub unreachable-requires : goal.unreachable-requires

@@ -1,14 +1,16 @@
-use Rattle.std.proofs.Common.{◌∙◌, ◌∷◌, ap}
-use Rattle.base64.specs.GeneralPurpose.{encode_of}
-use Rattle.base64.specs.Engines.{url_safe_no_pad}
-use Rattle.mx_redact.specs.Hashes.{event_id}
-use Rattle.mx_pdu.specs.declared.refusals.PduError.TheVariants.{NotAnEvent}
-use Rattle.mx_pdu.proofs.RefusalLemmas.{handed-on}
+use Rattle.std.proofs.Common.{IsTrue, sym, subst}
+use Rattle.serde_json.specs.Data.{Data}
+use Rattle.serde_json.specs.View.{view}
+use Rattle.mx_pdu.specs.Format.{is_well_formed}
+use Rattle.mx_pdu.proofs.FormatLemmas.{formed-from-none}
 use Rattle.mx_pdu.proofs.offering.Offered.from_value.Goals as goal
 
-pub returns-in_err-made-clause-refused : goal.returns-in_err-made-clause-refused
-returns-in_err-made-clause-refused g c = λ cause. handed-on c.from_residual.result c.in_err-made.field-0.0 (NotAnEvent cause) c.from_residual.ensures.1 (c.in_err-made.ensures.refused cause)
+pub text_of-requires-clause-well_formed : goal.text_of-requires-clause-well_formed
+text_of-requires-clause-well_formed g c = formed-from-none (view c.args.value) c.in_ok-check_format.ensures.answer
 
-pub returns-clause-id : goal.returns-clause-id
-unfolding event_id
-returns-clause-id g c = c.in_ok-offered.ensures.id ∙ c.in_ok-id.ensures ∙ ap (λ hash. 36 ∷ encode_of url_safe_no_pad hash) c.in_ok-made.ensures.reference
+pub object_of-requires : goal.object_of-requires
+object_of-requires g c = formed-from-none (view c.args.value) c.in_ok-check_format.ensures.answer
+
+pub of_checked-requires-clause-well_formed : goal.of_checked-requires-clause-well_formed
+of_checked-requires-clause-well_formed g c =
+    subst (λ (d : Data). IsTrue (is_well_formed d)) (sym c.object_of.ensures) (formed-from-none (view c.args.value) c.in_ok-check_format.ensures.answer)

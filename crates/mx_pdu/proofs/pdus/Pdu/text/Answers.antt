@@ -3,7 +3,7 @@ use Rattle.std.specs.Arc.{arc_value}
 use Rattle.mx_pdu.specs.Format.{has_readable_nesting}
 use Rattle.mx_pdu.specs.Inside.{event_of}
 use Rattle.mx_pdu.proofs.FormatLemmas.{nesting-fits}
-use Rattle.mx_pdu.proofs.pdus.Pdu.as_map.Goals as goal
+use Rattle.mx_pdu.proofs.pdus.Pdu.text.Goals as goal
 
 pub returns-clause-nesting : goal.returns-clause-nesting
 returns-clause-nesting c =
