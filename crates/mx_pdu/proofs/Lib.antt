@@ -1,6 +1,8 @@
 pub mod CanonicalLemmas
 pub mod CloneLemmas
+pub mod CompareLemmas
 pub mod EventRows
+pub mod EventTextLemmas
 pub mod FieldLemmas
 pub mod FormatLemmas
 pub mod HashLemmas

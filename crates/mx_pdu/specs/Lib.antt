@@ -1,4 +1,5 @@
 pub mod Event
+pub mod EventTexts
 pub mod Format
 pub mod DataCode
 pub mod Inside

@@ -2,6 +2,7 @@
 #![tactic(auto)]
 
 mod checking;
+mod comparing;
 mod fields;
 mod hashes;
 mod ids;
@@ -11,6 +12,7 @@ mod lookups;
 mod nesting;
 mod offering;
 mod pdus;
+mod reading;
 mod refusals;
 mod rule_contents;
 mod texts;
@@ -19,5 +21,5 @@ mod verifiers;
 pub use laws::redaction_keeps_the_format;
 pub use offering::Offered;
 pub use pdus::Pdu;
-pub use refusals::{NotAnEvent, PduError};
+pub use refusals::{NotAnEvent, PduError, TextError};
 pub use verifiers::{PresenceVerifier, Verifier};

@@ -275,7 +275,7 @@ impl Pdu {
 }
 
 impl Parts {
-    // Of an object that is well formed, its canonical text and its hashes.
+    // Of an object that is well formed, its canonical text and its hashes. The text is kept with no room to spare.
     fn of(
         alloc: Global,
         event: &Map<String, Value>,
@@ -291,6 +291,8 @@ impl Parts {
         ensures sound { IfOk result IsSound }
         ensures event { IfOk result (λ parts. event_of parts ≡ object (members_view event.now.entries)) }
     {
+        let mut text = text;
+        text.shrink_to_fit();
         let kind = String::from_str(alloc, text_or_empty_at(event, "type"))?;
         let state_key = text_copied_from(alloc, event, "state_key")?;
         let room_id = room_id_of(alloc, text_or_empty_at(event, "room_id"))?;

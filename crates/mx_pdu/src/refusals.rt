@@ -54,3 +54,14 @@ impl From<NotAnEvent> for PduError {
         PduError::NotAnEvent(cause)
     }
 }
+
+/// Why no event was made of a text.
+#[derive(Clone, Copy, Debug, PartialEq, Eq, Drop, Error)]
+pub enum TextError {
+    // No memory was left.
+    #[error("out of memory")]
+    Memory,
+    // No event has the text as its canonical text.
+    #[error("not an event's text")]
+    NotAnEventText,
+}

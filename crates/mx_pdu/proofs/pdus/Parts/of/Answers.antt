@@ -1,6 +1,7 @@
 use Rattle.std.proofs.Common.{◌≡◌, ◌∙◌, rules, sym, ap, subst, to_z, of_z, w64}
 use Rattle.std.specs.Prelude.{string_bytes}
 use Rattle.serde_json.specs.Data.{object}
+use Rattle.serde_json.specs.Read.{read}
 use Rattle.serde_json.specs.View.{members_view}
 use Rattle.mx_ident.specs.Identifier.{is_room_id, is_user_id}
 use Rattle.mx_pdu.specs.Event.{timestamp_of}
@@ -24,10 +25,12 @@ event_ids_at-requires-2 c = auth-are _ c.requires.well_formed
 pub returns-clause-sound : goal.returns-clause-sound
 returns-clause-sound c =
     let event = object (members_view c.args.event.now.entries) in
+    let bytes = c.shrink_to_fit.ensures.bytes in
+    let reads = ap read bytes ∙ c.requires.reads in
     let time : to_z w64 (of_z w64 c.timestamp_in.result) ≡ timestamp_of event = search rules in
-    subst (AreOf _) (sym (value-read (string_bytes c.args.text) event c.requires.reads)) (record {
-      reads = c.requires.reads;
-      text = c.requires.text;
+    subst (AreOf _) (sym (value-read (string_bytes c.shrink_to_fit.new.self) event reads)) (record {
+      reads = reads;
+      text = bytes ∙ c.requires.text;
       well_formed = c.requires.well_formed;
       rise = c.requires.keys;
       kind_is = c.in_ok-kind.ensures.ok ∙ c.text_or_empty_at.ensures;
@@ -45,4 +48,5 @@ returns-clause-sound c =
     })
 
 pub returns-clause-event : goal.returns-clause-event
-returns-clause-event c = value-read (string_bytes c.args.text) (object (members_view c.args.event.now.entries)) c.requires.reads
+returns-clause-event c =
+    value-read (string_bytes c.shrink_to_fit.new.self) (object (members_view c.args.event.now.entries)) (ap read c.shrink_to_fit.ensures.bytes ∙ c.requires.reads)
