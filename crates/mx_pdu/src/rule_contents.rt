@@ -80,5 +80,6 @@ fn is_rule_key(key: &str) -> bool
             | "kick"
             | "redact"
             | "invite"
+            | "notifications"
     )
 }
