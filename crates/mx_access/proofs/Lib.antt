@@ -8,3 +8,4 @@ pub mod ExampleRoom
 pub mod ExampleHistories
 pub mod AclRows
 pub mod AccessRows
+pub mod ContentLemmas

@@ -3,11 +3,12 @@ ghost use Rattle.std.specs.Prelude.{◌≡◌};
 ghost use Rattle.mx_ident.specs.Identifier.{server_of};
 ghost use Rattle.mx_pdu.specs.Event.{has_membership as has_membership_in};
 
+use mx_auth::membership_of;
 use mx_graph::EventNo;
 use mx_ident::UserId;
 use mx_pdu::Pdu;
 use mx_receipt::Timeline;
-use mx_redact::text_field;
+use mx_redact::is_text;
 use mx_state_res::EntryTest;
 
 /// Whether an entry of a room's state is a user of this server with this membership.
@@ -55,5 +56,5 @@ fn server_in(user: &str) -> &str
 fn has_membership(event: &Pdu, membership: &str) -> bool
     ensures { result ≡ has_membership_in membership.now event.now }
 {
-    text_field(event.content(), "membership").is_some_and(|found| found == membership)
+    is_text(membership_of(event), membership)
 }

@@ -9,3 +9,4 @@ pub mod RoomBase
 pub mod RulesOnExamples
 pub mod RuleRows
 pub mod JoinLemmas
+pub mod ContentLemmas

@@ -1,6 +1,6 @@
 -- Tests over lists.
 use Rattle.std.proofs.Common.{◌≡◌, refl, ap, ap₂, Bool, List, [], ◌∷◌, map}
-use Rattle.std.specs.Prelude.{◌||◌, Option, Some, None, filter_map}
+use Rattle.std.specs.Prelude.{◌||◌, Option, Some, None, unwrap_or, option_map, filter_map}
 use Rattle.std.specs.List.{list_any, cons_option}
 use Rattle.mx_redact.specs.Fields.{is_some_and}
 use Rattle.mx_auth.specs.Rules.{has_repeat}
@@ -36,3 +36,7 @@ filter_map-map f g (x ∷ xs) = ap (cons_option (f (g x))) (filter_map-map f g x
 pub is_some_and-same : {A : Type 0} (p q : A → Bool) → ((x : A) → p x ≡ q x) → (o : Option A) → is_some_and p o ≡ is_some_and q o
 is_some_and-same p q h None = refl
 is_some_and-same p q h (Some x) = h x
+
+pub unwrap_or-map : {A B : Type 0} (f : A → B) (o : Option A) (d : A) → f (unwrap_or o d) ≡ unwrap_or (option_map f o) (f d)
+unwrap_or-map f None d = refl
+unwrap_or-map f (Some x) d = refl

@@ -3,9 +3,10 @@ ghost use Rattle.std.specs.Prelude.{◌≡◌};
 ghost use Rattle.std.specs.Result.{result_err};
 ghost use Rattle.mx_auth.specs.Rules.{first_line, create_lines};
 
+use crate::contents::content_text;
 use crate::refusals::Rule;
 use mx_pdu::Pdu;
-use mx_redact::{is_text, text_field};
+use mx_redact::is_text;
 
 /// Judges a create event.
 #[tactic(auto, unfolding(crate::specs::Rules::create_lines))]
@@ -18,10 +19,10 @@ pub(crate) fn judge_create(event: &Pdu) -> Result<(), Rule>
     if event.room_id().server() != event.sender().server() {
         return Err(Rule::CreateOfAnotherServer);
     }
-    if !is_text(text_field(event.content(), "room_version"), "6") {
+    if !is_text(content_text(event, "room_version"), "6") {
         return Err(Rule::CreateVersionUnknown);
     }
-    if text_field(event.content(), "creator").is_none() {
+    if content_text(event, "creator").is_none() {
         return Err(Rule::CreateWithoutCreator);
     }
     Ok(())

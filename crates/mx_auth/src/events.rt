@@ -8,9 +8,10 @@ ghost use Rattle.mx_levels.specs.Level.{is_creator as is_creator_of};
 ghost use Rattle.mx_auth.specs.Joins as joins;
 ghost use Rattle.mx_auth.specs.Rules.{key_of, same_key, target_of as target, is_own as is_own_event, all_are as all_are_that, is_kept_out as is_kept_out_by};
 
+use crate::contents::{content_field, content_text};
 use mx_ident::EventId;
 use mx_pdu::Pdu;
-use mx_redact::{field, is_text, text_field};
+use mx_redact::is_text;
 use serde_json::Value;
 
 /// Whether an event is a state event with this type and this state key. It takes no memory.
@@ -23,11 +24,13 @@ pub fn is_at(event: &Pdu, kind: &str, state_key: &str) -> bool
     }
 }
 
-/// The `membership` that a member event gives.
-pub(crate) fn membership_of(event: &Pdu) -> Option<&str>
+/// The `membership` that a member event gives. It takes no memory.
+///
+/// Source: the Matrix specification, `m.room.member`.
+pub fn membership_of(event: &Pdu) -> Option<&str>
     ensures { option_copied result ≡ membership_text event.now }
 {
-    text_field(event.content(), "membership")
+    content_text(event, "membership")
 }
 
 /// The user whose membership a member event is about.
@@ -66,7 +69,7 @@ pub(crate) fn is_creator(create: Option<&Pdu>, user: &str) -> bool
     ensures { result ≡ is_creator_of (option_copied create.entry) user.now }
 {
     match create {
-        Some(create) => is_text(text_field(create.content(), "creator"), user),
+        Some(create) => is_text(content_text(create, "creator"), user),
         None => false,
     }
 }
@@ -84,6 +87,6 @@ pub(crate) fn is_kept_out(event: &Pdu, create: &Pdu) -> bool
 pub(crate) fn keeps_out(create: &Pdu, server: &str) -> bool
     ensures { result ≡ joins.keeps_out create.now server.now }
 {
-    let federates = field(create.content(), "m.federate").and_then(Value::as_bool);
+    let federates = content_field(create, "m.federate").and_then(Value::as_bool);
     federates == Some(false) && server != create.sender().server()
 }

@@ -2,6 +2,7 @@
 #![tactic(auto)]
 
 mod citing;
+mod contents;
 mod creating;
 mod events;
 mod joining;
@@ -13,7 +14,7 @@ mod selecting;
 mod states;
 
 pub use citing::{CitedEvent, judge_auth_events};
-pub use events::is_at;
+pub use events::{is_at, membership_of};
 pub use joining::judge_own_join;
 pub use judging::{agreeing_states_judge_alike, judge};
 pub use refusals::Rule;

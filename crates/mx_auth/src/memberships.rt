@@ -4,13 +4,13 @@ ghost use Rattle.std.specs.Result.{result_err};
 ghost use Rattle.mx_auth.specs.Joins.{join_lines_of};
 ghost use Rattle.mx_auth.specs.Rules.{first_line, join_lines, invite_lines, leave_lines, ban_lines, member_lines};
 
+use crate::contents::content_field;
 use crate::events::{all_are, is_creator, is_own, membership_of, target_of};
 use crate::refusals::Rule;
 use crate::states::{
     RoomState, create_event, is_banned, is_invited_or_joined, is_joined, join_rule_in, levels_in,
 };
 use mx_pdu::Pdu;
-use mx_redact::field;
 
 /// Judges a member event.
 #[tactic(auto, unfolding(crate::specs::Rules::member_lines))]
@@ -75,7 +75,7 @@ fn judge_invite<S: RoomState>(event: &Pdu, state: &S) -> Result<(), Rule>
 {
     let sender = event.sender().as_str();
     let target = target_of(event);
-    if field(event.content(), "third_party_invite").is_some() {
+    if content_field(event, "third_party_invite").is_some() {
         return Err(Rule::InviteByThirdParty);
     }
     if !is_joined(state, sender) {

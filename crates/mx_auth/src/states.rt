@@ -3,11 +3,12 @@ ghost use Rattle.std.specs.Prelude.{◌≡◌};
 ghost use Rattle.std.specs.Option.{option_copied};
 ghost use Rattle.mx_auth.specs.StateView.{StateView, create_of, power_of, membership_in as membership, is_joined as is_joined_in, is_invited_or_joined as is_invited_or_joined_in, is_banned as is_banned_in, join_rule_in as join_rule};
 
+use crate::contents::content_text;
 use crate::events::membership_of;
 use mx_ident::EventId;
 use mx_levels::Levels;
 use mx_pdu::Pdu;
-use mx_redact::{is_text, text_field};
+use mx_redact::is_text;
 
 /// A room's state: the event at each type and state key.
 ///
@@ -84,7 +85,7 @@ pub(crate) fn join_rule_in<S: RoomState>(state: &S) -> &str
     ensures { result.now ≡ join_rule (S.state state.now) }
 {
     match state.entry("m.room.join_rules", "") {
-        Some(event) => text_field(event.content(), "join_rule").unwrap_or("invite"),
+        Some(event) => content_text(event, "join_rule").unwrap_or("invite"),
         None => "invite",
     }
 }

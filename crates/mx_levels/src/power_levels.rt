@@ -1,5 +1,6 @@
 // The levels of a room.
-ghost use Rattle.std.specs.Prelude.{◌≡◌, option_map};
+ghost use Rattle.std.specs.Prelude.{◌≡◌, true, option_map};
+ghost use Rattle.mx_pdu.specs.RuleContent.{is_rule_key};
 ghost use Rattle.mx_levels.specs.Level as definition;
 
 use crate::reading::{entry_at, level_at};
@@ -99,6 +100,7 @@ impl<'a> Levels<'a> {
 
 // A level that the power levels event gives, its default there, and the level where there is no such event.
 fn given_level(power: Option<&Pdu>, key: &str, default: i64, absent: i64) -> i64
+    requires { is_rule_key key.now ≡ true }
     ensures { result ≡ definition.given_level key.now default absent (option_map (λ e. e.now) power.entry) }
 {
     match power {
@@ -109,6 +111,7 @@ fn given_level(power: Option<&Pdu>, key: &str, default: i64, absent: i64) -> i64
 
 // The level at a key of an object in the content of the power levels event.
 fn entry_level(power: Option<&Pdu>, map: &str, key: &str) -> Option<i64>
+    requires { is_rule_key map.now ≡ true }
     ensures { result ≡ definition.entry_level map.now key.now (option_map (λ e. e.now) power.entry) }
 {
     entry_at(power?.content(), map, key)

@@ -10,7 +10,7 @@ abbrev pub rule_keys : List (List ℕ)
 rule_keys =
     words "creator room_version m.federate membership third_party_invite join_rule history_visibility"
     ++ words "allow deny allow_ip_literals"
-    ++ words "users users_default events events_default state_default ban kick redact invite"
+    ++ words "users users_default events events_default state_default ban kick redact invite notifications"
 
 abbrev pub is_rule_key : List ℕ → Bool
 is_rule_key k = is_among rule_keys k

@@ -79,5 +79,6 @@ fn is_rule_key(key: &str) -> bool
             | "kick"
             | "redact"
             | "invite"
+            | "notifications"
     )
 }

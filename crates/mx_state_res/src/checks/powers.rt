@@ -7,9 +7,10 @@ ghost use Rattle.mx_graph.specs.Record.{is_in};
 ghost use Rattle.mx_state_res.specs.Resolution as definition;
 
 use crate::conflicts::rising_lists::{stands_in, within};
+use mx_auth::membership_of;
 use mx_graph::{EventNo, Graph, least_of};
 use mx_pdu::Pdu;
-use mx_redact::{is_text, text_field};
+use mx_redact::is_text;
 use std::alloc::{AllocError, Global};
 
 /// The power events of these events, and those of them that are in the auth chains of the power events, rising.
@@ -137,7 +138,7 @@ fn is_power_event(event: &Pdu) -> bool
 fn is_removal(event: &Pdu) -> bool
     ensures { result ≡ definition.is_removal event.now }
 {
-    let membership = text_field(event.content(), "membership");
+    let membership = membership_of(event);
     event.kind() == "m.room.member"
         && (is_text(membership, "leave") || is_text(membership, "ban"))
         && !is_text(event.state_key(), event.sender().as_str())

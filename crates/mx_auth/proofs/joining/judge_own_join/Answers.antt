@@ -1,4 +1,4 @@
-use Rattle.std.proofs.Common.{rules, sym, ap, ◌∙◌}
+use Rattle.std.proofs.Common.{sym, ap, ◌∙◌}
 use Rattle.mx_auth.specs.Joins.{keeps_out, join_lines_of}
 use Rattle.mx_auth.specs.Rules.{first_line}
 use Rattle.mx_auth.proofs.JoinLemmas.{own_join-no_create, own_join-kept_out, own_join-judged}
