@@ -4,7 +4,6 @@ pub mod StayLemmas
 pub mod SortedLemmas
 pub mod ReadLemmas
 pub mod CellLemmas
-pub mod CloneLemmas
 pub mod AnswerLemmas
 pub mod RefusalLemmas
 pub mod TableLemmas

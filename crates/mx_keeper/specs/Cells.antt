@@ -1,11 +1,9 @@
 -- What the cells of a table read as (our own).
-use Rattle.std.specs.Prelude.{ℕ, pos, negsuc, ◌^◌, ◌&&◌, if◌then◌else◌, nat_lt, List, Option, Some, None, option_and_then, is_none, bytes_eq}
+use Rattle.std.specs.Prelude.{ℕ, pos, negsuc, ◌^◌, if◌then◌else◌, nat_lt, List, Option, Some, None, option_and_then}
 use Rattle.std.specs.Str.{is_utf8}
-use Rattle.serde_json.specs.Data.{Data}
 use Rattle.serde_json.specs.Read.{read}
-use Rattle.mx_canon.specs.Canonical.{canonical_error, canonical_text}
 use Rattle.mx_ident.specs.Identifier.{is_room_id, is_server_name}
-use Rattle.mx_pdu.specs.Format.{is_well_formed}
+unfoldable pub use Rattle.mx_pdu.specs.EventTexts.{event_of_text}
 use Rattle.sqlite.specs.declared.types.Value.{Value}
 use Rattle.sqlite.specs.declared.types.Value.TheVariants.{Null, Int, Real, Text, Blob}
 
@@ -34,10 +32,3 @@ room_of_text t = if is_room_id t then Some t else None
 
 abbrev pub server_of_text : List ℕ → Option (List ℕ)
 server_of_text t = if is_server_name t then Some t else None
-
--- the event that has this canonical text
-abbrev pub event_if : List ℕ → Data → Option Data
-event_if t d = if is_none (canonical_error d) && (is_well_formed d && bytes_eq (canonical_text d) t) then Some d else None
-
-unfoldable pub event_of_text : List ℕ → Option Data
-event_of_text t = if is_utf8 t then option_and_then (event_if t) (read t) else None

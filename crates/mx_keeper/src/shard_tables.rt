@@ -42,11 +42,11 @@ impl TableRow for ShardRow {
 
     fn insert<S: Alter>(
         &self,
-        alloc: Global,
+        _alloc: Global,
         connection: &mut Connection<S>,
         count: u64,
     ) -> Result<(), KeeperFault> {
-        let cells = match cells_of(alloc, self, count) {
+        let cells = match cells_of(self, count) {
             Ok(cells) => cells,
             Err(fault) => return Err(fault),
         };
@@ -54,7 +54,7 @@ impl TableRow for ShardRow {
             connection,
             cells.place,
             self.room.as_str(),
-            cells.event.as_str(),
+            cells.event,
             cells.caller,
         ) {
             Ok(_) => Ok(()),
@@ -74,7 +74,7 @@ impl TableRow for ShardRow {
         let room_text = text_at(row, 1)?;
         let room = room_of(alloc, room_text.as_str())?;
         let event_text = text_at(row, 2)?;
-        let event = event_of(alloc, event_text.as_bytes())?;
+        let event = event_of(alloc, event_text)?;
         let caller = caller_at(row, 3)?;
         Ok(ShardRow {
             room,
@@ -90,16 +90,16 @@ impl TableRow for ShardRow {
 
 // What stands in the table for a row, beside the room.
 #[derive(Drop)]
-struct Cells {
+struct Cells<'r> {
     place: i64,
-    event: String,
+    event: &'r str,
     caller: u32,
 }
 
 // The cells of the row behind so many. `Store` where no place is left.
-fn cells_of(alloc: Global, row: &ShardRow, count: u64) -> Result<Cells, KeeperFault>
+fn cells_of(row: &ShardRow, count: u64) -> Result<Cells<'_>, KeeperFault>
     ensures place { IfOk result (λ cells. (cells.place ≡ pos (count + 1)) × (count < 2 ^ 63)) }
-    ensures event { IfOk result (λ cells. event_of_text (string_bytes cells.event) ≡ Some row.now.event) }
+    ensures event { IfOk result (λ cells. event_of_text cells.event.now ≡ Some row.now.event) }
     ensures caller { IfOk result (λ cells. (cells.caller ≡ row.now.caller) × (cells.caller < 2 ^ 32)) }
     ensures fits { IfOk result (λ cells. FitsSigned w64 cells.place) }
     ensures no_table { ¬ (result ≡ Err KeeperFault.Table) }
@@ -108,7 +108,7 @@ fn cells_of(alloc: Global, row: &ShardRow, count: u64) -> Result<Cells, KeeperFa
         return Err(KeeperFault::Store);
     };
     let caller = row.caller.number();
-    let event = text_of(alloc, &row.event)?;
+    let event = text_of(&row.event);
     Ok(Cells {
         place,
         event,

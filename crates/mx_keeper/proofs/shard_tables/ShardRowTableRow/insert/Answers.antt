@@ -6,13 +6,13 @@ use Rattle.mx_keeper.proofs.shard_tables.ShardRowTableRow.insert.Goals as goal
 
 pub returns-in-Ok-insert_kept-clause-kept : goal.returns-in-Ok-insert_kept-clause-kept
 returns-in-Ok-insert_kept-clause-kept g c clean =
-    let puts = rw (c.as_str.ensures.text, c.as_str-2.ensures.value, to_z-of_z {w = w64} {z = c.in-Ok.cells.place} c.in-Ok.ensures.fits) at (c.in-Ok-insert_kept.ensures.ok clean) in
+    let puts = rw (c.as_str.ensures.text, to_z-of_z {w = w64} {z = c.in-Ok.cells.place} c.in-Ok.ensures.fits) at (c.in-Ok-insert_kept.ensures.ok clean) in
     let utf8 = is_utf8-from_IsUtf8 _ c.as_str.ensures.utf8 in
     kept_with _ _ (c.requires puts.was_open) c.args.self.now _ utf8 c.as_str.ensures.room_id c.in-Ok.ensures.event _ _ c.in-Ok.ensures.place.0 c.in-Ok.ensures.caller _ puts
 
 pub returns-in-Ok-insert_kept-clause-row : goal.returns-in-Ok-insert_kept-clause-row
 returns-in-Ok-insert_kept-clause-row g c clean =
-    let puts = rw (c.as_str.ensures.text, c.as_str-2.ensures.value, to_z-of_z {w = w64} {z = c.in-Ok.cells.place} c.in-Ok.ensures.fits) at (c.in-Ok-insert_kept.ensures.ok clean) in
+    let puts = rw (c.as_str.ensures.text, to_z-of_z {w = w64} {z = c.in-Ok.cells.place} c.in-Ok.ensures.fits) at (c.in-Ok-insert_kept.ensures.ok clean) in
     let utf8 = is_utf8-from_IsUtf8 _ c.as_str.ensures.utf8 in
     puts_one _ _ (c.requires puts.was_open) c.args.self.now _ utf8 c.as_str.ensures.room_id c.in-Ok.ensures.event _ _ c.in-Ok.ensures.place.0 c.in-Ok.ensures.caller _ puts.rows_are
 
@@ -22,14 +22,14 @@ returns-in-Ok-insert_kept-clause-survives g c =
     survives_weaker _ _ _ _ (λ clean db put. (
       put.1,
       puts_one _ _ (c.requires put.0) c.args.self.now _ utf8 c.as_str.ensures.room_id c.in-Ok.ensures.event _ _ c.in-Ok.ensures.place.0 c.in-Ok.ensures.caller (db 0)
-          (rw (c.as_str.ensures.text, c.as_str-2.ensures.value, to_z-of_z {w = w64} {z = c.in-Ok.cells.place} c.in-Ok.ensures.fits) at put.2),
+          (rw (c.as_str.ensures.text, to_z-of_z {w = w64} {z = c.in-Ok.cells.place} c.in-Ok.ensures.fits) at put.2),
     )) c.insert_kept.ensures.survives
 
-pub returns-clause-survives : goal.returns-clause-survives
-returns-clause-survives g c =
+pub returns-in-Err-insert_kept-clause-survives : goal.returns-in-Err-insert_kept-clause-survives
+returns-in-Err-insert_kept-clause-survives g c =
     let utf8 = is_utf8-from_IsUtf8 _ c.as_str.ensures.utf8 in
     survives_weaker _ _ _ _ (λ clean db put. (
       put.1,
       puts_one _ _ (c.requires put.0) c.args.self.now _ utf8 c.as_str.ensures.room_id c.in-Ok.ensures.event _ _ c.in-Ok.ensures.place.0 c.in-Ok.ensures.caller (db 0)
-          (rw (c.as_str.ensures.text, c.as_str-2.ensures.value, to_z-of_z {w = w64} {z = c.in-Ok.cells.place} c.in-Ok.ensures.fits) at put.2),
+          (rw (c.as_str.ensures.text, to_z-of_z {w = w64} {z = c.in-Ok.cells.place} c.in-Ok.ensures.fits) at put.2),
     )) c.insert_kept.ensures.survives
