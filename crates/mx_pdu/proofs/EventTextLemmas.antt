@@ -1,5 +1,5 @@
 -- What texts are events.
-use Rattle.std.proofs.Common.{◌≡◌, ℕ, Bool, true, false, List, Option, Some, None, IsUtf8, IsTrue, is_none, option_and_then, refl, sym, ◌∙◌, inl, inr, bytes_eq}
+use Rattle.std.proofs.Common.{ap, ◌≡◌, ℕ, Bool, true, false, List, Option, Some, None, IsUtf8, IsTrue, is_none, option_and_then, refl, sym, ◌∙◌, inl, inr, bytes_eq}
 use Rattle.std.specs.Prelude.{if◌then◌else◌, ◌&&◌}
 use Rattle.std.specs.Str.{is_utf8}
 use Rattle.std.proofs.lemmas.Bool.{cases_Bool}
@@ -58,3 +58,20 @@ module _ (t : List ℕ) where
     reads_event canonical formed same =
         let equal = (bytes_eq-Decides (canonical_text d) t).1 same in
         known_text json.0 ∙ rw (json.1, canonical, formed, equal) refl
+
+-- an event's text is JSON for it
+pub event-read : (t : List ℕ) (d : Data) → event_of_text t ≡ Some d → ((if is_utf8 t then read t else None) ≡ Some d) × (is_well_formed d ≡ true)
+unfolding event_of_text
+event-read t d is = whole (is_utf8 t) (read t) is
+  where
+    known : (e : Data) (a b c : Bool) → a ≡ is_well_formed e → (if (c && (a && b)) then Some e else None) ≡ Some d → (e ≡ d) × (is_well_formed d ≡ true)
+    known e true true true formed same = let equal : e ≡ d = cc in (equal, ap is_well_formed (sym equal) ∙ sym formed)
+    known e true false true formed same = absurd (cc)
+    known e false b true formed same = absurd (cc)
+    known e a b false formed same = absurd (cc)
+
+    whole : (b : Bool) (o : Option Data) → (if b then option_and_then (event_if t) o else None) ≡ Some d → ((if b then o else None) ≡ Some d) × (is_well_formed d ≡ true)
+    whole true (Some e) same =
+        let it = known e (is_well_formed e) (bytes_eq (canonical_text e) t) (is_none (canonical_error e)) refl same in (ap (λ x. Some x) it.0, it.1)
+    whole true None same = absurd (cc)
+    whole false o same = absurd (cc)

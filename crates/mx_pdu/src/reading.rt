@@ -38,23 +38,26 @@ impl Pdu {
 }
 
 impl Offered {
-    /// The event that has this canonical text, which the event keeps, as [`Offered::from_value`] offers it.
+    /// The event that has this canonical text, of which the event keeps a copy, as [`Offered::from_value`] offers it.
     ///
     /// `NotAnEventText` where no event has it, `Memory` where no memory is left. Source: the Matrix specification,
     /// Server-Server API, "Validating hashes and signatures on received events".
     pub fn from_text<V: Verifier>(
         alloc: Global,
-        text: String,
+        text: &str,
         verifier: &V,
     ) -> Result<Offered, TextError>
-        ensures pdu { IfOk result (λ offered. event_of_text (string_bytes text) ≡ Some offered.pdu) }
+        ensures pdu { IfOk result (λ offered. event_of_text text.now ≡ Some offered.pdu) }
         ensures id { IfOk result (λ offered. offered.id ≡ event_id offered.pdu) }
         ensures signed { IfOk result (λ offered. offered.signed
             ≡ V.judges verifier.now (server_of (sender_of offered.pdu)) (signing_text offered.pdu) (value_at (codes "signatures") offered.pdu)) }
-        ensures none { result ≡ Err TextError.NotAnEventText → event_of_text (string_bytes text) ≡ None }
+        ensures none { result ≡ Err TextError.NotAnEventText → event_of_text text.now ≡ None }
     {
         let value = value_with_text(alloc, text.as_bytes())?;
-        match Offered::from_canonical(alloc, value, text, verifier) {
+        let Ok(kept) = String::from_str(alloc, text) else {
+            return Err(TextError::Memory);
+        };
+        match Offered::from_canonical(alloc, value, kept, verifier) {
             Ok(offered) => Ok(offered),
             Err(PduError::Memory) => Err(TextError::Memory),
             Err(PduError::NotAnEvent(_)) => Err(TextError::NotAnEventText),

@@ -10,7 +10,7 @@ ghost use Rattle.mx_pdu.specs.Offers.{offer_by};
 
 use crate::faults::Fault;
 use mx_body::{BodyError, MOST_EVENTS, event_text, transaction_texts};
-use mx_pdu::{Offered, PduError, Verifier};
+use mx_pdu::{Offered, PduError, TextError, Verifier};
 use serde_json::Value;
 use std::alloc::{AllocError, Global};
 
@@ -87,8 +87,27 @@ fn events_of_texts<V: Verifier>(
     Ok(events)
 }
 
-// The event that a text is JSON for; none where it is malformed, or no JSON.
+// The event that a text is JSON for; none where it is malformed, or no JSON. An event keeps the text that is its own.
 fn event_of_text<V: Verifier>(
+    alloc: Global,
+    text: &[u8],
+    verifier: &V,
+) -> Result<Option<Offered>, AllocError>
+    ensures { IfOk result (λ event.
+        event ≡ option_and_then (offered_if_formed (offer_by (V.judges verifier.now))) (definition.json_of text.now)) }
+{
+    let Ok(own) = str::from_utf8(text) else {
+        return Ok(None);
+    };
+    match Offered::from_text(alloc, own, verifier) {
+        Ok(event) => Ok(Some(event)),
+        Err(TextError::Memory) => Err(AllocError),
+        Err(TextError::NotAnEventText) => event_of_json(alloc, text, verifier),
+    }
+}
+
+// The event that a text is JSON for; none where it is malformed, or no JSON.
+fn event_of_json<V: Verifier>(
     alloc: Global,
     text: &[u8],
     verifier: &V,

@@ -5,10 +5,10 @@ ghost use Rattle.mx_requests.specs.JoinReplies as definition;
 ghost use Rattle.mx_requests.specs.RepliesShown.{reply_shown};
 
 use crate::faults::{Denial, Fault};
-use crate::replies::pieces::write_events;
+use crate::replies::pieces::{write_event, write_events};
 use crate::replies::queries::denied_fault;
 use crate::replies::{ReplyBody, WireReply, fault_reply};
-use mx_canon::{TextBuffer, TextSink, write_key, write_object, write_string};
+use mx_canon::{TextBuffer, TextSink, write_key, write_string};
 use mx_ident::ServerName;
 use mx_receipt::Verdict;
 use mx_room::{Denied, JoinReply, Joined, Outcome};
@@ -79,7 +79,7 @@ fn write_joined<S: TextSink>(sink: &mut S, name: &ServerName, joined: &Joined)
     write_key(sink, false, b"auth_chain");
     write_events(sink, joined.auth_chain.as_slice());
     write_key(sink, true, b"event");
-    write_object(sink, joined.event.as_map());
+    write_event(sink, &joined.event);
     write_key(sink, true, b"origin");
     write_string(sink, name.as_str().as_bytes());
     write_key(sink, true, b"state");

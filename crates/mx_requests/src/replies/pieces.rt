@@ -5,7 +5,7 @@ ghost use Rattle.mx_canon.specs.Canonical.{canonical_text};
 ghost use Rattle.mx_canon.specs.Pieces.{comma_if};
 ghost use Rattle.mx_requests.specs.ReplyBodies.{event_array, id_array};
 
-use mx_canon::{TextSink, write_object, write_string, write_text};
+use mx_canon::{TextSink, write_string, write_text};
 use mx_ident::EventId;
 use mx_pdu::Pdu;
 use serde_json::{Number, Value};
@@ -25,12 +25,12 @@ pub(crate) fn write_events<S: TextSink>(sink: &mut S, events: &[Pdu])
     sink.put(b"]");
 }
 
-fn write_event<S: TextSink>(sink: &mut S, event: &Pdu)
+/// Gives the sink an event, by its text.
+pub(crate) fn write_event<S: TextSink>(sink: &mut S, event: &Pdu)
     ensures { (taken : List ℕ) → S.has_taken sink.old taken
         → S.has_taken sink.new (taken ++ canonical_text event.now) }
 {
-    let members = event.as_map();
-    write_object(sink, members);
+    sink.put(event.text().as_bytes());
 }
 
 // Gives the sink an array of ids.

@@ -5,10 +5,10 @@ use Rattle.mx_pdu.proofs.EventTextLemmas.{no_form, reads_event}
 use Rattle.mx_pdu.proofs.FormatLemmas.{formed-from-none}
 use Rattle.mx_pdu.proofs.offering.Offered.from_text.Goals as goal
 
-pub returns-in-Ok-clause-pdu : goal.returns-in-Ok-clause-pdu
-returns-in-Ok-clause-pdu g c =
+pub returns-in-Ok-from_canonical-clause-pdu : goal.returns-in-Ok-from_canonical-clause-pdu
+returns-in-Ok-from_canonical-clause-pdu g c =
     let it = c.in_ok-value.ensures in
-    let own = c.in-Ok.ensures in
+    let own = c.in-Ok-from_canonical.ensures in
     ap event_of_text (sym c.as_bytes.ensures.value)
     ∙ reads_event c.as_bytes.result.now (view c.in_ok-value.value) it.json it.canonical (formed-from-none _ (sym own.format)) (sym it.text)
     ∙ ap Some (sym own.pdu)

@@ -9,7 +9,7 @@ use Rattle.mx_requests.proofs.replies.joins.write_joined.Goals as goal
 pub returns : goal.returns
 unfolding canonical_text chars
 returns g c = λ taken had.
-    let all = c.put-2.ensures _ (c.write_events-2.ensures _ (c.write_key-4.ensures _ (c.write_string.ensures _ (c.write_key-3.ensures _ (c.write_object.ensures _ (c.write_key-2.ensures _ (c.write_events.ensures _ (c.write_key.ensures _ (c.put.ensures taken had))))))))) in
+    let all = c.put-2.ensures _ (c.write_events-2.ensures _ (c.write_key-4.ensures _ (c.write_string.ensures _ (c.write_key-3.ensures _ (c.write_event.ensures _ (c.write_key-2.ensures _ (c.write_events.ensures _ (c.write_key.ensures _ (c.put.ensures taken had))))))))) in
     let name = c.as_bytes.ensures.value ∙ c.as_str.ensures.text in
     let chain = c.as_slice.ensures in
     let event = c.as_map.ensures.event in
