@@ -1,11 +1,14 @@
 // `check`: one event, from its bytes to its id.
-ghost use Rattle.std.specs.Prelude.{◌≡◌, IfOk, IsErrOf, IsTrue, Some};
-ghost use Rattle.serde_json.specs.Data.{Data};
+ghost use Rattle.std.specs.Prelude.{◌≡◌, ◌≤◌, IfOk, IsErrOf, None, Some, string_bytes};
+ghost use Rattle.serde_json.specs.Data.{Data, depth};
+ghost use Rattle.serde_json.specs.Read.{max_depth, read as read_text};
+ghost use Rattle.serde_json.specs.View.{view};
 ghost use Rattle.mx_canon.specs.Canonical.{canonical_error, canonical_text};
+ghost use Rattle.mx_canon.specs.KeyOrder.{KeysRise};
 ghost use Rattle.mx_canon.specs.Reading.{IsJsonFor};
 ghost use Rattle.mx_canon.specs.declared.checking.NotCanonical.{NotCanonical as Unwritable};
-ghost use Rattle.mx_redact.specs.Hashes.{event_id, hash_holds};
-ghost use Rattle.mx_pdu.specs.Format.{format_error, is_well_formed};
+ghost use Rattle.mx_redact.specs.Hashes.{event_id};
+ghost use Rattle.mx_pdu.specs.Format.{format_error};
 ghost use Rattle.mx_pdu.specs.declared.refusals.NotAnEvent.{NotAnEvent as Malformed};
 
 use mx_canon::{NotCanonical, ReadError, read, text_of_canonical};
@@ -56,18 +59,15 @@ impl From<AllocError> for CheckError {
 #[derive(Debug, Drop)]
 pub struct Checked {
     pub id: EventId,
-    pub hash_holds: bool,
-    pub text: Vec<u8>,
+    pub event: Pdu,
 }
 
-/// Reads one event: its id, whether its content hash holds, and its canonical text.
+/// Reads one event: its id, and the event, which tells whether its content hash holds, and its canonical text.
 ///
 /// `NotJson` and `NotCanonical` as `mx_canon::read` gives them, `NotAnEvent` as `Pdu::from_value` does. Source: the
 /// Matrix specification, Room Version 6, "Event format", and Server-Server API, "Signing events".
 pub fn check_event(alloc: Global, bytes: &[u8]) -> Result<Checked, CheckError>
-    ensures ok { IfOk result (λ checked. (d : Data) × IsJsonFor d bytes.now × IsTrue (is_well_formed d)
-        × (checked.id ≡ event_id d) × (checked.hash_holds ≡ hash_holds d)
-        × (checked.text.items ≡ canonical_text d)) }
+    ensures ok { IfOk result (λ checked. IsJsonFor checked.event bytes.now × (checked.id ≡ event_id checked.event)) }
     ensures not_json { IsErrOf result CheckError.NotJson → (d : Data) → ¬ IsJsonFor d bytes.now }
     ensures not_canonical { (cause : Unwritable) → IsErrOf result (CheckError.NotCanonical cause)
         → (d : Data) × IsJsonFor d bytes.now × (canonical_error d ≡ Some cause) }
@@ -75,14 +75,28 @@ pub fn check_event(alloc: Global, bytes: &[u8]) -> Result<Checked, CheckError>
         → (d : Data) × IsJsonFor d bytes.now × (format_error d ≡ Some cause) }
 {
     let value = read(alloc, bytes)?;
-    let text = text_of_canonical(alloc, &value)?;
-    match Pdu::from_canonical_with_id(alloc, value, &text) {
-        Ok((pdu, id)) => Ok(Checked {
-            id,
-            hash_holds: pdu.hash_holds(),
-            text,
-        }),
+    let text = written(alloc, &value)?;
+    match Pdu::from_canonical(alloc, value, text) {
+        Ok(event) => {
+            let id = event.event_id(alloc)?;
+            Ok(Checked { id, event })
+        }
         Err(PduError::Memory) => Err(CheckError::Memory),
         Err(PduError::NotAnEvent(cause)) => Err(CheckError::NotAnEvent(cause)),
+    }
+}
+
+// The canonical text of a value that has one.
+fn written(alloc: Global, value: &Value) -> Result<String, AllocError>
+    requires canonical { canonical_error (view value.now) ≡ None }
+    requires keys { KeysRise (view value.now) }
+    ensures text { IfOk result (λ text. string_bytes text ≡ canonical_text (view value.now)) }
+    ensures reads { IfOk result (λ text. depth (view value.now) ≤ max_depth
+        → read_text (string_bytes text) ≡ Some (view value.now)) }
+{
+    let bytes = text_of_canonical(alloc, value)?;
+    match String::from_utf8(bytes) {
+        Ok(text) => Ok(text),
+        Err(_) => unreachable!(),
     }
 }

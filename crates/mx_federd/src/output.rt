@@ -1,6 +1,8 @@
 // What the program says, and its exit statuses.
 ghost use Rattle.std.specs.Prelude.{◌≡◌, ◌↔◌, IfOk};
 ghost use Rattle.std.specs.IoError.{error_kind};
+ghost use Rattle.mx_canon.specs.Canonical.{canonical_text};
+ghost use Rattle.mx_redact.specs.Hashes.{hash_holds};
 ghost use Rattle.mx_federd.specs.Lines.{check_lines};
 
 use crate::checking::{CheckError, Checked};
@@ -125,19 +127,18 @@ pub fn report_server<E: Write>(refused: StartError, err: &mut E) -> u8
 
 /// The three lines of `check`.
 pub fn lines_of(alloc: Global, checked: &Checked) -> Result<Vec<u8>, AllocError>
-    ensures { IfOk result (λ lines. lines.items ≡ check_lines checked.now.id checked.now.hash_holds checked.now.text.items) }
+    ensures { IfOk result (λ lines. lines.items ≡ check_lines checked.now.id (hash_holds checked.now.event) (canonical_text checked.now.event)) }
 {
-    let hash = if checked.hash_holds { "good" } else { "bad" };
+    let hash = if checked.event.hash_holds() { "good" } else { "bad" };
     let id = checked.id.as_str();
     let head = format!(in alloc; "id {id}\nhash {hash}\ncanonical ")?;
+    let text = checked.event.text();
     let mut lines = Vec::with_capacity(
         alloc,
-        head.len()
-            .saturating_add(checked.text.len())
-            .saturating_add(1),
+        head.len().saturating_add(text.len()).saturating_add(1),
     )?;
     lines.extend_from_slice(head.as_bytes())?;
-    lines.extend_from_slice(&checked.text)?;
+    lines.extend_from_slice(text.as_bytes())?;
     lines.push(b'\n')?;
     Ok(lines)
 }
