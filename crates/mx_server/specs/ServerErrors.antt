@@ -2,6 +2,8 @@
 -- Why a server does not serve, where that is for a call or an input.
 use Rattle.mx_keeper.specs.declared.refusals.CallError.{CallError}
 use Rattle.mx_keeper.specs.declared.refusals.CallError.TheVariants as call
+use Rattle.mx_keeper.specs.declared.faults.KeeperFault.{KeeperFault}
+use Rattle.mx_keeper.specs.declared.faults.KeeperFault.TheVariants as fault
 use Rattle.mx_log.specs.declared.input.InputError.{InputError}
 use Rattle.mx_log.specs.declared.input.InputError.TheVariants as input
 use Rattle.mx_server.specs.declared.errors.ServerError.{ServerError}
@@ -14,3 +16,8 @@ of_input input.Read = ReadOrWrite
 abbrev pub of_call : CallError → ServerError
 of_call call.Memory = Memory
 of_call call.Storage = Storage
+
+abbrev pub of_fault : KeeperFault → ServerError
+of_fault fault.Memory = Memory
+of_fault fault.Store = Storage
+of_fault fault.Table = Storage

@@ -1,6 +1,7 @@
 // Why a server does not serve.
 ghost use Rattle.std.specs.Prelude.{◌≡◌, ◌↔◌};
 ghost use Rattle.std.specs.IoError.{error_kind};
+ghost use Rattle.mx_server.specs.ServerErrors.{of_fault};
 
 use mx_keeper::{CallError, KeeperFault};
 use mx_wire::InputError;
@@ -40,7 +41,9 @@ impl ServerError {
     }
 
     /// Why rows can't be had.
-    pub(crate) fn of_keeper(fault: KeeperFault) -> ServerError {
+    pub(crate) fn of_keeper(fault: KeeperFault) -> ServerError
+        ensures { result ≡ of_fault fault }
+    {
         match fault {
             KeeperFault::Memory => ServerError::Memory,
             KeeperFault::Store | KeeperFault::Table => ServerError::Storage,
@@ -73,7 +76,10 @@ impl StartError {
     }
 
     /// A read, a write or a call of the system that failed on this.
-    pub(crate) fn of_io(alloc: Global, what: &str, error: &io::Error) -> StartError {
+    pub(crate) fn of_io(alloc: Global, what: &str, error: &io::Error) -> StartError
+        ensures memory { (result.error ≡ ServerError.Memory) ↔ (error_kind error.now ≡ ErrorKind.OutOfMemory) }
+        ensures other { (result.error ≡ ServerError.ReadOrWrite) ↔ ¬ (error_kind error.now ≡ ErrorKind.OutOfMemory) }
+    {
         StartError::about(alloc, ServerError::of_io(error), what, error)
     }
 }
