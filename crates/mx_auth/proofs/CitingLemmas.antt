@@ -8,6 +8,7 @@ use Rattle.mx_pdu.specs.Event.{has_kind, auth_ids}
 use Rattle.mx_auth.specs.Rules.{Cited, Key, reject_if, first_line, auth_lines, auth_rules, key_of, same_key, has_repeat, is_selected, cited_keys}
 use Rattle.mx_auth.specs.Keys.{cited_shown, repeats_key, is_cited_again}
 use Rattle.mx_auth.specs.declared.citing.CitedEvent.{CitedEvent}
+use Rattle.mx_auth.specs.declared.versions.RoomVersion.{RoomVersion}
 use Rattle.mx_auth.specs.declared.refusals.Rule.{Rule}
 use Rattle.mx_auth.specs.declared.refusals.Rule.TheVariants.{AuthEventsRepeat, AuthEventNotSelected, AuthEventRejected, AuthEventsWithoutCreate}
 use Rattle.mx_auth.proofs.ListLemmas.{list_any-map, list_any-filter_map, filter_map-map, has_repeat-filter_map, is_some_and-same}
@@ -45,16 +46,16 @@ keys-shown : (xs : List CitedEvent) → has_repeat same_key (cited_keys (map cit
 unfolding repeats_key
 keys-shown xs = ap (has_repeat same_key) (filter_map-map (λ (c : Cited). key_of c.event) cited_shown xs)
 
-pub auth_rules-at : (e : Event) (xs : List CitedEvent) (create repeat unselected rejected created : Bool) → has_kind (codes "m.room.create") e ≡ create → (has_repeat bytes_eq (auth_ids e) || repeats_key xs) ≡ repeat
-    → list_any (λ (c : CitedEvent). not (is_selected e c.event.now)) xs ≡ unselected → list_any (λ (c : CitedEvent). c.rejected) xs ≡ rejected → list_any (λ (c : CitedEvent). has_kind (codes "m.room.create") c.event.now) xs ≡ created
-    → auth_rules e (map cited_shown xs) ≡ auth_by create repeat unselected rejected created
+pub auth_rules-at : (v : RoomVersion) (e : Event) (xs : List CitedEvent) (create repeat unselected rejected created : Bool) → has_kind (codes "m.room.create") e ≡ create → (has_repeat bytes_eq (auth_ids e) || repeats_key xs) ≡ repeat
+    → list_any (λ (c : CitedEvent). not (is_selected v e c.event.now)) xs ≡ unselected → list_any (λ (c : CitedEvent). c.rejected) xs ≡ rejected → list_any (λ (c : CitedEvent). has_kind (codes "m.room.create") c.event.now) xs ≡ created
+    → auth_rules v e (map cited_shown xs) ≡ auth_by create repeat unselected rejected created
 unfolding auth_rules auth_lines
-auth_rules-at e xs create repeat unselected rejected created hc hr hu hj hk =
+auth_rules-at v e xs create repeat unselected rejected created hc hr hu hj hk =
     let shown = map cited_shown xs in
-    let u = list_any-map (λ (c : Cited). not (is_selected e c.event)) cited_shown xs ∙ hu in
+    let u = list_any-map (λ (c : Cited). not (is_selected v e c.event)) cited_shown xs ∙ hu in
     let j = list_any-map (λ (c : Cited). c.rejected) cited_shown xs ∙ hj in
     let k = list_any-map (λ (c : Cited). has_kind (codes "m.room.create") c.event) cited_shown xs ∙ hk in
     let r = ap (λ b. has_repeat bytes_eq (auth_ids e) || b) (keys-shown xs) ∙ hr in
-    ap₂ (λ a b. auth_by a b (list_any (λ (c : Cited). not (is_selected e c.event)) shown) (list_any (λ (c : Cited). c.rejected) shown) (list_any (λ (c : Cited). has_kind (codes "m.room.create") c.event) shown)) hc r
+    ap₂ (λ a b. auth_by a b (list_any (λ (c : Cited). not (is_selected v e c.event)) shown) (list_any (λ (c : Cited). c.rejected) shown) (list_any (λ (c : Cited). has_kind (codes "m.room.create") c.event) shown)) hc r
     ∙ ap₂ (λ a b. auth_by create repeat a b (list_any (λ (c : Cited). has_kind (codes "m.room.create") c.event) shown)) u j
     ∙ ap (λ a. auth_by create repeat unselected rejected a) k

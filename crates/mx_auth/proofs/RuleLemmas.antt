@@ -7,6 +7,7 @@ use Rattle.mx_pdu.specs.Event.{has_kind, sender_of, is_state}
 use Rattle.mx_levels.specs.Level.{required_level}
 use Rattle.mx_auth.specs.StateView.{StateView, create_of, power_of, is_joined}
 use Rattle.mx_auth.specs.Rules.{Line, reject_if, where_so, first_line, create_lines, member_lines, third_party_invite_lines, power_lines, other_lines, rules, is_kept_out, reaches, target_of, is_own}
+use Rattle.mx_auth.specs.declared.versions.RoomVersion.{RoomVersion}
 use Rattle.mx_auth.specs.declared.refusals.Rule.TheVariants.{StateWithoutCreate, RoomNotFederated, SenderNotJoined, SenderLevelTooLow, StateKeyOfAnotherUser}
 use Rattle.mx_auth.proofs.LineLemmas.{create_lines-decide, member_lines-decide, third_party_invite_lines-decide}
 
@@ -40,27 +41,27 @@ rules_by create found member e creates members others =
     ∷ where_so member members
     ++ others)
 
-pub rules-at : (e : Event) (s : StateView) (create : Bool) (found : Option Event) (member : Bool) → has_kind (codes "m.room.create") e ≡ create → create_of s ≡ found → has_kind (codes "m.room.member") e ≡ member
-    → rules e s ≡ first_line (rules_by create found member e (create_lines e) (member_lines e s) (other_lines e s))
+pub rules-at : (v : RoomVersion) (e : Event) (s : StateView) (create : Bool) (found : Option Event) (member : Bool) → has_kind (codes "m.room.create") e ≡ create → create_of s ≡ found → has_kind (codes "m.room.member") e ≡ member
+    → rules v e s ≡ first_line (rules_by create found member e (create_lines e) (member_lines v e s) (other_lines e s))
 unfolding rules
-rules-at e s create found member hc hf hm =
-    ap₂ (λ a b. first_line (rules_by a b (has_kind (codes "m.room.member") e) e (create_lines e) (member_lines e s) (other_lines e s))) hc hf
-    ∙ ap (λ a. first_line (rules_by create found a e (create_lines e) (member_lines e s) (other_lines e s))) hm
+rules-at v e s create found member hc hf hm =
+    ap₂ (λ a b. first_line (rules_by a b (has_kind (codes "m.room.member") e) e (create_lines e) (member_lines v e s) (other_lines e s))) hc hf
+    ∙ ap (λ a. first_line (rules_by create found a e (create_lines e) (member_lines v e s) (other_lines e s))) hm
 
-pub rules-create : (e : Event) (s : StateView) → has_kind (codes "m.room.create") e ≡ true → rules e s ≡ first_line (create_lines e)
-rules-create e s h = rules-at e s _ _ _ h refl refl ∙ create_lines-decide e _
+pub rules-create : (v : RoomVersion) (e : Event) (s : StateView) → has_kind (codes "m.room.create") e ≡ true → rules v e s ≡ first_line (create_lines e)
+rules-create v e s h = rules-at v e s _ _ _ h refl refl ∙ create_lines-decide e _
 
 -- in a state with a create event
-pub rules-kept_out : (e : Event) (s : StateView) (create : Event) → has_kind (codes "m.room.create") e ≡ false → create_of s ≡ Some create → is_kept_out e create ≡ true → rules e s ≡ Some RoomNotFederated
-rules-kept_out e s create h f k =
-    rules-at e s _ _ _ h f refl ∙ ap (λ b. first_line (reject_if RoomNotFederated b ∷ where_so (has_kind (codes "m.room.member") e) (member_lines e s) ++ other_lines e s)) k
+pub rules-kept_out : (v : RoomVersion) (e : Event) (s : StateView) (create : Event) → has_kind (codes "m.room.create") e ≡ false → create_of s ≡ Some create → is_kept_out e create ≡ true → rules v e s ≡ Some RoomNotFederated
+rules-kept_out v e s create h f k =
+    rules-at v e s _ _ _ h f refl ∙ ap (λ b. first_line (reject_if RoomNotFederated b ∷ where_so (has_kind (codes "m.room.member") e) (member_lines v e s) ++ other_lines e s)) k
 
-pub rules-member : (e : Event) (s : StateView) (create : Event) → has_kind (codes "m.room.create") e ≡ false → create_of s ≡ Some create → is_kept_out e create ≡ false → has_kind (codes "m.room.member") e ≡ true
-    → rules e s ≡ first_line (member_lines e s)
-rules-member e s create h f k m =
-    rules-at e s _ _ _ h f m ∙ ap (λ b. first_line (reject_if RoomNotFederated b ∷ member_lines e s ++ other_lines e s)) k ∙ member_lines-decide e s _
+pub rules-member : (v : RoomVersion) (e : Event) (s : StateView) (create : Event) → has_kind (codes "m.room.create") e ≡ false → create_of s ≡ Some create → is_kept_out e create ≡ false → has_kind (codes "m.room.member") e ≡ true
+    → rules v e s ≡ first_line (member_lines v e s)
+rules-member v e s create h f k m =
+    rules-at v e s _ _ _ h f m ∙ ap (λ b. first_line (reject_if RoomNotFederated b ∷ member_lines v e s ++ other_lines e s)) k ∙ member_lines-decide v e s _
 
-pub rules-other : (e : Event) (s : StateView) (create : Event) → has_kind (codes "m.room.create") e ≡ false → create_of s ≡ Some create → is_kept_out e create ≡ false → has_kind (codes "m.room.member") e ≡ false
-    → rules e s ≡ first_line (other_lines e s)
-rules-other e s create h f k m =
-    rules-at e s _ _ _ h f m ∙ ap (λ b. first_line (reject_if RoomNotFederated b ∷ other_lines e s)) k
+pub rules-other : (v : RoomVersion) (e : Event) (s : StateView) (create : Event) → has_kind (codes "m.room.create") e ≡ false → create_of s ≡ Some create → is_kept_out e create ≡ false → has_kind (codes "m.room.member") e ≡ false
+    → rules v e s ≡ first_line (other_lines e s)
+rules-other v e s create h f k m =
+    rules-at v e s _ _ _ h f m ∙ ap (λ b. first_line (reject_if RoomNotFederated b ∷ other_lines e s)) k

@@ -6,7 +6,8 @@ use Rattle.mx_redact.specs.Fields.{Event, words}
 use Rattle.mx_auth.specs.StateView.{StateView}
 use Rattle.mx_auth.specs.Rules.{Cited, rules, auth_rules, needed_keys, label_text}
 use Rattle.mx_auth.specs.declared.refusals.Rule.{Rule}
-use Rattle.mx_auth.specs.declared.refusals.Rule.TheVariants.{CreateHasPrevEvents, CreateOfAnotherServer, CreateVersionUnknown, CreateWithoutCreator, AuthEventsRepeat, AuthEventNotSelected, AuthEventRejected, AuthEventsWithoutCreate, StateWithoutCreate, RoomNotFederated, MemberIncomplete, JoinForAnother, JoinOfBanned, JoinNotAllowed, InviteByThirdParty, InviterNotJoined, InviteOfJoinedOrBanned, InviteLevelTooLow, LeaveNotInvitedOrJoined, KickerNotJoined, UnbanLevelTooLow, KickLevelTooLow, BannerNotJoined, BanLevelTooLow, MembershipUnknown, SenderNotJoined, ThirdPartyInviteLevelTooLow, SenderLevelTooLow, StateKeyOfAnotherUser, UsersMalformed, LevelChangedAboveSender, OldEntryAboveSender, NewEntryAboveSender, OldUserNotBelowSender, NewUserAboveSender}
+use Rattle.mx_auth.specs.declared.refusals.Rule.TheVariants.{CreateHasPrevEvents, CreateOfAnotherServer, CreateVersionUnknown, CreateWithoutCreator, AuthEventsRepeat, AuthEventNotSelected, AuthEventRejected, AuthEventsWithoutCreate, StateWithoutCreate, RoomNotFederated, MemberIncomplete, JoinForAnother, JoinOfBanned, JoinNotAllowed, InviteByThirdParty, InviterNotJoined, InviteOfJoinedOrBanned, InviteLevelTooLow, LeaveNotInvitedOrJoined, KickerNotJoined, UnbanLevelTooLow, KickLevelTooLow, BannerNotJoined, BanLevelTooLow, KnockNotAllowed, KnockForAnother, KnockOfBannedOrInvitedOrJoined, MembershipUnknown, SenderNotJoined, ThirdPartyInviteLevelTooLow, SenderLevelTooLow, StateKeyOfAnotherUser, UsersMalformed, LevelChangedAboveSender, OldEntryAboveSender, NewEntryAboveSender, OldUserNotBelowSender, NewUserAboveSender}
+use Rattle.mx_auth.specs.declared.versions.RoomVersion.TheVariants.{V6, V7}
 use Rattle.mx_auth.proofs.RoomBase.{text, num, e1, e2, e3, e4, e5, e6, state, event, keyed, no_fields, membership, fields, users}
 use Rattle.mx_auth.proofs.RulesOnExamples.{rules_on_examples}
 
@@ -24,15 +25,15 @@ power n content sender auth = event n "m.room.power_levels" (keyed "") sender co
 abbrev a_levels : Data → Data
 a_levels level = fields ((codes "users", fields ((codes "@a:a.example", num 100) ∷ (codes "@b:b.example", level) ∷ [])) ∷ [])
 
-users-two_words : rules (power 7 (a_levels (text "1 0")) "@a:a.example" []) after6 ≡ Some UsersMalformed
+users-two_words : rules V6 (power 7 (a_levels (text "1 0")) "@a:a.example" []) after6 ≡ Some UsersMalformed
 unfolding rules_on_examples
 users-two_words = refl
 
-users-too_large : rules (power 7 (a_levels (text "9007199254740992")) "@a:a.example" []) after6 ≡ Some UsersMalformed
+users-too_large : rules V6 (power 7 (a_levels (text "9007199254740992")) "@a:a.example" []) after6 ≡ Some UsersMalformed
 unfolding rules_on_examples
 users-too_large = refl
 
-users-spaced : rules (power 7 (a_levels (text " +0100 ")) "@a:a.example" []) after6 ≡ None
+users-spaced : rules V6 (power 7 (a_levels (text " +0100 ")) "@a:a.example" []) after6 ≡ None
 unfolding rules_on_examples
 users-spaced = refl
 
@@ -50,23 +51,23 @@ version = (codes "room_version", text "6")
 abbrev empty : StateView
 empty = state []
 
-create-sound : rules e1 empty ≡ None
+create-sound : rules V6 e1 empty ≡ None
 unfolding rules_on_examples
 create-sound = refl
 
-create-prev : rules (create (creator ∷ version ∷ []) (codes "$0" ∷ [])) empty ≡ Some CreateHasPrevEvents
+create-prev : rules V6 (create (creator ∷ version ∷ []) (codes "$0" ∷ [])) empty ≡ Some CreateHasPrevEvents
 unfolding rules_on_examples
 create-prev = refl
 
-create-server : rules (fields ((codes "type", text "m.room.create") ∷ (codes "room_id", text "!r:z.example") ∷ (codes "sender", text "@a:a.example") ∷ (codes "content", fields (creator ∷ version ∷ [])) ∷ [])) empty ≡ Some CreateOfAnotherServer
+create-server : rules V6 (fields ((codes "type", text "m.room.create") ∷ (codes "room_id", text "!r:z.example") ∷ (codes "sender", text "@a:a.example") ∷ (codes "content", fields (creator ∷ version ∷ [])) ∷ [])) empty ≡ Some CreateOfAnotherServer
 unfolding rules_on_examples
 create-server = refl
 
-create-version : rules (create (creator ∷ []) []) empty ≡ Some CreateVersionUnknown
+create-version : rules V6 (create (creator ∷ []) []) empty ≡ Some CreateVersionUnknown
 unfolding rules_on_examples
 create-version = refl
 
-create-creator : rules (create (version ∷ []) []) empty ≡ Some CreateWithoutCreator
+create-creator : rules V6 (create (version ∷ []) []) empty ≡ Some CreateWithoutCreator
 unfolding rules_on_examples
 create-creator = refl
 
@@ -79,44 +80,44 @@ member_event n target sender m prev auth = event n "m.room.member" (keyed target
 abbrev early_join : Event
 early_join = member_event 5 "@b:b.example" "@b:b.example" "join" (codes "$1" ∷ []) (codes "$1" ∷ [])
 
-join-no_rule : rules early_join (without_power []) ≡ Some JoinNotAllowed
+join-no_rule : rules V6 early_join (without_power []) ≡ Some JoinNotAllowed
 unfolding rules_on_examples
 join-no_rule = refl
 
-join-creator : rules e2 (state (e1 ∷ [])) ≡ None
+join-creator : rules V6 e2 (state (e1 ∷ [])) ≡ None
 unfolding rules_on_examples
 join-creator = refl
 
 -- the state key counts, and not the sender; the prev events are a set
-join-creator_by_another : rules (member_event 2 "@a:a.example" "@b:b.example" "join" (codes "$1" ∷ codes "$1" ∷ []) []) (state (e1 ∷ [])) ≡ None
+join-creator_by_another : rules V6 (member_event 2 "@a:a.example" "@b:b.example" "join" (codes "$1" ∷ codes "$1" ∷ []) []) (state (e1 ∷ [])) ≡ None
 unfolding rules_on_examples
 join-creator_by_another = refl
 
-join-another_by_creator : rules (member_event 2 "@b:b.example" "@a:a.example" "join" (codes "$1" ∷ []) []) (state (e1 ∷ [])) ≡ Some JoinForAnother
+join-another_by_creator : rules V6 (member_event 2 "@b:b.example" "@a:a.example" "join" (codes "$1" ∷ []) []) (state (e1 ∷ [])) ≡ Some JoinForAnother
 unfolding rules_on_examples
 join-another_by_creator = refl
 
-join-creator_later : rules (member_event 2 "@a:a.example" "@a:a.example" "join" (codes "$1" ∷ codes "$2" ∷ []) []) (state (e1 ∷ [])) ≡ Some JoinNotAllowed
+join-creator_later : rules V6 (member_event 2 "@a:a.example" "@a:a.example" "join" (codes "$1" ∷ codes "$2" ∷ []) []) (state (e1 ∷ [])) ≡ Some JoinNotAllowed
 unfolding rules_on_examples
 join-creator_later = refl
 
-join-creator_no_prev : rules (member_event 2 "@a:a.example" "@a:a.example" "join" [] []) (state (e1 ∷ [])) ≡ Some JoinNotAllowed
+join-creator_no_prev : rules V6 (member_event 2 "@a:a.example" "@a:a.example" "join" [] []) (state (e1 ∷ [])) ≡ Some JoinNotAllowed
 unfolding rules_on_examples
 join-creator_no_prev = refl
 
-join-no_create_id : rules e2 (record (state (e1 ∷ [])) { create_id = None }) ≡ Some JoinNotAllowed
+join-no_create_id : rules V6 e2 (record (state (e1 ∷ [])) { create_id = None }) ≡ Some JoinNotAllowed
 unfolding rules_on_examples
 join-no_create_id = refl
 
-join-no_create : rules e2 (state []) ≡ Some StateWithoutCreate
+join-no_create : rules V6 e2 (state []) ≡ Some StateWithoutCreate
 unfolding rules_on_examples
 join-no_create = refl
 
-join-public : rules e5 (state (e1 ∷ e2 ∷ e3 ∷ e4 ∷ [])) ≡ None
+join-public : rules V6 e5 (state (e1 ∷ e2 ∷ e3 ∷ e4 ∷ [])) ≡ None
 unfolding rules_on_examples
 join-public = refl
 
-join-invited : rules early_join (without_power (member_event 3 "@b:b.example" "@a:a.example" "invite" (codes "$2" ∷ []) [] ∷ [])) ≡ None
+join-invited : rules V6 early_join (without_power (member_event 3 "@b:b.example" "@a:a.example" "invite" (codes "$2" ∷ []) [] ∷ [])) ≡ None
 unfolding rules_on_examples
 join-invited = refl
 
@@ -124,32 +125,32 @@ join-invited = refl
 abbrev topic : ℕ → String → List (List ℕ) → Event
 topic n sender auth = event n "m.room.topic" (keyed "") sender (fields ((codes "topic", text "t") ∷ [])) (codes "$6" ∷ []) auth
 
-topic-no_power : rules (topic 6 "@b:b.example" []) (without_power (e5 ∷ [])) ≡ None
+topic-no_power : rules V6 (topic 6 "@b:b.example" []) (without_power (e5 ∷ [])) ≡ None
 unfolding rules_on_examples
 topic-no_power = refl
 
-leave-other : rules (member_event 6 "@a:a.example" "@b:b.example" "leave" [] []) (without_power (e5 ∷ [])) ≡ Some KickLevelTooLow
+leave-other : rules V6 (member_event 6 "@a:a.example" "@b:b.example" "leave" [] []) (without_power (e5 ∷ [])) ≡ Some KickLevelTooLow
 unfolding rules_on_examples
 leave-other = refl
 
-ban-equal : rules (member_event 7 "@c:c.example" "@b:b.example" "ban" [] []) after6 ≡ Some BanLevelTooLow
+ban-equal : rules V6 (member_event 7 "@c:c.example" "@b:b.example" "ban" [] []) after6 ≡ Some BanLevelTooLow
 unfolding rules_on_examples
 ban-equal = refl
 
-ban-below : rules (member_event 7 "@c:c.example" "@a:a.example" "ban" [] []) after6 ≡ None
+ban-below : rules V6 (member_event 7 "@c:c.example" "@a:a.example" "ban" [] []) after6 ≡ None
 unfolding rules_on_examples
 ban-below = refl
 
-invite-third_party : rules (event 7 "m.room.member" (keyed "@d:d.example") "@a:a.example" (fields ((codes "membership", text "invite") ∷ (codes "third_party_invite", no_fields) ∷ [])) [] []) after6 ≡ Some InviteByThirdParty
+invite-third_party : rules V6 (event 7 "m.room.member" (keyed "@d:d.example") "@a:a.example" (fields ((codes "membership", text "invite") ∷ (codes "third_party_invite", no_fields) ∷ [])) [] []) after6 ≡ Some InviteByThirdParty
 unfolding rules_on_examples
 invite-third_party = refl
 
 -- null is a value
-invite-third_party_null : rules (event 7 "m.room.member" (keyed "@d:d.example") "@a:a.example" (fields ((codes "membership", text "invite") ∷ (codes "third_party_invite", null) ∷ [])) [] []) after6 ≡ Some InviteByThirdParty
+invite-third_party_null : rules V6 (event 7 "m.room.member" (keyed "@d:d.example") "@a:a.example" (fields ((codes "membership", text "invite") ∷ (codes "third_party_invite", null) ∷ [])) [] []) after6 ≡ Some InviteByThirdParty
 unfolding rules_on_examples
 invite-third_party_null = refl
 
-topic-not_joined : rules (topic 7 "@d:d.example" []) after6 ≡ Some SenderNotJoined
+topic-not_joined : rules V6 (topic 7 "@d:d.example" []) after6 ≡ Some SenderNotJoined
 unfolding rules_on_examples
 topic-not_joined = refl
 
@@ -175,98 +176,98 @@ invite_only = event 7 "m.room.join_rules" (keyed "") "@a:a.example" (fields ((co
 abbrev strict : Event
 strict = event 7 "m.room.power_levels" (keyed "") "@a:a.example" (fields ((codes "users", users 50 0) ∷ (codes "invite", num 60) ∷ (codes "kick", num 40) ∷ (codes "ban", num 60) ∷ [])) [] []
 
-member-no_state_key : rules (event 9 "m.room.member" [] "@b:b.example" (membership "join") [] []) after6 ≡ Some MemberIncomplete
+member-no_state_key : rules V6 (event 9 "m.room.member" [] "@b:b.example" (membership "join") [] []) after6 ≡ Some MemberIncomplete
 unfolding rules_on_examples
 member-no_state_key = refl
 
-member-no_membership : rules (event 9 "m.room.member" (keyed "@b:b.example") "@b:b.example" no_fields [] []) after6 ≡ Some MemberIncomplete
+member-no_membership : rules V6 (event 9 "m.room.member" (keyed "@b:b.example") "@b:b.example" no_fields [] []) after6 ≡ Some MemberIncomplete
 unfolding rules_on_examples
 member-no_membership = refl
 
-join-for_another : rules (m_event "@d:d.example" "@b:b.example" "join") after6 ≡ Some JoinForAnother
+join-for_another : rules V6 (m_event "@d:d.example" "@b:b.example" "join") after6 ≡ Some JoinForAnother
 unfolding rules_on_examples
 join-for_another = refl
 
-join-banned : rules (m_event "@c:c.example" "@c:c.example" "join") (after c_banned) ≡ Some JoinOfBanned
+join-banned : rules V6 (m_event "@c:c.example" "@c:c.example" "join") (after c_banned) ≡ Some JoinOfBanned
 unfolding rules_on_examples
 join-banned = refl
 
-join-again : rules (m_event "@b:b.example" "@b:b.example" "join") (after invite_only) ≡ None
+join-again : rules V6 (m_event "@b:b.example" "@b:b.example" "join") (after invite_only) ≡ None
 unfolding rules_on_examples
 join-again = refl
 
-join-not_invited : rules (m_event "@d:d.example" "@d:d.example" "join") (after invite_only) ≡ Some JoinNotAllowed
+join-not_invited : rules V6 (m_event "@d:d.example" "@d:d.example" "join") (after invite_only) ≡ Some JoinNotAllowed
 unfolding rules_on_examples
 join-not_invited = refl
 
-invite-not_joined : rules (m_event "@e:e.example" "@d:d.example" "invite") after6 ≡ Some InviterNotJoined
+invite-not_joined : rules V6 (m_event "@e:e.example" "@d:d.example" "invite") after6 ≡ Some InviterNotJoined
 unfolding rules_on_examples
 invite-not_joined = refl
 
-invite-joined : rules (m_event "@c:c.example" "@b:b.example" "invite") after6 ≡ Some InviteOfJoinedOrBanned
+invite-joined : rules V6 (m_event "@c:c.example" "@b:b.example" "invite") after6 ≡ Some InviteOfJoinedOrBanned
 unfolding rules_on_examples
 invite-joined = refl
 
-invite-banned : rules (m_event "@c:c.example" "@a:a.example" "invite") (after c_banned) ≡ Some InviteOfJoinedOrBanned
+invite-banned : rules V6 (m_event "@c:c.example" "@a:a.example" "invite") (after c_banned) ≡ Some InviteOfJoinedOrBanned
 unfolding rules_on_examples
 invite-banned = refl
 
-invite-allowed : rules (m_event "@d:d.example" "@c:c.example" "invite") after6 ≡ None
+invite-allowed : rules V6 (m_event "@d:d.example" "@c:c.example" "invite") after6 ≡ None
 unfolding rules_on_examples
 invite-allowed = refl
 
-invite-below : rules (m_event "@d:d.example" "@b:b.example" "invite") (after strict) ≡ Some InviteLevelTooLow
+invite-below : rules V6 (m_event "@d:d.example" "@b:b.example" "invite") (after strict) ≡ Some InviteLevelTooLow
 unfolding rules_on_examples
 invite-below = refl
 
-leave-own : rules (m_event "@b:b.example" "@b:b.example" "leave") after6 ≡ None
+leave-own : rules V6 (m_event "@b:b.example" "@b:b.example" "leave") after6 ≡ None
 unfolding rules_on_examples
 leave-own = refl
 
-leave-invited : rules (m_event "@d:d.example" "@d:d.example" "leave") (after d_invited) ≡ None
+leave-invited : rules V6 (m_event "@d:d.example" "@d:d.example" "leave") (after d_invited) ≡ None
 unfolding rules_on_examples
 leave-invited = refl
 
-leave-not_in : rules (m_event "@d:d.example" "@d:d.example" "leave") after6 ≡ Some LeaveNotInvitedOrJoined
+leave-not_in : rules V6 (m_event "@d:d.example" "@d:d.example" "leave") after6 ≡ Some LeaveNotInvitedOrJoined
 unfolding rules_on_examples
 leave-not_in = refl
 
-leave-banned : rules (m_event "@c:c.example" "@c:c.example" "leave") (after c_banned) ≡ Some LeaveNotInvitedOrJoined
+leave-banned : rules V6 (m_event "@c:c.example" "@c:c.example" "leave") (after c_banned) ≡ Some LeaveNotInvitedOrJoined
 unfolding rules_on_examples
 leave-banned = refl
 
-kick-not_joined : rules (m_event "@b:b.example" "@d:d.example" "leave") after6 ≡ Some KickerNotJoined
+kick-not_joined : rules V6 (m_event "@b:b.example" "@d:d.example" "leave") after6 ≡ Some KickerNotJoined
 unfolding rules_on_examples
 kick-not_joined = refl
 
-kick-allowed : rules (m_event "@c:c.example" "@b:b.example" "leave") (after strict) ≡ None
+kick-allowed : rules V6 (m_event "@c:c.example" "@b:b.example" "leave") (after strict) ≡ None
 unfolding rules_on_examples
 kick-allowed = refl
 
-kick-equal : rules (m_event "@c:c.example" "@b:b.example" "leave") after6 ≡ Some KickLevelTooLow
+kick-equal : rules V6 (m_event "@c:c.example" "@b:b.example" "leave") after6 ≡ Some KickLevelTooLow
 unfolding rules_on_examples
 kick-equal = refl
 
 abbrev kick_60 : Event
 kick_60 = event 7 "m.room.power_levels" (keyed "") "@a:a.example" (fields ((codes "users", users 50 0) ∷ (codes "kick", num 60) ∷ [])) [] []
 
-kick-below : rules (m_event "@c:c.example" "@b:b.example" "leave") (after kick_60) ≡ Some KickLevelTooLow
+kick-below : rules V6 (m_event "@c:c.example" "@b:b.example" "leave") (after kick_60) ≡ Some KickLevelTooLow
 unfolding rules_on_examples
 kick-below = refl
 
-unban-below : rules (m_event "@c:c.example" "@b:b.example" "leave") (state (strict ∷ c_banned ∷ e1 ∷ e2 ∷ e4 ∷ e5 ∷ [])) ≡ Some UnbanLevelTooLow
+unban-below : rules V6 (m_event "@c:c.example" "@b:b.example" "leave") (state (strict ∷ c_banned ∷ e1 ∷ e2 ∷ e4 ∷ e5 ∷ [])) ≡ Some UnbanLevelTooLow
 unfolding rules_on_examples
 unban-below = refl
 
-ban-not_joined : rules (m_event "@b:b.example" "@d:d.example" "ban") after6 ≡ Some BannerNotJoined
+ban-not_joined : rules V6 (m_event "@b:b.example" "@d:d.example" "ban") after6 ≡ Some BannerNotJoined
 unfolding rules_on_examples
 ban-not_joined = refl
 
-ban-below_level : rules (m_event "@c:c.example" "@b:b.example" "ban") (after strict) ≡ Some BanLevelTooLow
+ban-below_level : rules V6 (m_event "@c:c.example" "@b:b.example" "ban") (after strict) ≡ Some BanLevelTooLow
 unfolding rules_on_examples
 ban-below_level = refl
 
-knock : rules (m_event "@d:d.example" "@d:d.example" "knock") after6 ≡ Some MembershipUnknown
+knock : rules V6 (m_event "@d:d.example" "@d:d.example" "knock") after6 ≡ Some MembershipUnknown
 unfolding rules_on_examples
 knock = refl
 
@@ -275,55 +276,55 @@ knock = refl
 abbrev unfederated : Event
 unfederated = create (creator ∷ version ∷ (codes "m.federate", boolean false) ∷ []) []
 
-federate-other : rules e5 (state (unfederated ∷ e2 ∷ e3 ∷ e4 ∷ [])) ≡ Some RoomNotFederated
+federate-other : rules V6 e5 (state (unfederated ∷ e2 ∷ e3 ∷ e4 ∷ [])) ≡ Some RoomNotFederated
 unfolding rules_on_examples
 federate-other = refl
 
-federate-own : rules (topic 9 "@a:a.example" []) (state (unfederated ∷ e2 ∷ e3 ∷ [])) ≡ None
+federate-own : rules V6 (topic 9 "@a:a.example" []) (state (unfederated ∷ e2 ∷ e3 ∷ [])) ≡ None
 unfolding rules_on_examples
 federate-own = refl
 
 abbrev invite_event : String → Event
 invite_event sender = event 9 "m.room.third_party_invite" (keyed "t") sender no_fields [] []
 
-third_party-allowed : rules (invite_event "@a:a.example") (after strict) ≡ None
+third_party-allowed : rules V6 (invite_event "@a:a.example") (after strict) ≡ None
 unfolding rules_on_examples
 third_party-allowed = refl
 
-third_party-below : rules (invite_event "@b:b.example") (after strict) ≡ Some ThirdPartyInviteLevelTooLow
+third_party-below : rules V6 (invite_event "@b:b.example") (after strict) ≡ Some ThirdPartyInviteLevelTooLow
 unfolding rules_on_examples
 third_party-below = refl
 
-user_key-own : rules (event 9 "x" (keyed "@b:b.example") "@b:b.example" no_fields [] []) after6 ≡ None
+user_key-own : rules V6 (event 9 "x" (keyed "@b:b.example") "@b:b.example" no_fields [] []) after6 ≡ None
 unfolding rules_on_examples
 user_key-own = refl
 
-user_key-other : rules (event 9 "x" (keyed "@c:c.example") "@b:b.example" no_fields [] []) after6 ≡ Some StateKeyOfAnotherUser
+user_key-other : rules V6 (event 9 "x" (keyed "@c:c.example") "@b:b.example" no_fields [] []) after6 ≡ Some StateKeyOfAnotherUser
 unfolding rules_on_examples
 user_key-other = refl
 
 -- ---- power levels
 
-lower-c : rules (power 7 (fields ((codes "users", users 50 40) ∷ [])) "@b:b.example" []) after6 ≡ Some OldUserNotBelowSender
+lower-c : rules V6 (power 7 (fields ((codes "users", users 50 40) ∷ [])) "@b:b.example" []) after6 ≡ Some OldUserNotBelowSender
 unfolding rules_on_examples
 lower-c = refl
 
-lower-b : rules (power 7 (fields ((codes "users", users 40 50) ∷ [])) "@b:b.example" []) after6 ≡ None
+lower-b : rules V6 (power 7 (fields ((codes "users", users 40 50) ∷ [])) "@b:b.example" []) after6 ≡ None
 unfolding rules_on_examples
 lower-b = refl
 
-raise-b : rules (power 7 (fields ((codes "users", users 51 50) ∷ [])) "@b:b.example" []) after6 ≡ Some NewUserAboveSender
+raise-b : rules V6 (power 7 (fields ((codes "users", users 51 50) ∷ [])) "@b:b.example" []) after6 ≡ Some NewUserAboveSender
 unfolding rules_on_examples
 raise-b = refl
 
 abbrev with_notifications : ℕ → Data
 with_notifications level = fields ((codes "users", users 50 50) ∷ (codes "notifications", fields ((codes "room", num level) ∷ [])) ∷ [])
 
-notifications-above : rules (power 7 (with_notifications 60) "@b:b.example" []) after6 ≡ Some NewEntryAboveSender
+notifications-above : rules V6 (power 7 (with_notifications 60) "@b:b.example" []) after6 ≡ Some NewEntryAboveSender
 unfolding rules_on_examples
 notifications-above = refl
 
-notifications-at : rules (power 7 (with_notifications 50) "@b:b.example" []) after6 ≡ None
+notifications-at : rules V6 (power 7 (with_notifications 50) "@b:b.example" []) after6 ≡ None
 unfolding rules_on_examples
 notifications-at = refl
 
@@ -331,11 +332,11 @@ notifications-at = refl
 abbrev e8 : Event
 e8 = event 8 "m.room.power_levels" (keyed "") "@a:a.example" (fields ((codes "users", users 0 50) ∷ [])) (codes "$7" ∷ []) []
 
-power-a : rules e8 after6 ≡ None
+power-a : rules V6 e8 after6 ≡ None
 unfolding rules_on_examples
 power-a = refl
 
-topic-below : rules (topic 9 "@b:b.example" []) (state (e8 ∷ e1 ∷ e2 ∷ e4 ∷ e5 ∷ e6 ∷ [])) ≡ Some SenderLevelTooLow
+topic-below : rules V6 (topic 9 "@b:b.example" []) (state (e8 ∷ e1 ∷ e2 ∷ e4 ∷ e5 ∷ e6 ∷ [])) ≡ Some SenderLevelTooLow
 unfolding rules_on_examples
 topic-below = refl
 
@@ -345,45 +346,45 @@ topic-below = refl
 abbrev at_50 : Event
 at_50 = event 7 "m.room.power_levels" (keyed "") "@a:a.example" (fields ((codes "users", users 50 0) ∷ (codes "invite", num 50) ∷ [])) [] []
 
-invite-at : rules (m_event "@d:d.example" "@b:b.example" "invite") (after at_50) ≡ None
+invite-at : rules V6 (m_event "@d:d.example" "@b:b.example" "invite") (after at_50) ≡ None
 unfolding rules_on_examples
 invite-at = refl
 
-third_party-at : rules (invite_event "@b:b.example") (after at_50) ≡ None
+third_party-at : rules V6 (invite_event "@b:b.example") (after at_50) ≡ None
 unfolding rules_on_examples
 third_party-at = refl
 
-kick-at : rules (m_event "@c:c.example" "@b:b.example" "leave") (after at_50) ≡ None
+kick-at : rules V6 (m_event "@c:c.example" "@b:b.example" "leave") (after at_50) ≡ None
 unfolding rules_on_examples
 kick-at = refl
 
-unban-at : rules (m_event "@c:c.example" "@b:b.example" "leave") (state (at_50 ∷ c_banned ∷ e1 ∷ e2 ∷ e4 ∷ e5 ∷ [])) ≡ None
+unban-at : rules V6 (m_event "@c:c.example" "@b:b.example" "leave") (state (at_50 ∷ c_banned ∷ e1 ∷ e2 ∷ e4 ∷ e5 ∷ [])) ≡ None
 unfolding rules_on_examples
 unban-at = refl
 
-ban-at : rules (m_event "@c:c.example" "@b:b.example" "ban") (after at_50) ≡ None
+ban-at : rules V6 (m_event "@c:c.example" "@b:b.example" "ban") (after at_50) ≡ None
 unfolding rules_on_examples
 ban-at = refl
 
-topic-at : rules (topic 7 "@b:b.example" []) after6 ≡ None
+topic-at : rules V6 (topic 7 "@b:b.example" []) after6 ≡ None
 unfolding rules_on_examples
 topic-at = refl
 
 -- ---- each line on power levels
 
-power-first : rules (power 9 (fields ((codes "users", fields ((codes "@a:a.example", num 500) ∷ [])) ∷ [])) "@a:a.example" []) (without_power []) ≡ None
+power-first : rules V6 (power 9 (fields ((codes "users", fields ((codes "@a:a.example", num 500) ∷ [])) ∷ [])) "@a:a.example" []) (without_power []) ≡ None
 unfolding rules_on_examples
 power-first = refl
 
-users-no_id : rules (power 9 (fields ((codes "users", fields ((codes "a", num 1) ∷ [])) ∷ [])) "@a:a.example" []) (without_power []) ≡ Some UsersMalformed
+users-no_id : rules V6 (power 9 (fields ((codes "users", fields ((codes "a", num 1) ∷ [])) ∷ [])) "@a:a.example" []) (without_power []) ≡ Some UsersMalformed
 unfolding rules_on_examples
 users-no_id = refl
 
-users-no_object : rules (power 9 (fields ((codes "users", array no_items) ∷ [])) "@a:a.example" []) (without_power []) ≡ Some UsersMalformed
+users-no_object : rules V6 (power 9 (fields ((codes "users", array no_items) ∷ [])) "@a:a.example" []) (without_power []) ≡ Some UsersMalformed
 unfolding rules_on_examples
 users-no_object = refl
 
-users-null : rules (power 9 (fields ((codes "users", null) ∷ [])) "@a:a.example" []) (without_power []) ≡ Some UsersMalformed
+users-null : rules V6 (power 9 (fields ((codes "users", null) ∷ [])) "@a:a.example" []) (without_power []) ≡ Some UsersMalformed
 unfolding rules_on_examples
 users-null = refl
 
@@ -396,7 +397,7 @@ level_events type level = (codes "events", fields ((codes type, level) ∷ []))
 
 -- from one content to another
 abbrev change : List (List ℕ × Data) → List (List ℕ × Data) → Option Rule
-change old new = rules (power 9 (with new) "@b:b.example" []) (after (power 7 (with old) "@a:a.example" []))
+change old new = rules V6 (power 9 (with new) "@b:b.example" []) (after (power 7 (with old) "@a:a.example" []))
 
 change-none : change [] [] ≡ None
 unfolding rules_on_examples
@@ -451,19 +452,19 @@ change-events_at = refl
 abbrev with_d : ℕ → Data
 with_d level = fields ((codes "users", fields ((codes "@a:a.example", num 100) ∷ (codes "@b:b.example", num 50) ∷ (codes "@c:c.example", num 50) ∷ (codes "@d:d.example", num level) ∷ [])) ∷ [])
 
-users-add_at : rules (power 7 (with_d 50) "@b:b.example" []) after6 ≡ None
+users-add_at : rules V6 (power 7 (with_d 50) "@b:b.example" []) after6 ≡ None
 unfolding rules_on_examples
 users-add_at = refl
 
-users-add_above : rules (power 7 (with_d 51) "@b:b.example" []) after6 ≡ Some NewUserAboveSender
+users-add_above : rules V6 (power 7 (with_d 51) "@b:b.example" []) after6 ≡ Some NewUserAboveSender
 unfolding rules_on_examples
 users-add_above = refl
 
-users-remove_at : rules (power 9 (with []) "@b:b.example" []) (after (power 7 (with_d 50) "@a:a.example" [])) ≡ Some OldUserNotBelowSender
+users-remove_at : rules V6 (power 9 (with []) "@b:b.example" []) (after (power 7 (with_d 50) "@a:a.example" [])) ≡ Some OldUserNotBelowSender
 unfolding rules_on_examples
 users-remove_at = refl
 
-users-remove_below : rules (power 9 (with []) "@b:b.example" []) (after (power 7 (with_d 49) "@a:a.example" [])) ≡ None
+users-remove_below : rules V6 (power 9 (with []) "@b:b.example" []) (after (power 7 (with_d 49) "@a:a.example" [])) ≡ None
 unfolding rules_on_examples
 users-remove_below = refl
 
@@ -472,12 +473,12 @@ change-each : map (λ key. change [] ((key, num 51) ∷ [])) (words "users_defau
 unfolding rules_on_examples
 change-each = refl
 
-power-no_users : rules (power 9 no_fields "@a:a.example" []) (without_power []) ≡ None
+power-no_users : rules V6 (power 9 no_fields "@a:a.example" []) (without_power []) ≡ None
 unfolding rules_on_examples
 power-no_users = refl
 
 -- what doesn't read counts as absent
-change-users_unread : rules (power 9 (fields ((codes "users", fields ((codes "@b:b.example", num 50) ∷ (codes "@c:c.example", num 50) ∷ [])) ∷ [])) "@b:b.example" []) (after (power 7 (fields ((codes "users", fields ((codes "@b:b.example", num 50) ∷ (codes "@c:c.example", text "x") ∷ [])) ∷ [])) "@a:a.example" [])) ≡ None
+change-users_unread : rules V6 (power 9 (fields ((codes "users", fields ((codes "@b:b.example", num 50) ∷ (codes "@c:c.example", num 50) ∷ [])) ∷ [])) "@b:b.example" []) (after (power 7 (fields ((codes "users", fields ((codes "@b:b.example", num 50) ∷ (codes "@c:c.example", text "x") ∷ [])) ∷ [])) "@a:a.example" [])) ≡ None
 unfolding rules_on_examples
 change-users_unread = refl
 
@@ -493,30 +494,30 @@ message auth = event 7 "m.room.message" [] "@a:a.example" (fields ((codes "body"
 abbrev cited : Event → Cited
 cited e = record { event = e; rejected = false }
 
-auth-sound : auth_rules (message (codes "$1" ∷ codes "$2" ∷ codes "$3" ∷ [])) (cited e1 ∷ cited e2 ∷ cited e3 ∷ []) ≡ None
+auth-sound : auth_rules V6 (message (codes "$1" ∷ codes "$2" ∷ codes "$3" ∷ [])) (cited e1 ∷ cited e2 ∷ cited e3 ∷ []) ≡ None
 unfolding rules_on_examples
 auth-sound = refl
 
-auth-twice : auth_rules (message (codes "$1" ∷ codes "$2" ∷ codes "$3" ∷ codes "$3" ∷ [])) (cited e1 ∷ cited e2 ∷ cited e3 ∷ cited e3 ∷ []) ≡ Some AuthEventsRepeat
+auth-twice : auth_rules V6 (message (codes "$1" ∷ codes "$2" ∷ codes "$3" ∷ codes "$3" ∷ [])) (cited e1 ∷ cited e2 ∷ cited e3 ∷ cited e3 ∷ []) ≡ Some AuthEventsRepeat
 unfolding rules_on_examples
 auth-twice = refl
 
-auth-not_selected : auth_rules (message (codes "$1" ∷ codes "$2" ∷ codes "$3" ∷ codes "$4" ∷ [])) (cited e1 ∷ cited e2 ∷ cited e3 ∷ cited e4 ∷ []) ≡ Some AuthEventNotSelected
+auth-not_selected : auth_rules V6 (message (codes "$1" ∷ codes "$2" ∷ codes "$3" ∷ codes "$4" ∷ [])) (cited e1 ∷ cited e2 ∷ cited e3 ∷ cited e4 ∷ []) ≡ Some AuthEventNotSelected
 unfolding rules_on_examples
 auth-not_selected = refl
 
-auth-rejected : auth_rules (message (codes "$1" ∷ codes "$2" ∷ codes "$3" ∷ [])) (cited e1 ∷ cited e2 ∷ record { event = e3; rejected = true } ∷ []) ≡ Some AuthEventRejected
+auth-rejected : auth_rules V6 (message (codes "$1" ∷ codes "$2" ∷ codes "$3" ∷ [])) (cited e1 ∷ cited e2 ∷ record { event = e3; rejected = true } ∷ []) ≡ Some AuthEventRejected
 unfolding rules_on_examples
 auth-rejected = refl
 
-auth-no_create : auth_rules (message (codes "$2" ∷ codes "$3" ∷ [])) (cited e2 ∷ cited e3 ∷ []) ≡ Some AuthEventsWithoutCreate
+auth-no_create : auth_rules V6 (message (codes "$2" ∷ codes "$3" ∷ [])) (cited e2 ∷ cited e3 ∷ []) ≡ Some AuthEventsWithoutCreate
 unfolding rules_on_examples
 auth-no_create = refl
 
-needed-message : needed_keys (message []) ≡ (codes "m.room.create", []) ∷ (codes "m.room.power_levels", []) ∷ (codes "m.room.member", codes "@a:a.example") ∷ []
+needed-message : needed_keys V6 (message []) ≡ (codes "m.room.create", []) ∷ (codes "m.room.power_levels", []) ∷ (codes "m.room.member", codes "@a:a.example") ∷ []
 needed-message = refl
 
-needed-join : needed_keys e5 ≡ (codes "m.room.create", []) ∷ (codes "m.room.power_levels", []) ∷ (codes "m.room.member", codes "@b:b.example") ∷ (codes "m.room.join_rules", []) ∷ []
+needed-join : needed_keys V6 e5 ≡ (codes "m.room.create", []) ∷ (codes "m.room.power_levels", []) ∷ (codes "m.room.member", codes "@b:b.example") ∷ (codes "m.room.join_rules", []) ∷ []
 needed-join = refl
 
 label-printed : label_text JoinNotAllowed ≡ codes "A4.2.6"
@@ -527,29 +528,104 @@ label-state_without_create : label_text StateWithoutCreate ≡ codes "A0"
 label-state_without_create = refl
 
 -- an event that is no state event, cited twice
-auth-message_twice : auth_rules (message (codes "$1" ∷ codes "$9" ∷ codes "$9" ∷ [])) (cited e1 ∷ cited (message []) ∷ cited (message []) ∷ []) ≡ Some AuthEventsRepeat
+auth-message_twice : auth_rules V6 (message (codes "$1" ∷ codes "$9" ∷ codes "$9" ∷ [])) (cited e1 ∷ cited (message []) ∷ cited (message []) ∷ []) ≡ Some AuthEventsRepeat
 unfolding rules_on_examples
 auth-message_twice = refl
 
 -- two events with one key
-auth-two_keys : auth_rules (message (codes "$1" ∷ codes "$3" ∷ codes "$8" ∷ [])) (cited e1 ∷ cited e3 ∷ cited e8 ∷ []) ≡ Some AuthEventsRepeat
+auth-two_keys : auth_rules V6 (message (codes "$1" ∷ codes "$3" ∷ codes "$8" ∷ [])) (cited e1 ∷ cited e3 ∷ cited e8 ∷ []) ≡ Some AuthEventsRepeat
 unfolding rules_on_examples
 auth-two_keys = refl
 
-auth-message : auth_rules (message (codes "$1" ∷ codes "$9" ∷ [])) (cited e1 ∷ cited (message []) ∷ []) ≡ Some AuthEventNotSelected
+auth-message : auth_rules V6 (message (codes "$1" ∷ codes "$9" ∷ [])) (cited e1 ∷ cited (message []) ∷ []) ≡ Some AuthEventNotSelected
 unfolding rules_on_examples
 auth-message = refl
 
-needed-invite : needed_keys (m_event "@d:d.example" "@a:a.example" "invite") ≡ (codes "m.room.create", []) ∷ (codes "m.room.power_levels", []) ∷ (codes "m.room.member", codes "@a:a.example") ∷ (codes "m.room.member", codes "@d:d.example") ∷ (codes "m.room.join_rules", []) ∷ []
+needed-invite : needed_keys V6 (m_event "@d:d.example" "@a:a.example" "invite") ≡ (codes "m.room.create", []) ∷ (codes "m.room.power_levels", []) ∷ (codes "m.room.member", codes "@a:a.example") ∷ (codes "m.room.member", codes "@d:d.example") ∷ (codes "m.room.join_rules", []) ∷ []
 needed-invite = refl
 
-needed-kick : needed_keys (m_event "@d:d.example" "@a:a.example" "leave") ≡ (codes "m.room.create", []) ∷ (codes "m.room.power_levels", []) ∷ (codes "m.room.member", codes "@a:a.example") ∷ (codes "m.room.member", codes "@d:d.example") ∷ []
+needed-kick : needed_keys V6 (m_event "@d:d.example" "@a:a.example" "leave") ≡ (codes "m.room.create", []) ∷ (codes "m.room.power_levels", []) ∷ (codes "m.room.member", codes "@a:a.example") ∷ (codes "m.room.member", codes "@d:d.example") ∷ []
 needed-kick = refl
 
-needed-create : needed_keys e1 ≡ []
+needed-create : needed_keys V6 e1 ≡ []
 needed-create = refl
 
 -- a create event is decided by its own lines
-auth-create : auth_rules e1 [] ≡ None
+auth-create : auth_rules V6 e1 [] ≡ None
 unfolding rules_on_examples
 auth-create = refl
+
+-- ---- knocks, which Room Version 7 has
+abbrev knocking : Event
+knocking = event 4 "m.room.join_rules" (keyed "") "@a:a.example" (fields ((codes "join_rule", text "knock") ∷ [])) [] []
+
+abbrev d_knocks : Event
+d_knocks = m_event "@d:d.example" "@d:d.example" "knock"
+
+abbrev d_joins : Event
+d_joins = m_event "@d:d.example" "@d:d.example" "join"
+
+abbrev create_7 : Event
+create_7 = create (creator ∷ (codes "room_version", text "7") ∷ []) []
+
+create-7 : rules V7 create_7 empty ≡ None
+unfolding rules_on_examples
+create-7 = refl
+
+create-7_in_6 : rules V6 create_7 empty ≡ None
+unfolding rules_on_examples
+create-7_in_6 = refl
+
+knock-allowed : rules V7 d_knocks (after knocking) ≡ None
+unfolding rules_on_examples
+knock-allowed = refl
+
+knock-6 : rules V6 d_knocks (after knocking) ≡ Some MembershipUnknown
+unfolding rules_on_examples
+knock-6 = refl
+
+knock-public : rules V7 d_knocks after6 ≡ Some KnockNotAllowed
+unfolding rules_on_examples
+knock-public = refl
+
+knock-for_another : rules V7 (m_event "@d:d.example" "@a:a.example" "knock") (after knocking) ≡ Some KnockForAnother
+unfolding rules_on_examples
+knock-for_another = refl
+
+knock-joined : rules V7 (m_event "@b:b.example" "@b:b.example" "knock") (after knocking) ≡ Some KnockOfBannedOrInvitedOrJoined
+unfolding rules_on_examples
+knock-joined = refl
+
+knock-banned : rules V7 (m_event "@c:c.example" "@c:c.example" "knock") (state (knocking ∷ c_banned ∷ e1 ∷ e2 ∷ e3 ∷ e5 ∷ [])) ≡ Some KnockOfBannedOrInvitedOrJoined
+unfolding rules_on_examples
+knock-banned = refl
+
+knock-again : rules V7 d_knocks (state (d_knocks ∷ knocking ∷ e1 ∷ e2 ∷ e3 ∷ [])) ≡ None
+unfolding rules_on_examples
+knock-again = refl
+
+leave-knocking : rules V7 (m_event "@d:d.example" "@d:d.example" "leave") (state (d_knocks ∷ knocking ∷ e1 ∷ e2 ∷ e3 ∷ [])) ≡ None
+unfolding rules_on_examples
+leave-knocking = refl
+
+leave-knocking_6 : rules V6 (m_event "@d:d.example" "@d:d.example" "leave") (state (d_knocks ∷ knocking ∷ e1 ∷ e2 ∷ e3 ∷ [])) ≡ Some LeaveNotInvitedOrJoined
+unfolding rules_on_examples
+leave-knocking_6 = refl
+
+join-invited_by_knock : rules V7 d_joins (state (d_invited ∷ knocking ∷ e1 ∷ e2 ∷ e3 ∷ [])) ≡ None
+unfolding rules_on_examples
+join-invited_by_knock = refl
+
+join-invited_by_knock_6 : rules V6 d_joins (state (d_invited ∷ knocking ∷ e1 ∷ e2 ∷ e3 ∷ [])) ≡ Some JoinNotAllowed
+unfolding rules_on_examples
+join-invited_by_knock_6 = refl
+
+join-knocking : rules V7 d_joins (state (d_knocks ∷ knocking ∷ e1 ∷ e2 ∷ e3 ∷ [])) ≡ Some JoinNotAllowed
+unfolding rules_on_examples
+join-knocking = refl
+
+needed-knock : needed_keys V7 d_knocks ≡ (codes "m.room.create", []) ∷ (codes "m.room.power_levels", []) ∷ (codes "m.room.member", codes "@d:d.example") ∷ (codes "m.room.join_rules", []) ∷ []
+needed-knock = refl
+
+needed-knock_6 : needed_keys V6 d_knocks ≡ (codes "m.room.create", []) ∷ (codes "m.room.power_levels", []) ∷ (codes "m.room.member", codes "@d:d.example") ∷ []
+needed-knock_6 = refl

@@ -1,3 +1,4 @@
+pub mod Versions
 pub mod StateView
 pub mod Rules
 pub mod Joins

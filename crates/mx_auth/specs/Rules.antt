@@ -1,16 +1,19 @@
--- The authorization rules (Matrix specification, Room Version 6, authorization rules).
+-- The authorization rules (Matrix specification, Room Version 6 and Room Version 7, authorization rules). Where the two
+-- versions differ, a line asks whether the version has knocks.
 use Rattle.std.specs.Prelude.{◌≡◌, ℕ, nat_lt, ℤ, int_lt, int_le, Bool, true, false, not, ◌&&◌, ◌||◌, if◌then◌else◌, List, [], ◌∷◌, ◌++◌, length, codes, bytes_eq, filter_map, Option, Some, None, unwrap_or, option_map, option_and_then, is_some, is_none}
 use Rattle.std.specs.Ordering.{int_eq}
 use Rattle.std.specs.List.{list_any, list_all}
 use Rattle.serde_json.specs.Data.{Data, null}
 use Rattle.serde_json.specs.Find.{as_bool}
 use Rattle.mx_ident.specs.Identifier.{begins_with, server_of, is_user_id}
-use Rattle.mx_redact.specs.Fields.{Event, field, text_field, value_at, is_object, object_keys, is_some_and, is_none_or, is_text, words, kind}
+use Rattle.mx_redact.specs.Fields.{Event, field, text_field, value_at, is_object, object_keys, is_some_and, is_none_or, words, kind}
 use Rattle.mx_pdu.specs.Event.{has_kind, room_of, sender_of, state_key_of, is_state, content_of, prev_ids, auth_ids, membership_of, has_membership}
 use Rattle.mx_levels.specs.Level.{level_at, is_creator, required_level, ban_level, kick_level, invite_level}
-use Rattle.mx_auth.specs.StateView.{StateView, create_of, power_of, level_of, is_joined, is_invited_or_joined, is_banned, join_rule_in}
+use Rattle.mx_auth.specs.StateView.{StateView, create_of, power_of, level_of, is_joined, is_invited_or_joined, is_knocking, is_banned, join_rule_in}
+use Rattle.mx_auth.specs.Versions.{version_of, has_knocks}
+use Rattle.mx_auth.specs.declared.versions.RoomVersion.{RoomVersion}
 use Rattle.mx_auth.specs.declared.refusals.Rule.{Rule}
-use Rattle.mx_auth.specs.declared.refusals.Rule.TheVariants.{CreateHasPrevEvents, CreateOfAnotherServer, CreateVersionUnknown, CreateWithoutCreator, AuthEventsRepeat, AuthEventNotSelected, AuthEventRejected, AuthEventsWithoutCreate, StateWithoutCreate, RoomNotFederated, MemberIncomplete, JoinForAnother, JoinOfBanned, JoinNotAllowed, InviteByThirdParty, InviterNotJoined, InviteOfJoinedOrBanned, InviteLevelTooLow, LeaveNotInvitedOrJoined, KickerNotJoined, UnbanLevelTooLow, KickLevelTooLow, BannerNotJoined, BanLevelTooLow, MembershipUnknown, SenderNotJoined, ThirdPartyInviteLevelTooLow, SenderLevelTooLow, StateKeyOfAnotherUser, UsersMalformed, LevelChangedAboveSender, OldEntryAboveSender, NewEntryAboveSender, OldUserNotBelowSender, NewUserAboveSender}
+use Rattle.mx_auth.specs.declared.refusals.Rule.TheVariants.{CreateHasPrevEvents, CreateOfAnotherServer, CreateVersionUnknown, CreateWithoutCreator, AuthEventsRepeat, AuthEventNotSelected, AuthEventRejected, AuthEventsWithoutCreate, StateWithoutCreate, RoomNotFederated, MemberIncomplete, JoinForAnother, JoinOfBanned, JoinNotAllowed, InviteByThirdParty, InviterNotJoined, InviteOfJoinedOrBanned, InviteLevelTooLow, LeaveNotInvitedOrJoined, KickerNotJoined, UnbanLevelTooLow, KickLevelTooLow, BannerNotJoined, BanLevelTooLow, KnockNotAllowed, KnockForAnother, KnockOfBannedOrInvitedOrJoined, MembershipUnknown, SenderNotJoined, ThirdPartyInviteLevelTooLow, SenderLevelTooLow, StateKeyOfAnotherUser, UsersMalformed, LevelChangedAboveSender, OldEntryAboveSender, NewEntryAboveSender, OldUserNotBelowSender, NewUserAboveSender}
 
 -- ---- the lines of the rules
 
@@ -40,6 +43,9 @@ label_text UnbanLevelTooLow = codes "A4.4.3"
 label_text KickLevelTooLow = codes "A4.4.5"
 label_text BannerNotJoined = codes "A4.5.1"
 label_text BanLevelTooLow = codes "A4.5.3"
+label_text KnockNotAllowed = codes "A4.7.1"
+label_text KnockForAnother = codes "A4.7.2"
+label_text KnockOfBannedOrInvitedOrJoined = codes "A4.7.4"
 label_text MembershipUnknown = codes "A4.6"
 label_text SenderNotJoined = codes "A5"
 label_text ThirdPartyInviteLevelTooLow = codes "A6"
@@ -111,25 +117,33 @@ reaches s e level = int_le level (sender_level s e)
 abbrev pub outranks : StateView → Event → Bool
 outranks s e = int_lt (level_of s (target_of e)) (sender_level s e)
 
--- ---- Room Version 6, authorization rules, 1: m.room.create
+-- ---- Room Version 6 and 7, authorization rules, 1: m.room.create
 
 unfoldable pub create_lines : Event → List Line
 create_lines e =
     reject_if CreateHasPrevEvents (nat_lt 0 (length (prev_ids e)))
     ∷ reject_if CreateOfAnotherServer (not (same_server (room_of e) (sender_of e)))
-    ∷ reject_if CreateVersionUnknown (not (is_text (codes "6") (text_field (codes "room_version") (content_of e))))
+    ∷ reject_if CreateVersionUnknown (is_none (version_of e))
     ∷ reject_if CreateWithoutCreator (is_none (text_field (codes "creator") (content_of e)))
     ∷ allow
     ∷ []
 
--- ---- Room Version 6, authorization rules, 4: m.room.member
+-- ---- Room Version 6 and 7, authorization rules, 4: m.room.member
 
-unfoldable pub join_lines : Event → StateView → List Line
-join_lines e s =
+-- who is invited or joined may join by the rule `invite`, and in Room Version 7 by the rule `knock` too
+abbrev pub opens_to_invited : RoomVersion → List ℕ → Bool
+opens_to_invited v rule = bytes_eq rule (codes "invite") || (has_knocks v && bytes_eq rule (codes "knock"))
+
+-- who is invited or joined may leave, and in Room Version 7 who knocks too
+abbrev pub may_leave : RoomVersion → StateView → List ℕ → Bool
+may_leave v s user = is_invited_or_joined s user || (has_knocks v && is_knocking s user)
+
+unfoldable pub join_lines : RoomVersion → Event → StateView → List Line
+join_lines v e s =
     allow_if (all_are s.create_id (prev_ids e) && is_creator (create_of s) (target_of e))
     ∷ reject_if JoinForAnother (not (is_own e))
     ∷ reject_if JoinOfBanned (is_banned s (target_of e))
-    ∷ allow_if (bytes_eq (join_rule_in s) (codes "invite") && is_invited_or_joined s (target_of e))
+    ∷ allow_if (opens_to_invited v (join_rule_in s) && is_invited_or_joined s (target_of e))
     ∷ allow_if (bytes_eq (join_rule_in s) (codes "public"))
     ∷ reject JoinNotAllowed
     ∷ []
@@ -143,9 +157,9 @@ invite_lines e s =
     ∷ reject InviteLevelTooLow
     ∷ []
 
-unfoldable pub leave_lines : Event → StateView → List Line
-leave_lines e s =
-    allow_if (is_own e && is_invited_or_joined s (target_of e))
+unfoldable pub leave_lines : RoomVersion → Event → StateView → List Line
+leave_lines v e s =
+    allow_if (is_own e && may_leave v s (target_of e))
     ∷ reject_if LeaveNotInvitedOrJoined (is_own e)
     ∷ reject_if KickerNotJoined (not (is_joined s (sender_of e)))
     ∷ reject_if UnbanLevelTooLow (is_banned s (target_of e) && not (reaches s e (ban_level (power_of s))))
@@ -160,16 +174,29 @@ ban_lines e s =
     ∷ reject BanLevelTooLow
     ∷ []
 
-unfoldable pub member_lines : Event → StateView → List Line
-member_lines e s =
+-- of Room Version 7 alone
+abbrev pub is_knock : RoomVersion → Event → Bool
+is_knock v e = has_membership (codes "knock") e && has_knocks v
+
+unfoldable pub knock_lines : Event → StateView → List Line
+knock_lines e s =
+    reject_if KnockNotAllowed (not (bytes_eq (join_rule_in s) (codes "knock")))
+    ∷ reject_if KnockForAnother (not (is_own e))
+    ∷ allow_if (not (is_banned s (target_of e) || is_invited_or_joined s (target_of e)))
+    ∷ reject KnockOfBannedOrInvitedOrJoined
+    ∷ []
+
+unfoldable pub member_lines : RoomVersion → Event → StateView → List Line
+member_lines v e s =
     reject_if MemberIncomplete (is_none (state_key_of e) || is_none (membership_of e))
-    ∷ where_so (has_membership (codes "join") e) (join_lines e s)
+    ∷ where_so (has_membership (codes "join") e) (join_lines v e s)
     ++ where_so (has_membership (codes "invite") e) (invite_lines e s)
-    ++ where_so (has_membership (codes "leave") e) (leave_lines e s)
+    ++ where_so (has_membership (codes "leave") e) (leave_lines v e s)
     ++ where_so (has_membership (codes "ban") e) (ban_lines e s)
+    ++ where_so (is_knock v e) (knock_lines e s)
     ++ reject MembershipUnknown ∷ []
 
--- ---- Room Version 6, authorization rules, 6: m.room.third_party_invite
+-- ---- Room Version 6 and 7, authorization rules, 6: m.room.third_party_invite
 
 unfoldable pub third_party_invite_lines : Event → StateView → List Line
 third_party_invite_lines e s =
@@ -177,7 +204,7 @@ third_party_invite_lines e s =
     ∷ reject ThirdPartyInviteLevelTooLow
     ∷ []
 
--- ---- Room Version 6, authorization rules, 9: m.room.power_levels
+-- ---- Room Version 6 and 7, authorization rules, 9: m.room.power_levels
 
 -- an object from user ids to levels
 unfoldable pub is_user_levels : Data → Bool
@@ -247,7 +274,7 @@ power_lines e s =
     ∷ allow_if (is_none (power_of s))
     ∷ change_lines (sender_of e) (sender_level s e) (power_content s) (content_of e)
 
--- ---- Room Version 6, authorization rules, 5 to 9: every event but a create event or a member event
+-- ---- Room Version 6 and 7, authorization rules, 5 to 9: every event but a create event or a member event
 
 unfoldable pub other_lines : Event → StateView → List Line
 other_lines e s =
@@ -257,21 +284,21 @@ other_lines e s =
     ∷ reject_if StateKeyOfAnotherUser (begins_with 64 (target_of e) && not (is_own e))
     ∷ where_so (has_kind (codes "m.room.power_levels") e) (power_lines e s))
 
--- ---- Room Version 6, authorization rules: all but the check of the auth events, in order
+-- ---- Room Version 6 and 7, authorization rules: all but the check of the auth events, in order
 
-abbrev pub rule_lines : Event → StateView → List Line
-rule_lines e s =
+abbrev pub rule_lines : RoomVersion → Event → StateView → List Line
+rule_lines v e s =
     where_so (has_kind (codes "m.room.create") e) (create_lines e)
     ++ (reject_if StateWithoutCreate (is_none (create_of s))
     ∷ reject_if RoomNotFederated (is_some_and (is_kept_out e) (create_of s))
-    ∷ where_so (has_kind (codes "m.room.member") e) (member_lines e s)
+    ∷ where_so (has_kind (codes "m.room.member") e) (member_lines v e s)
     ++ other_lines e s)
 
--- why the event is rejected in this state; None where it is allowed
-unfoldable pub rules : Event → StateView → Option Rule
-rules e s = first_line (rule_lines e s)
+-- why the event is rejected in this state of a room of this version; None where it is allowed
+unfoldable pub rules : RoomVersion → Event → StateView → Option Rule
+rules v e s = first_line (rule_lines v e s)
 
--- ---- Server-Server API, auth events selection; Room Version 6, authorization rules, 2
+-- ---- Server-Server API, auth events selection; Room Version 6 and 7, authorization rules, 2
 
 -- a type and a state key
 abbrev pub Key : Type 0
@@ -283,19 +310,23 @@ same_key a b = bytes_eq a.0 b.0 && bytes_eq a.1 b.1
 abbrev pub key_of : Event → Option Key
 key_of e = option_map (λ state_key. (kind e, state_key)) (state_key_of e)
 
+-- a member event that the join rules are selected for: a join, an invite, and in Room Version 7 a knock
+abbrev pub needs_join_rules : RoomVersion → Event → Bool
+needs_join_rules v e =
+    has_membership (codes "join") e || has_membership (codes "invite") e || is_knock v e
+
 -- the keys that a member event needs beside its sender's: its target's, and the join rules
-abbrev pub member_keys : Event → List Key
-member_keys e =
+abbrev pub member_keys : RoomVersion → Event → List Key
+member_keys v e =
     where_so (is_state e && not (is_own e)) ((codes "m.room.member", target_of e) ∷ [])
-    ++ where_so (has_membership (codes "join") e || has_membership (codes "invite") e)
-    ((codes "m.room.join_rules", []) ∷ [])
+    ++ where_so (needs_join_rules v e) ((codes "m.room.join_rules", []) ∷ [])
 
 -- the keys of the state that an event's auth events are selected from
-abbrev pub needed_keys : Event → List Key
-needed_keys e =
+abbrev pub needed_keys : RoomVersion → Event → List Key
+needed_keys v e =
     where_so (not (has_kind (codes "m.room.create") e))
     ((codes "m.room.create", []) ∷ (codes "m.room.power_levels", []) ∷ (codes "m.room.member", sender_of e)
-    ∷ where_so (has_kind (codes "m.room.member") e) (member_keys e))
+    ∷ where_so (has_kind (codes "m.room.member") e) (member_keys v e))
 
 -- two states have the same event at each of these keys
 abbrev pub AgreeAt : List Key → StateView → StateView → Type 0
@@ -312,21 +343,21 @@ abbrev pub has_repeat : {A : Type 0} → (A → A → Bool) → List A → Bool
 has_repeat same [] = false
 has_repeat same (x ∷ xs) = list_any (same x) xs || has_repeat same xs
 
-unfoldable pub is_selected : Event → Event → Bool
-is_selected e cited = is_some_and (λ key. list_any (same_key key) (needed_keys e)) (key_of cited)
+unfoldable pub is_selected : RoomVersion → Event → Event → Bool
+is_selected v e cited = is_some_and (λ key. list_any (same_key key) (needed_keys v e)) (key_of cited)
 
 abbrev pub cited_keys : List Cited → List Key
 cited_keys entries = filter_map (λ c. key_of c.event) entries
 
 -- the lines on the events that e cites, in the order of its `auth_events`
-unfoldable pub auth_lines : Event → List Cited → List Line
-auth_lines e entries =
+unfoldable pub auth_lines : RoomVersion → Event → List Cited → List Line
+auth_lines v e entries =
     reject_if AuthEventsRepeat (has_repeat bytes_eq (auth_ids e) || has_repeat same_key (cited_keys entries))
-    ∷ reject_if AuthEventNotSelected (list_any (λ c. not (is_selected e c.event)) entries)
+    ∷ reject_if AuthEventNotSelected (list_any (λ c. not (is_selected v e c.event)) entries)
     ∷ reject_if AuthEventRejected (list_any (λ c. c.rejected) entries)
     ∷ reject_if AuthEventsWithoutCreate (not (list_any (λ c. has_kind (codes "m.room.create") c.event) entries))
     ∷ []
 
 -- why the event is rejected by its auth events; the lines on a create event come first and decide it
-unfoldable pub auth_rules : Event → List Cited → Option Rule
-auth_rules e entries = if has_kind (codes "m.room.create") e then None else first_line (auth_lines e entries)
+unfoldable pub auth_rules : RoomVersion → Event → List Cited → Option Rule
+auth_rules v e entries = if has_kind (codes "m.room.create") e then None else first_line (auth_lines v e entries)

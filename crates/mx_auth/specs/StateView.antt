@@ -30,6 +30,9 @@ unfoldable pub is_invited_or_joined : StateView → List ℕ → Bool
 is_invited_or_joined s user =
     is_text (codes "invite") (membership_in s user) || is_text (codes "join") (membership_in s user)
 
+unfoldable pub is_knocking : StateView → List ℕ → Bool
+is_knocking s user = is_text (codes "knock") (membership_in s user)
+
 unfoldable pub is_banned : StateView → List ℕ → Bool
 is_banned s user = is_text (codes "ban") (membership_in s user)
 

@@ -10,6 +10,7 @@ ghost use Rattle.mx_auth.specs.Keys.{cited_shown, repeats_key as repeats_key_of,
 use crate::events::is_at;
 use crate::refusals::Rule;
 use crate::selecting::{NeededKeys, needed_keys};
+use crate::versions::RoomVersion;
 use mx_ident::EventId;
 use mx_pdu::Pdu;
 
@@ -20,15 +21,19 @@ pub struct CitedEvent<'a> {
     pub rejected: bool,
 }
 
-/// Checks the events that an event cites as its auth events, in the order of `auth_events`: `Ok` where no line rejects
-/// the event for them. Of a create event, which cites none, nothing is said. It takes no memory.
+/// Checks the events that an event of a room of this version cites as its auth events, in the order of `auth_events`:
+/// `Ok` where no line rejects the event for them. Of a create event, which cites none, nothing is said. It takes no memory.
 ///
 /// The error is the first of `AuthEventsRepeat`, `AuthEventNotSelected`, `AuthEventRejected` and
 /// `AuthEventsWithoutCreate` that holds.
 ///
-/// Source: the Matrix specification, Room Version 6, "Authorization rules", rule 2.
-pub fn judge_auth_events(event: &Pdu, entries: &[CitedEvent<'_>]) -> Result<(), Rule>
-    ensures { result_err result ≡ auth_rules event.now (map cited_shown entries.now) }
+/// Source: the Matrix specification, Room Version 6 and Room Version 7, "Authorization rules", rule 2.
+pub fn judge_auth_events(
+    version: RoomVersion,
+    event: &Pdu,
+    entries: &[CitedEvent<'_>],
+) -> Result<(), Rule>
+    ensures { result_err result ≡ auth_rules version event.now (map cited_shown entries.now) }
 {
     if event.kind() == "m.room.create" {
         return Ok(());
@@ -36,7 +41,7 @@ pub fn judge_auth_events(event: &Pdu, entries: &[CitedEvent<'_>]) -> Result<(), 
     if repeats(event, entries) {
         return Err(Rule::AuthEventsRepeat);
     }
-    if cites_unselected(event, entries) {
+    if cites_unselected(version, event, entries) {
         return Err(Rule::AuthEventNotSelected);
     }
     if cites_rejected(entries) {
@@ -106,10 +111,10 @@ fn is_key_cited(kind: &str, state_key: &str, entries: &[CitedEvent<'_>]) -> bool
 
 // Whether a cited event has no place in the selection of auth events.
 #[tactic(auto, unfolding(crate::specs::Rules::is_selected))]
-fn cites_unselected(event: &Pdu, entries: &[CitedEvent<'_>]) -> bool
-    ensures { result ≡ list_any (λ cited. not (is_selected_for event.now cited.event.now)) entries.now }
+fn cites_unselected(version: RoomVersion, event: &Pdu, entries: &[CitedEvent<'_>]) -> bool
+    ensures { result ≡ list_any (λ cited. not (is_selected_for version event.now cited.event.now)) entries.now }
 {
-    let keys = needed_keys(event);
+    let keys = needed_keys(version, event);
     has_unselected(&keys, entries)
 }
 

@@ -5,8 +5,8 @@ ghost use Rattle.mx_auth.specs.Rules.{first_line, create_lines};
 
 use crate::contents::content_text;
 use crate::refusals::Rule;
+use crate::versions::RoomVersion;
 use mx_pdu::Pdu;
-use mx_redact::is_text;
 
 /// Judges a create event.
 #[tactic(auto, unfolding(crate::specs::Rules::create_lines))]
@@ -19,7 +19,7 @@ pub(crate) fn judge_create(event: &Pdu) -> Result<(), Rule>
     if event.room_id().server() != event.sender().server() {
         return Err(Rule::CreateOfAnotherServer);
     }
-    if !is_text(content_text(event, "room_version"), "6") {
+    if RoomVersion::of(event).is_none() {
         return Err(Rule::CreateVersionUnknown);
     }
     if content_text(event, "creator").is_none() {

@@ -6,6 +6,7 @@ ghost use Rattle.mx_redact.specs.Fields.{Event, kind};
 ghost use Rattle.mx_pdu.specs.Event.{is_state};
 ghost use Rattle.mx_levels.specs.Level.{required_level};
 ghost use Rattle.mx_auth.specs.StateView.{StateView, power_of};
+ghost use Rattle.mx_auth.specs.declared.versions.RoomVersion.{RoomVersion as Version};
 ghost use Rattle.mx_auth.specs.Rules.{first_line, rules, other_lines, third_party_invite_lines, reaches, target_of as target, is_own as is_own_event, needed_keys, AgreeAt};
 
 use crate::creating::judge_create;
@@ -14,16 +15,17 @@ use crate::memberships::judge_member;
 use crate::power_levels::judge_power_levels;
 use crate::refusals::Rule;
 use crate::states::{RoomState, create_event, is_joined, levels_in};
+use crate::versions::RoomVersion;
 use mx_pdu::Pdu;
 
-/// Judges an event on a state of its room: `Ok` where the rules allow it. It takes no memory.
+/// Judges an event on a state of its room, which is of this version: `Ok` where the rules allow it. It takes no memory.
 ///
 /// The first line of the rules that decides, decides, and the error is the line that rejects the event. The lines on
 /// the events that it cites as its auth events are those of [`judge_auth_events`](crate::judge_auth_events).
 ///
-/// Source: the Matrix specification, Room Version 6, "Authorization rules".
-pub fn judge<S: RoomState>(event: &Pdu, state: &S) -> Result<(), Rule>
-    ensures { result_err result ≡ rules event.now (S.state state.now) }
+/// Source: the Matrix specification, Room Version 6 and Room Version 7, "Authorization rules".
+pub fn judge<S: RoomState>(version: RoomVersion, event: &Pdu, state: &S) -> Result<(), Rule>
+    ensures { result_err result ≡ rules version event.now (S.state state.now) }
 {
     if event.kind() == "m.room.create" {
         return judge_create(event);
@@ -35,7 +37,7 @@ pub fn judge<S: RoomState>(event: &Pdu, state: &S) -> Result<(), Rule>
         return Err(Rule::RoomNotFederated);
     }
     if event.kind() == "m.room.member" {
-        return judge_member(event, state);
+        return judge_member(version, event, state);
     }
     judge_other(event, state)
 }
@@ -93,6 +95,6 @@ fn judge_third_party_invite<S: RoomState>(event: &Pdu, state: &S) -> Result<(), 
 /// Two states judge an event alike where they agree on the create event's id and at the event's
 /// [`needed_keys`](crate::needed_keys), whatever types hold them. It does nothing: this is what it ensures.
 pub fn agreeing_states_judge_alike()
-    ensures { (event : Event) (one other : StateView) → one.create_id ≡ other.create_id
-        → AgreeAt (needed_keys event) one other → rules event one ≡ rules event other }
+    ensures { (version : Version) (event : Event) (one other : StateView) → one.create_id ≡ other.create_id
+        → AgreeAt (needed_keys version event) one other → rules version event one ≡ rules version event other }
 {}

@@ -1,4 +1,4 @@
-//! The authorization rules of a room (Matrix specification, Room Version 6, authorization rules).
+//! The authorization rules of a room (Matrix specification, Room Version 6 and Room Version 7, authorization rules).
 #![tactic(auto)]
 
 mod citing;
@@ -12,6 +12,7 @@ mod power_levels;
 mod refusals;
 mod selecting;
 mod states;
+mod versions;
 
 pub use citing::{CitedEvent, judge_auth_events};
 pub use events::{is_at, membership_of};
@@ -20,3 +21,4 @@ pub use judging::{agreeing_states_judge_alike, judge};
 pub use refusals::Rule;
 pub use selecting::{NeededKeys, StateKey, needed_keys};
 pub use states::RoomState;
+pub use versions::RoomVersion;

@@ -2,40 +2,48 @@
 ghost use Rattle.std.specs.Prelude.{◌≡◌};
 ghost use Rattle.std.specs.Result.{result_err};
 ghost use Rattle.mx_auth.specs.Joins.{join_lines_of};
-ghost use Rattle.mx_auth.specs.Rules.{first_line, join_lines, invite_lines, leave_lines, ban_lines, member_lines};
+ghost use Rattle.mx_auth.specs.Rules.{first_line, join_lines, invite_lines, leave_lines, ban_lines, knock_lines, member_lines, opens_to_invited as opens_to_invited_by, may_leave as may_leave_in};
 
 use crate::contents::content_field;
 use crate::events::{all_are, is_creator, is_own, membership_of, target_of};
 use crate::refusals::Rule;
 use crate::states::{
-    RoomState, create_event, is_banned, is_invited_or_joined, is_joined, join_rule_in, levels_in,
+    RoomState, create_event, is_banned, is_invited_or_joined, is_joined, is_knocking, join_rule_in,
+    levels_in,
 };
+use crate::versions::RoomVersion;
 use mx_pdu::Pdu;
 
 /// Judges a member event.
 #[tactic(auto, unfolding(crate::specs::Rules::member_lines))]
-pub(crate) fn judge_member<S: RoomState>(event: &Pdu, state: &S) -> Result<(), Rule>
-    ensures { result_err result ≡ first_line (member_lines event.now (S.state state.now)) }
+pub(crate) fn judge_member<S: RoomState>(
+    version: RoomVersion,
+    event: &Pdu,
+    state: &S,
+) -> Result<(), Rule>
+    ensures { result_err result ≡ first_line (member_lines version event.now (S.state state.now)) }
 {
     if event.state_key().is_none() {
         return Err(Rule::MemberIncomplete);
     }
     match membership_of(event) {
-        Some("join") => judge_join(event, state),
+        Some("join") => judge_join(version, event, state),
         Some("invite") => judge_invite(event, state),
-        Some("leave") => judge_leave(event, state),
+        Some("leave") => judge_leave(version, event, state),
         Some("ban") => judge_ban(event, state),
+        Some("knock") if version.has_knocks() => judge_knock(event, state),
         Some(_) => Err(Rule::MembershipUnknown),
         None => Err(Rule::MemberIncomplete),
     }
 }
 
 #[tactic(auto, unfolding(crate::specs::Rules::join_lines, crate::specs::Joins::join_lines_of))]
-fn judge_join<S: RoomState>(event: &Pdu, state: &S) -> Result<(), Rule>
-    ensures { result_err result ≡ first_line (join_lines event.now (S.state state.now)) }
+fn judge_join<S: RoomState>(version: RoomVersion, event: &Pdu, state: &S) -> Result<(), Rule>
+    ensures { result_err result ≡ first_line (join_lines version event.now (S.state state.now)) }
 {
     let follows_create_alone = all_are(state.create_id(), event.prev_events());
     judge_join_of(
+        version,
         event.sender().as_str(),
         target_of(event),
         follows_create_alone,
@@ -46,12 +54,13 @@ fn judge_join<S: RoomState>(event: &Pdu, state: &S) -> Result<(), Rule>
 /// Judges a join of a user by a sender, which follows the create event alone or does not.
 #[tactic(auto, unfolding(crate::specs::Joins::join_lines_of))]
 pub(crate) fn judge_join_of<S: RoomState>(
+    version: RoomVersion,
     sender: &str,
     user: &str,
     follows_create_alone: bool,
     state: &S,
 ) -> Result<(), Rule>
-    ensures { result_err result ≡ first_line (join_lines_of sender.now user.now follows_create_alone (S.state state.now)) }
+    ensures { result_err result ≡ first_line (join_lines_of version sender.now user.now follows_create_alone (S.state state.now)) }
 {
     if follows_create_alone && is_creator(create_event(state), user) {
         return Ok(());
@@ -63,10 +72,17 @@ pub(crate) fn judge_join_of<S: RoomState>(
         return Err(Rule::JoinOfBanned);
     }
     let rule = join_rule_in(state);
-    if rule == "public" || (rule == "invite" && is_invited_or_joined(state, user)) {
+    if rule == "public" || (opens_to_invited(version, rule) && is_invited_or_joined(state, user)) {
         return Ok(());
     }
     Err(Rule::JoinNotAllowed)
+}
+
+// Whether those who are invited or joined may join by this join rule.
+fn opens_to_invited(version: RoomVersion, rule: &str) -> bool
+    ensures { result ≡ opens_to_invited_by version rule.now }
+{
+    rule == "invite" || (version.has_knocks() && rule == "knock")
 }
 
 #[tactic(auto, unfolding(crate::specs::Rules::invite_lines))]
@@ -92,13 +108,13 @@ fn judge_invite<S: RoomState>(event: &Pdu, state: &S) -> Result<(), Rule>
 }
 
 #[tactic(auto, unfolding(crate::specs::Rules::leave_lines))]
-fn judge_leave<S: RoomState>(event: &Pdu, state: &S) -> Result<(), Rule>
-    ensures { result_err result ≡ first_line (leave_lines event.now (S.state state.now)) }
+fn judge_leave<S: RoomState>(version: RoomVersion, event: &Pdu, state: &S) -> Result<(), Rule>
+    ensures { result_err result ≡ first_line (leave_lines version event.now (S.state state.now)) }
 {
     let sender = event.sender().as_str();
     let target = target_of(event);
     if is_own(event) {
-        if is_invited_or_joined(state, target) {
+        if may_leave(version, state, target) {
             return Ok(());
         }
         return Err(Rule::LeaveNotInvitedOrJoined);
@@ -117,6 +133,13 @@ fn judge_leave<S: RoomState>(event: &Pdu, state: &S) -> Result<(), Rule>
     Err(Rule::KickLevelTooLow)
 }
 
+// Whether the user may leave.
+fn may_leave<S: RoomState>(version: RoomVersion, state: &S, user: &str) -> bool
+    ensures { result ≡ may_leave_in version (S.state state.now) user.now }
+{
+    is_invited_or_joined(state, user) || (version.has_knocks() && is_knocking(state, user))
+}
+
 #[tactic(auto, unfolding(crate::specs::Rules::ban_lines))]
 fn judge_ban<S: RoomState>(event: &Pdu, state: &S) -> Result<(), Rule>
     ensures { result_err result ≡ first_line (ban_lines event.now (S.state state.now)) }
@@ -131,4 +154,22 @@ fn judge_ban<S: RoomState>(event: &Pdu, state: &S) -> Result<(), Rule>
         return Ok(());
     }
     Err(Rule::BanLevelTooLow)
+}
+
+// Judges a knock, in a version of rooms that has them.
+#[tactic(auto, unfolding(crate::specs::Rules::knock_lines))]
+fn judge_knock<S: RoomState>(event: &Pdu, state: &S) -> Result<(), Rule>
+    ensures { result_err result ≡ first_line (knock_lines event.now (S.state state.now)) }
+{
+    let target = target_of(event);
+    if join_rule_in(state) != "knock" {
+        return Err(Rule::KnockNotAllowed);
+    }
+    if !is_own(event) {
+        return Err(Rule::KnockForAnother);
+    }
+    if is_banned(state, target) || is_invited_or_joined(state, target) {
+        return Err(Rule::KnockOfBannedOrInvitedOrJoined);
+    }
+    Ok(())
 }

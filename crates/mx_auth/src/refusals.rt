@@ -7,7 +7,7 @@ use std::fmt;
 
 /// The line of the authorization rules that rejects an event. Its [`label`](Rule::label) is that line's.
 ///
-/// Source: the Matrix specification, Room Version 6, "Authorization rules".
+/// Source: the Matrix specification, Room Version 6 and Room Version 7, "Authorization rules".
 #[derive(Clone, Copy, Debug, PartialEq, Eq)]
 pub enum Rule {
     // Of `m.room.create`.
@@ -15,7 +15,7 @@ pub enum Rule {
     CreateHasPrevEvents,
     // A1.2: The server of its room id is not its sender's.
     CreateOfAnotherServer,
-    // A1.3: Its `room_version` is not `"6"`.
+    // A1.3: Its `room_version` is neither `"6"` nor `"7"`.
     CreateVersionUnknown,
     // A1.4: It has no text `creator`.
     CreateWithoutCreator,
@@ -53,7 +53,7 @@ pub enum Rule {
     // A4.3.5: The sender's level is below `invite`.
     InviteLevelTooLow,
     // Of a leave, for oneself or for another.
-    // A4.4.1: The user is neither invited nor joined.
+    // A4.4.1: The user is neither invited nor joined, nor knocking in version 7.
     LeaveNotInvitedOrJoined,
     // A4.4.2: The sender is not joined.
     KickerNotJoined,
@@ -66,8 +66,15 @@ pub enum Rule {
     BannerNotJoined,
     // A4.5.3: The sender's level is below `ban`, or not above the target's.
     BanLevelTooLow,
+    // Of a knock, in version 7.
+    // A4.7.1: The join rule is not `knock`.
+    KnockNotAllowed,
+    // A4.7.2: The sender is not who knocks.
+    KnockForAnother,
+    // A4.7.4: The user is banned, invited or joined.
+    KnockOfBannedOrInvitedOrJoined,
     // Of another membership.
-    // A4.6: It is none of join, invite, leave and ban.
+    // A4.6: It is none of join, invite, leave and ban, nor knock in version 7.
     MembershipUnknown,
     // On every event but a create event or a member event.
     // A5: The sender is not joined.
@@ -123,6 +130,9 @@ impl Rule {
             Rule::KickLevelTooLow => "A4.4.5",
             Rule::BannerNotJoined => "A4.5.1",
             Rule::BanLevelTooLow => "A4.5.3",
+            Rule::KnockNotAllowed => "A4.7.1",
+            Rule::KnockForAnother => "A4.7.2",
+            Rule::KnockOfBannedOrInvitedOrJoined => "A4.7.4",
             Rule::MembershipUnknown => "A4.6",
             Rule::SenderNotJoined => "A5",
             Rule::ThirdPartyInviteLevelTooLow => "A6",

@@ -1,11 +1,12 @@
 // The keys of a state that an event's auth events are selected from.
-ghost use Rattle.std.specs.Prelude.{◌≡◌, ◌&&◌, not, ◌||◌, codes};
+ghost use Rattle.std.specs.Prelude.{◌≡◌, ◌&&◌, not};
 ghost use Rattle.std.specs.List.{list_any};
-ghost use Rattle.mx_pdu.specs.Event.{is_state, has_membership};
-ghost use Rattle.mx_auth.specs.Rules.{needed_keys as needed_keys_of, same_key, is_own as is_own_event};
+ghost use Rattle.mx_pdu.specs.Event.{is_state};
+ghost use Rattle.mx_auth.specs.Rules.{needed_keys as needed_keys_of, needs_join_rules as needs_join_rules_of, same_key, is_own as is_own_event};
 ghost use Rattle.mx_auth.specs.Keys.{key_shown};
 
 use crate::events::{is_own, membership_of, target_of};
+use crate::versions::RoomVersion;
 use mx_pdu::Pdu;
 use mx_redact::is_text;
 use std::marker::Model;
@@ -90,12 +91,12 @@ fn is_key_among(kind: &str, state_key: &str, keys: &[StateKey<'_>]) -> bool
         .any(|key| kind == key.kind && state_key == key.state_key)
 }
 
-/// The keys of the state before an event that its auth events are selected from: none for a create event. It takes no
-/// memory.
+/// The keys of the state before an event that its auth events are selected from, in a room of this version: none for a
+/// create event. It takes no memory.
 ///
-/// Source: the Matrix specification, Server-Server API, "Auth events selection".
-pub fn needed_keys(event: &Pdu) -> NeededKeys<'_>
-    ensures { result ≡ needed_keys_of event.now }
+/// Source: the Matrix specification, Server-Server API, "Auth events selection", and Room Version 7.
+pub fn needed_keys(version: RoomVersion, event: &Pdu) -> NeededKeys<'_>
+    ensures { result ≡ needed_keys_of version event.now }
 {
     let is_later = event.kind() != "m.room.create";
     let is_member = event.kind() == "m.room.member";
@@ -109,7 +110,7 @@ pub fn needed_keys(event: &Pdu) -> NeededKeys<'_>
         target_of(event),
     );
     keys.push_if(
-        is_member && needs_join_rules(event),
+        is_member && needs_join_rules(version, event),
         "m.room.join_rules",
         "",
     );
@@ -124,9 +125,11 @@ fn needs_target(event: &Pdu) -> bool
 }
 
 // Whether a member event is judged by the join rules.
-fn needs_join_rules(event: &Pdu) -> bool
-    ensures { result ≡ (has_membership (codes "join") event.now || has_membership (codes "invite") event.now) }
+fn needs_join_rules(version: RoomVersion, event: &Pdu) -> bool
+    ensures { result ≡ needs_join_rules_of version event.now }
 {
     let membership = membership_of(event);
-    is_text(membership, "join") || is_text(membership, "invite")
+    is_text(membership, "join")
+        || is_text(membership, "invite")
+        || (is_text(membership, "knock") && version.has_knocks())
 }

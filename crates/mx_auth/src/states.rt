@@ -1,7 +1,7 @@
 // A room's state, as the rules look at it.
 ghost use Rattle.std.specs.Prelude.{◌≡◌};
 ghost use Rattle.std.specs.Option.{option_copied};
-ghost use Rattle.mx_auth.specs.StateView.{StateView, create_of, power_of, membership_in as membership, is_joined as is_joined_in, is_invited_or_joined as is_invited_or_joined_in, is_banned as is_banned_in, join_rule_in as join_rule};
+ghost use Rattle.mx_auth.specs.StateView.{StateView, create_of, power_of, membership_in as membership, is_joined as is_joined_in, is_invited_or_joined as is_invited_or_joined_in, is_knocking as is_knocking_in, is_banned as is_banned_in, join_rule_in as join_rule};
 
 use crate::contents::content_text;
 use crate::events::membership_of;
@@ -12,7 +12,7 @@ use mx_redact::is_text;
 
 /// A room's state: the event at each type and state key.
 ///
-/// Source: the Matrix specification, Room Version 6, "Authorization rules", which judge an event on a state.
+/// Source: the Matrix specification, Room Version 6 and Room Version 7, "Authorization rules", which judge an event on a state.
 pub trait RoomState {
     ghost state: { Self → StateView };
 
@@ -70,6 +70,13 @@ pub(crate) fn is_invited_or_joined<S: RoomState>(state: &S, user: &str) -> bool
 {
     let membership = membership_in(state, user);
     is_text(membership, "invite") || is_text(membership, "join")
+}
+
+#[tactic(auto, unfolding(crate::specs::StateView::is_knocking))]
+pub(crate) fn is_knocking<S: RoomState>(state: &S, user: &str) -> bool
+    ensures { result ≡ is_knocking_in (S.state state.now) user.now }
+{
+    is_text(membership_in(state, user), "knock")
 }
 
 #[tactic(auto, unfolding(crate::specs::StateView::is_banned))]

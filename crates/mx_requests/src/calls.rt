@@ -18,9 +18,10 @@ use crate::targets::route_parameters::{
 use crate::targets::routes::Route;
 use crate::targets::segments::{event_at, room_at, txn_at, user_at};
 use crate::targets::{path_of, query_of};
+use mx_auth::membership_of;
 use mx_ident::{EventId, RoomId, ServerName};
 use mx_pdu::{Offered, Pdu, Verifier};
-use mx_redact::{is_text, text_field};
+use mx_redact::is_text;
 use mx_room::{EventIdList, Query};
 use std::alloc::Global;
 
@@ -290,5 +291,5 @@ fn is_own_join(event: &Pdu) -> bool
 {
     event.kind() == "m.room.member"
         && is_text(event.state_key(), event.sender().as_str())
-        && is_text(text_field(event.content(), "membership"), "join")
+        && is_text(membership_of(event), "join")
 }

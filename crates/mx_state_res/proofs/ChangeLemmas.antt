@@ -7,6 +7,7 @@ use Rattle.std.specs.Ordering.{is_eq}
 use Rattle.std.specs.FinMap.Entries.{find}
 use Rattle.mx_redact.specs.Fields.{is_some_and}
 use Rattle.mx_auth.specs.Rules.{Key}
+use Rattle.mx_auth.specs.declared.versions.RoomVersion.{RoomVersion}
 use Rattle.mx_graph.specs.Record.{Row, is_in, events_where}
 use Rattle.mx_graph.proofs.Members.{In, in_filter-parts}
 use Rattle.mx_orders.specs.StateMap.{State, key_cmp, entry}
@@ -96,10 +97,10 @@ restored-edit keys s puts g h =
 
 module _ (keys s : State) (ss : List State) (ordered : Sorted keys) (sorted : (t : State) → In t (s ∷ ss) → Sorted t) (differing : IsDiffering keys (s ∷ ss)) where
   -- what is put over the first state, without the keys in conflict, makes the resolution
-  pub resolved-by : (rows : List Row) (full : List ℕ) (puts : State) → Sorted puts → full ≡ full_conflicted rows (s ∷ ss) → edited keys s puts ≡ checked rows (without keys s) full → edited keys s (restored keys s puts) ≡ resolve rows (s ∷ ss)
-  resolved-by rows full puts h f c =
+  pub resolved-by : (v : RoomVersion) (rows : List Row) (full : List ℕ) (puts : State) → Sorted puts → full ≡ full_conflicted rows (s ∷ ss) → edited keys s puts ≡ checked v rows (without keys s) full → edited keys s (restored keys s puts) ≡ resolve v rows (s ∷ ss)
+  resolved-by v rows full puts h f c =
       sym (restored-edit keys s puts (sorted s (inl refl)) h)
-      ∙ resolve-is rows (s ∷ ss) (without keys s) full (edited keys s puts) (overwritten (edited keys s puts) (without keys s)) (unconflicted-is keys s ss ordered sorted differing) f c refl
+      ∙ resolve-is v rows (s ∷ ss) (without keys s) full (edited keys s puts) (overwritten (edited keys s puts) (without keys s)) (unconflicted-is keys s ss ordered sorted differing) f c refl
 
   -- without those keys the states are alike
   pub alike-without : (t : State) → In t (s ∷ ss) → without keys t ≡ without keys s
@@ -112,9 +113,9 @@ module _ (keys s : State) (ss : List State) (ordered : Sorted keys) (sorted : (t
       by k (Some x) e = ap (λ o. cond (is_none o) (entry t k) None) e ∙ ap (λ o. cond (is_none o) (entry s k) None) (sym e)
 
   -- without such keys they are all the same
-  pub nothing-differs : (rows : List Row) → keys ≡ [] → s ≡ resolve rows (s ∷ ss)
-  nothing-differs rows e =
-      sym (resolve-same rows s (sorted s (inl refl)) ss
+  pub nothing-differs : (v : RoomVersion) (rows : List Row) → keys ≡ [] → s ≡ resolve v rows (s ∷ ss)
+  nothing-differs v rows e =
+      sym (resolve-same v rows s (sorted s (inl refl)) ss
       (all-of (λ t. t ≡ s) ss
       (λ t m. same-states t s (sorted t (inr m)) (sorted s (inl refl)) (λ k. alike keys s ss ordered sorted differing k (ap (λ u. entry u k) e) t (inr m)))))
 
@@ -127,18 +128,18 @@ module _ (at : ℕ → State) (keys : State) (base : ℕ) (others numbers : List
   differing-all : IsDiffering keys (at base ∷ map at others)
   differing-all = subst (λ ns. IsDiffering keys (map at ns)) first_is differing
 
-  pub resolved-at : (rows : List Row) (full : List ℕ) (puts : State) → Sorted puts → full ≡ full_conflicted rows (map at numbers) → edited keys (at base) puts ≡ checked rows (without keys (at base)) full → edited keys (at base) (restored keys (at base) puts) ≡ resolve rows (map at numbers)
-  resolved-at rows full puts h f c =
-      resolved-by keys (at base) (map at others) ordered sorted-all differing-all rows full puts h (f ∙ ap (λ ns. full_conflicted rows (map at ns)) first_is) c
-      ∙ ap (λ ns. resolve rows (map at ns)) (sym first_is)
+  pub resolved-at : (v : RoomVersion) (rows : List Row) (full : List ℕ) (puts : State) → Sorted puts → full ≡ full_conflicted rows (map at numbers) → edited keys (at base) puts ≡ checked v rows (without keys (at base)) full → edited keys (at base) (restored keys (at base) puts) ≡ resolve v rows (map at numbers)
+  resolved-at v rows full puts h f c =
+      resolved-by keys (at base) (map at others) ordered sorted-all differing-all v rows full puts h (f ∙ ap (λ ns. full_conflicted rows (map at ns)) first_is) c
+      ∙ ap (λ ns. resolve v rows (map at ns)) (sym first_is)
 
   pub alike-at : All (λ n. without keys (at n) ≡ without keys (at base)) numbers
   alike-at =
       subst (All (λ n. without keys (at n) ≡ without keys (at base))) (sym first_is)
       (all-of (λ n. without keys (at n) ≡ without keys (at base)) (base ∷ others) (λ n m. alike-without keys (at base) (map at others) ordered sorted-all differing-all (at n) (in_map at n (base ∷ others) m)))
 
-  pub nothing-at : (rows : List Row) → keys ≡ [] → at base ≡ resolve rows (map at numbers)
-  nothing-at rows e = nothing-differs keys (at base) (map at others) ordered sorted-all differing-all rows e ∙ ap (λ ns. resolve rows (map at ns)) (sym first_is)
+  pub nothing-at : (v : RoomVersion) (rows : List Row) → keys ≡ [] → at base ≡ resolve v rows (map at numbers)
+  nothing-at v rows e = nothing-differs keys (at base) (map at others) ordered sorted-all differing-all v rows e ∙ ap (λ ns. resolve v rows (map at ns)) (sym first_is)
 
 -- ---- events of the record
 
@@ -158,9 +159,9 @@ full-none rows =
     ap₂ (λ xs ys. events_where rows (λ p. is_in xs p || is_in ys p)) (no_events rows (is_in []) (λ p. refl)) (no_events rows (λ p. false) (λ p. refl))
     ∙ no_events rows (λ p. is_in [] p || is_in [] p) (λ p. refl)
 
-pub resolve-none : (rows : List Row) → resolve rows [] ≡ []
+pub resolve-none : (v : RoomVersion) (rows : List Row) → resolve v rows [] ≡ []
 unfolding resolve power_events power_order mainline_order unconflicted
-resolve-none rows = ap (λ full. overwritten (checked rows [] full) []) (full-none rows)
+resolve-none v rows = ap (λ full. overwritten (checked v rows [] full) []) (full-none rows)
 
 -- ---- the fewest changes
 

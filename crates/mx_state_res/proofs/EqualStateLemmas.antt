@@ -5,6 +5,7 @@ use Rattle.std.specs.declared.cmp.Ordering.TheVariants.{Greater}
 use Rattle.std.specs.FinMap.Entries.{find, put, below_all}
 use Rattle.mx_redact.specs.Fields.{is_some_and}
 use Rattle.mx_auth.specs.Rules.{Key}
+use Rattle.mx_auth.specs.declared.versions.RoomVersion.{RoomVersion}
 use Rattle.mx_graph.specs.Record.{Row, is_in, places, events_where}
 use Rattle.mx_graph.specs.Graph.{auth_chain}
 use Rattle.mx_graph.proofs.Members.{In}
@@ -94,7 +95,7 @@ module _ {A : Type 0} (s : A) where
 pub no_events : (rows : List Row) (test : ℕ → Bool) → ((p : ℕ) → test p ≡ false) → events_where rows test ≡ []
 no_events rows test h = filter-none test (places rows) (λ p m. h p)
 
-module _ (rows : List Row) (s : State) (sorted : Sorted s) (others : List State) (same : All (λ t. t ≡ s) others) where
+module _ (v : RoomVersion) (rows : List Row) (s : State) (sorted : Sorted s) (others : List State) (same : All (λ t. t ≡ s) others) where
   has-own : (e : Key × ℕ) → In e s → has_entry e s ≡ true
   has-own e m = ap (is_some_and (λ p. p == e.1)) (find-own s sorted e m) ∙ eq-eqb e.1 e.1 refl
 
@@ -143,9 +144,9 @@ module _ (rows : List Row) (s : State) (sorted : Sorted s) (others : List State)
   abbrev resolved_from : List ℕ → State → State
   resolved_from full agreed =
       let power = power_events rows full in
-      let partial = iterative_auth_checks rows agreed (power_order rows power) in
-      overwritten (iterative_auth_checks rows partial (mainline_order rows (mainline rows (entry partial power_key)) (filter (λ p. not (is_in power p)) full))) agreed
+      let partial = iterative_auth_checks v rows agreed (power_order rows power) in
+      overwritten (iterative_auth_checks v rows partial (mainline_order rows (mainline rows (entry partial power_key)) (filter (λ p. not (is_in power p)) full))) agreed
 
-  pub resolve-same : resolve rows (s ∷ others) ≡ s
+  pub resolve-same : resolve v rows (s ∷ others) ≡ s
   unfolding resolve power_events power_order mainline_order
   resolve-same = ap₂ resolved_from full_conflicted-same unconflicted-same ∙ overwritten-own s s sorted (λ e m. m)

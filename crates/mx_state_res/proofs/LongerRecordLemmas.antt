@@ -6,6 +6,7 @@ use Rattle.std.specs.List.{All, list_any, list_all}
 use Rattle.std.specs.FinMap.Entries.{put}
 use Rattle.mx_pdu.specs.Event.{is_state}
 use Rattle.mx_auth.specs.Rules.{Key, key_of, same_key, needed_keys, rules}
+use Rattle.mx_auth.specs.declared.versions.RoomVersion.{RoomVersion}
 use Rattle.mx_graph.specs.Record.{Row, row, event, is_in, events_where}
 use Rattle.mx_graph.specs.Graph.{IsSound, auth_chain}
 use Rattle.mx_graph.proofs.Closure.{is_in-to, or_cases, same_tests}
@@ -57,23 +58,23 @@ module _ (rows : List Row) where
   with-known s None p known h = known
   with-known s (Some key) p known h = put-known key_cmp (λ q. q < length rows) key p s h known
 
-  after_check-known : (s : State) (p : ℕ) → IsKnown s → p < length rows → IsKnown (after_check rows s p)
+  after_check-known : (v : RoomVersion) (s : State) (p : ℕ) → IsKnown s → p < length rows → IsKnown (after_check v rows s p)
   unfolding after_check
-  after_check-known s p known h = by (is_state (event rows p) && is_allowed rows s (event rows p))
+  after_check-known v s p known h = by (is_state (event rows p) && is_allowed v rows s (event rows p))
     where
       by : (b : Bool) → IsKnown (if b then with_event s (event rows p) p else s)
       by true = with-known s (key_of (event rows p)) p known h
       by false = known
 
-  checks-known : (s : State) (events : List ℕ) → IsKnown s → AreEvents rows events → IsKnown (iterative_auth_checks rows s events)
-  checks-known s [] known h = known
-  checks-known s (p ∷ ps) known h = checks-known (after_check rows s p) ps (after_check-known s p known (h p (inl refl))) (λ q m. h q (inr m))
+  checks-known : (v : RoomVersion) (s : State) (events : List ℕ) → IsKnown s → AreEvents rows events → IsKnown (iterative_auth_checks v rows s events)
+  checks-known v s [] known h = known
+  checks-known v s (p ∷ ps) known h = checks-known v (after_check v rows s p) ps (after_check-known v s p known (h p (inl refl))) (λ q m. h q (inr m))
 
-  pub resolve-known : (states : List State) → AreKnown rows states → IsKnown (resolve rows states)
+  pub resolve-known : (v : RoomVersion) (states : List State) → AreKnown rows states → IsKnown (resolve v rows states)
   unfolding resolve
-  resolve-known states known =
-      overwritten-known (length rows) (iterative_auth_checks rows partial rest) agreed
-      (checks-known partial rest partial-known (mainline_order-events rows (mainline rows (entry partial power_key)) others others-are))
+  resolve-known v states known =
+      overwritten-known (length rows) (iterative_auth_checks v rows partial rest) agreed
+      (checks-known v partial rest partial-known (mainline_order-events rows (mainline rows (entry partial power_key)) others others-are))
       (λ e m. all-at (λ e. e.1 < length rows) agreed (unconflicted-known states known) e m)
     where
       agreed : State
@@ -89,7 +90,7 @@ module _ (rows : List Row) where
       others = filter (λ p. not (is_in power p)) full
 
       partial : State
-      partial = iterative_auth_checks rows agreed (power_order rows power)
+      partial = iterative_auth_checks v rows agreed (power_order rows power)
 
       rest : List ℕ
       rest = mainline_order rows (mainline rows (entry partial power_key)) others
@@ -98,7 +99,7 @@ module _ (rows : List Row) where
       others-are p m = full-events states p (in_filter-parts (λ p. not (is_in power p)) p full m).0
 
       partial-known : IsKnown partial
-      partial-known = checks-known agreed (power_order rows power) (unconflicted-known states known) (power_order-events rows power (power_events-events full (full-events states)))
+      partial-known = checks-known v agreed (power_order rows power) (unconflicted-known states known) (power_order-events rows power (power_events-events full (full-events states)))
 
 -- ---- in a longer record
 
@@ -112,16 +113,16 @@ module _ (rows longer : List Row) (l : IsLonger rows longer) where
   unless_rejected-longer None h = refl
   unless_rejected-longer (Some q) h = ap (λ (r : Row). if r.rejected then None else Some q) (l.same q h)
 
-  usable-longer : (p : ℕ) (key : Key) → p < length rows → usable_auth_event longer (event longer p) key ≡ usable_auth_event rows (event rows p) key
-  usable-longer p key h = λ i. if list_any (same_key key) (needed_keys (event-longer rows longer l p h i)) then found i else None
+  usable-longer : (v : RoomVersion) (p : ℕ) (key : Key) → p < length rows → usable_auth_event v longer (event longer p) key ≡ usable_auth_event v rows (event rows p) key
+  usable-longer v p key h = λ i. if list_any (same_key key) (needed_keys v (event-longer rows longer l p h i)) then found i else None
     where
       found : option_and_then (unless_rejected longer) (auth_event_at longer (event longer p) key) ≡ option_and_then (unless_rejected rows) (auth_event_at rows (event rows p) key)
       found =
           ap (option_and_then (unless_rejected longer)) (auth_event_at-longer rows longer l p key h)
           ∙ unless_rejected-longer (auth_event_at rows (event rows p) key) (auth_event_at-known rows longer l p key)
 
-  usable-known : (p : ℕ) (key : Key) → IsEvent rows (usable_auth_event rows (event rows p) key)
-  usable-known p key = by (list_any (same_key key) (needed_keys (event rows p))) (auth_event_at rows (event rows p) key) (auth_event_at-known rows longer l p key)
+  usable-known : (v : RoomVersion) (p : ℕ) (key : Key) → IsEvent rows (usable_auth_event v rows (event rows p) key)
+  usable-known v p key = by (list_any (same_key key) (needed_keys v (event rows p))) (auth_event_at rows (event rows p) key) (auth_event_at-known rows longer l p key)
     where
       kept : (b : Bool) (q : ℕ) → q < length rows → IsEvent rows (if b then None else Some q)
       kept true q h = tt
@@ -136,25 +137,25 @@ module _ (rows longer : List Row) (l : IsLonger rows longer) where
   either-known None b h k = k
   either-known (Some p) b h k = h
 
-  judged_in-longer : (s : State) (p : ℕ) → IsKnown rows s → p < length rows → judged_in longer s (event longer p) ≡ judged_in rows s (event rows p)
-  judged_in-longer s p known h =
-      ap (view_by longer) (λ i key. option_or (entry s key) (usable-longer p key h i))
-      ∙ view_by-longer rows longer l (λ key. option_or (entry s key) (usable_auth_event rows (event rows p) key))
-      (λ key. either-known (entry s key) (usable_auth_event rows (event rows p) key) (find-known key_cmp (λ q. q < length rows) key s known) (usable-known p key))
+  judged_in-longer : (v : RoomVersion) (s : State) (p : ℕ) → IsKnown rows s → p < length rows → judged_in v longer s (event longer p) ≡ judged_in v rows s (event rows p)
+  judged_in-longer v s p known h =
+      ap (view_by longer) (λ i key. option_or (entry s key) (usable-longer v p key h i))
+      ∙ view_by-longer rows longer l (λ key. option_or (entry s key) (usable_auth_event v rows (event rows p) key))
+      (λ key. either-known (entry s key) (usable_auth_event v rows (event rows p) key) (find-known key_cmp (λ q. q < length rows) key s known) (usable-known v p key))
 
   -- ---- iterative auth checks
 
-  after_check-longer : (s : State) (p : ℕ) → IsKnown rows s → p < length rows → after_check longer s p ≡ after_check rows s p
+  after_check-longer : (v : RoomVersion) (s : State) (p : ℕ) → IsKnown rows s → p < length rows → after_check v longer s p ≡ after_check v rows s p
   unfolding after_check is_allowed
-  after_check-longer s p known h = λ i.
-      if is_state (event-longer rows longer l p h i) && is_none (rules (event-longer rows longer l p h i) (judged_in-longer s p known h i))
+  after_check-longer v s p known h = λ i.
+      if is_state (event-longer rows longer l p h i) && is_none (rules v (event-longer rows longer l p h i) (judged_in-longer v s p known h i))
       then with_event s (event-longer rows longer l p h i) p else s
 
-  checks-longer : (s : State) (events : List ℕ) → IsKnown rows s → AreEvents rows events → iterative_auth_checks longer s events ≡ iterative_auth_checks rows s events
-  checks-longer s [] known h = refl
-  checks-longer s (p ∷ ps) known h =
-      ap (λ t. iterative_auth_checks longer t ps) (after_check-longer s p known (h p (inl refl)))
-      ∙ checks-longer (after_check rows s p) ps (after_check-known rows s p known (h p (inl refl))) (λ q m. h q (inr m))
+  checks-longer : (v : RoomVersion) (s : State) (events : List ℕ) → IsKnown rows s → AreEvents rows events → iterative_auth_checks v longer s events ≡ iterative_auth_checks v rows s events
+  checks-longer v s [] known h = refl
+  checks-longer v s (p ∷ ps) known h =
+      ap (λ t. iterative_auth_checks v longer t ps) (after_check-longer v s p known (h p (inl refl)))
+      ∙ checks-longer v (after_check v rows s p) ps (after_check-known rows v s p known (h p (inl refl))) (λ q m. h q (inr m))
 
   -- ---- the full conflicted set
 
@@ -224,7 +225,7 @@ module _ (rows longer : List Row) (l : IsLonger rows longer) where
 
   -- ---- the resolution
 
-  module _ (states : List State) (known : AreKnown rows states) where
+  module _ (v : RoomVersion) (states : List State) (known : AreKnown rows states) where
     abbrev agreed : State
     agreed = unconflicted states
 
@@ -241,7 +242,7 @@ module _ (rows longer : List Row) (l : IsLonger rows longer) where
     order = power_order longer power
 
     abbrev partial : State
-    partial = iterative_auth_checks longer agreed order
+    partial = iterative_auth_checks v longer agreed order
 
     abbrev line : List ℕ
     line = mainline longer (entry partial power_key)
@@ -264,11 +265,11 @@ module _ (rows longer : List Row) (l : IsLonger rows longer) where
     order-are : AreEvents rows order
     order-are = subst (AreEvents rows) (sym order-is) (power_order-events rows power power-are)
 
-    partial-is : partial ≡ iterative_auth_checks rows agreed order
-    partial-is = checks-longer agreed order (unconflicted-known rows states known) order-are
+    partial-is : partial ≡ iterative_auth_checks v rows agreed order
+    partial-is = checks-longer v agreed order (unconflicted-known rows states known) order-are
 
     partial-known : IsKnown rows partial
-    partial-known = subst (IsKnown rows) (sym partial-is) (checks-known rows agreed order (unconflicted-known rows states known) order-are)
+    partial-known = subst (IsKnown rows) (sym partial-is) (checks-known rows v agreed order (unconflicted-known rows states known) order-are)
 
     others-are : AreEvents rows others
     others-are p m = full-are p (in_filter-parts (λ p. not (is_in power p)) p full m).0
@@ -282,17 +283,17 @@ module _ (rows longer : List Row) (l : IsLonger rows longer) where
     rest-are : AreEvents rows rest
     rest-are = subst (AreEvents rows) (sym rest-is) (mainline_order-events rows line others others-are)
 
-    pub resolve-in_longer : resolve longer states ≡ resolve rows states
+    pub resolve-in_longer : resolve v longer states ≡ resolve v rows states
     unfolding resolve
     resolve-in_longer =
-        resolve-is rows states agreed full (iterative_auth_checks longer partial rest) (resolve longer states) refl (full-longer states known)
-        (checked-is rows agreed full power others order partial line rest (iterative_auth_checks longer partial rest) power-is refl order-is partial-is line-is rest-is (checks-longer partial rest partial-known rest-are)) refl
+        resolve-is v rows states agreed full (iterative_auth_checks v longer partial rest) (resolve v longer states) refl (full-longer states known)
+        (checked-is v rows agreed full power others order partial line rest (iterative_auth_checks v longer partial rest) power-is refl order-is partial-is line-is rest-is (checks-longer v partial rest partial-known rest-are)) refl
 
 -- a row that is added behind changes nothing
-pub resolve-longer : (rows : List Row) (r : Row) (states : List State) → IsSound rows → IsSound (rows ++ r ∷ []) → AreKnown rows states
-    → resolve (rows ++ r ∷ []) states ≡ resolve rows states
-resolve-longer rows r states sound after known = resolve-in_longer rows (rows ++ r ∷ []) (longer-push rows r sound after) states known
+pub resolve-longer : (v : RoomVersion) (rows : List Row) (r : Row) (states : List State) → IsSound rows → IsSound (rows ++ r ∷ []) → AreKnown rows states
+    → resolve v (rows ++ r ∷ []) states ≡ resolve v rows states
+resolve-longer v rows r states sound after known = resolve-in_longer rows (rows ++ r ∷ []) (longer-push rows r sound after) v states known
 
 -- nor do several rows
-pub resolve-prefix : (rows more : List Row) (states : List State) → IsSound (rows ++ more) → AreKnown rows states → resolve (rows ++ more) states ≡ resolve rows states
-resolve-prefix rows more states sound known = resolve-in_longer rows (rows ++ more) (longer-prefix rows more sound) states known
+pub resolve-prefix : (v : RoomVersion) (rows more : List Row) (states : List State) → IsSound (rows ++ more) → AreKnown rows states → resolve v (rows ++ more) states ≡ resolve v rows states
+resolve-prefix v rows more states sound known = resolve-in_longer rows (rows ++ more) (longer-prefix rows more sound) v states known

@@ -5,6 +5,7 @@ use Rattle.serde_json.specs.Data.{Data}
 use Rattle.mx_redact.specs.Fields.{Event}
 use Rattle.mx_auth.specs.Rules.{Key}
 use Rattle.mx_auth.proofs.RoomBase.{event, keyed, text, fields, no_fields, membership, users, e1, e2, e3, e4, e5, e6}
+use Rattle.mx_auth.specs.declared.versions.RoomVersion.TheVariants.{V6}
 use Rattle.mx_graph.specs.Record.{Row}
 use Rattle.mx_orders.specs.StateMap.{State}
 use Rattle.mx_orders.specs.PowerOrder.{power_order}
@@ -76,24 +77,24 @@ newer_rules-full : full_conflicted newer_rules (state 5 (Some 4) None 2 None ∷
 unfolding resolution_on_examples
 newer_rules-full = refl
 
-newer_rules-resolved : resolve newer_rules (state 5 (Some 4) None 2 None ∷ state 5 None None 2 None ∷ []) ≡ state 5 (Some 4) None 2 None
+newer_rules-resolved : resolve V6 newer_rules (state 5 (Some 4) None 2 None ∷ state 5 None None 2 None ∷ []) ≡ state 5 (Some 4) None 2 None
 unfolding resolution_on_examples
 newer_rules-resolved = refl
 
 -- ---- the checks begin at what is unconflicted: power levels $8 with B at 0 in both states, topic $9 by B in one
 
-lowered-resolved : resolve (base ++ topic 9 "@b:b.example" (1 ∷ 3 ∷ 5 ∷ []) ∷ power_levels 8 (1 ∷ 2 ∷ 3 ∷ []) 0 ∷ []) (state 3 (Some 4) None 7 (Some 6) ∷ state 3 (Some 4) None 7 None ∷ []) ≡ state 3 (Some 4) None 7 None
+lowered-resolved : resolve V6 (base ++ topic 9 "@b:b.example" (1 ∷ 3 ∷ 5 ∷ []) ∷ power_levels 8 (1 ∷ 2 ∷ 3 ∷ []) 0 ∷ []) (state 3 (Some 4) None 7 (Some 6) ∷ state 3 (Some 4) None 7 None ∷ []) ≡ state 3 (Some 4) None 7 None
 unfolding resolution_on_examples
 lowered-resolved = refl
 
 -- ---- a needed key that the state lacks is taken from the auth events: no state has B's join, each has an event by B
 
-by_b-resolved : resolve (base ++ topic 7 "@b:b.example" (1 ∷ 3 ∷ 5 ∷ []) ∷ by_number 8 "m.room.name" "" "@b:b.example" (1 ∷ 3 ∷ 5 ∷ []) no_fields ∷ []) (state 3 None None 2 (Some 6) ∷ state 3 None (Some 7) 2 None ∷ []) ≡ state 3 None (Some 7) 2 (Some 6)
+by_b-resolved : resolve V6 (base ++ topic 7 "@b:b.example" (1 ∷ 3 ∷ 5 ∷ []) ∷ by_number 8 "m.room.name" "" "@b:b.example" (1 ∷ 3 ∷ 5 ∷ []) no_fields ∷ []) (state 3 None None 2 (Some 6) ∷ state 3 None (Some 7) 2 None ∷ []) ≡ state 3 None (Some 7) 2 (Some 6)
 unfolding resolution_on_examples
 by_b-resolved = refl
 
 -- but not from a rejected one
-without_b-checked : iterative_auth_checks (base ++ record (member 7 "@b:b.example" "@b:b.example" "join" (1 ∷ 3 ∷ 4 ∷ [])) { rejected = true } ∷ topic 8 "@b:b.example" (1 ∷ 3 ∷ 7 ∷ []) ∷ []) (state 3 None None 2 None) (7 ∷ []) ≡ state 3 None None 2 None
+without_b-checked : iterative_auth_checks V6 (base ++ record (member 7 "@b:b.example" "@b:b.example" "join" (1 ∷ 3 ∷ 4 ∷ [])) { rejected = true } ∷ topic 8 "@b:b.example" (1 ∷ 3 ∷ 7 ∷ []) ∷ []) (state 3 None None 2 None) (7 ∷ []) ≡ state 3 None None 2 None
 unfolding resolution_on_examples
 without_b-checked = refl
 
@@ -104,6 +105,6 @@ two_topics =
     base ++ a_row 7 (event 20 "m.room.topic" (keyed "") "@a:a.example" no_fields [] (map id (1 ∷ 2 ∷ 3 ∷ [])))
     ∷ power_levels 8 (1 ∷ 2 ∷ 3 ∷ []) 50 ∷ topic 9 "@a:a.example" (1 ∷ 2 ∷ 8 ∷ []) ∷ []
 
-two_topics-resolved : resolve two_topics (state 3 (Some 4) None 7 (Some 6) ∷ state 3 (Some 4) None 7 (Some 8) ∷ []) ≡ state 3 (Some 4) None 7 (Some 8)
+two_topics-resolved : resolve V6 two_topics (state 3 (Some 4) None 7 (Some 6) ∷ state 3 (Some 4) None 7 (Some 8) ∷ []) ≡ state 3 (Some 4) None 7 (Some 8)
 unfolding resolution_on_examples
 two_topics-resolved = refl

@@ -6,6 +6,7 @@ use Rattle.std.specs.Cmp.{IsTotalOrder}
 use Rattle.std.specs.Cmp.Lexicographic.{lists_total}
 use Rattle.std.specs.List.{All}
 use Rattle.std.specs.FinMap.Entries.{put, by_order}
+use Rattle.mx_auth.specs.declared.versions.RoomVersion.{RoomVersion}
 use Rattle.mx_graph.specs.Record.{Row, is_in}
 use Rattle.mx_graph.proofs.Members.{In, in_filter-parts}
 use Rattle.mx_auth.specs.Rules.{Key}
@@ -85,13 +86,13 @@ unconflicted-known n bs h = all-of (λ e. e.1 < n) (unconflicted (shown bs)) (ag
 
 -- ---- the steps of a resolution
 
-pub checked-is : (rows : List Row) (s : State) (full power others order : List ℕ) (partial : State) (line rest : List ℕ) (found : State) → power ≡ power_events rows full → others ≡ filter (λ p. not (is_in power p)) full → order ≡ power_order rows power → partial ≡ iterative_auth_checks rows s order → line ≡ mainline rows (entry partial power_key) → rest ≡ mainline_order rows line others → found ≡ iterative_auth_checks rows partial rest → found ≡ checked rows s full
-checked-is rows s full power others order partial line rest found p o d q l r k =
-    let q' = q ∙ ap (iterative_auth_checks rows s) (d ∙ ap (power_order rows) p) in
+pub checked-is : (v : RoomVersion) (rows : List Row) (s : State) (full power others order : List ℕ) (partial : State) (line rest : List ℕ) (found : State) → power ≡ power_events rows full → others ≡ filter (λ p. not (is_in power p)) full → order ≡ power_order rows power → partial ≡ iterative_auth_checks v rows s order → line ≡ mainline rows (entry partial power_key) → rest ≡ mainline_order rows line others → found ≡ iterative_auth_checks v rows partial rest → found ≡ checked v rows s full
+checked-is v rows s full power others order partial line rest found p o d q l r k =
+    let q' = q ∙ ap (iterative_auth_checks v rows s) (d ∙ ap (power_order rows) p) in
     let l' = l ∙ ap (λ s. mainline rows (entry s power_key)) q' in
     let r' = r ∙ ap₂ (mainline_order rows) l' (o ∙ ap (λ xs. filter (λ p. not (is_in xs p)) full) p) in
-    k ∙ ap₂ (iterative_auth_checks rows) q' r'
+    k ∙ ap₂ (iterative_auth_checks v rows) q' r'
 
-pub resolve-is : (rows : List Row) (states : List State) (agreed : State) (full : List ℕ) (found resolved : State) → agreed ≡ unconflicted states → full ≡ full_conflicted rows states → found ≡ checked rows agreed full → resolved ≡ overwritten found agreed → resolved ≡ resolve rows states
+pub resolve-is : (v : RoomVersion) (rows : List Row) (states : List State) (agreed : State) (full : List ℕ) (found resolved : State) → agreed ≡ unconflicted states → full ≡ full_conflicted rows states → found ≡ checked v rows agreed full → resolved ≡ overwritten found agreed → resolved ≡ resolve v rows states
 unfolding resolve
-resolve-is rows states agreed full found resolved a f c e = e ∙ ap₂ overwritten (c ∙ ap₂ (checked rows) a f) a
+resolve-is v rows states agreed full found resolved a f c e = e ∙ ap₂ overwritten (c ∙ ap₂ (checked v rows) a f) a

@@ -3,6 +3,7 @@
 use Rattle.std.specs.Prelude.{◌≡◌, refl, ℕ, List, [], ◌∷◌, codes, false, Some, None}
 use Rattle.mx_redact.specs.Fields.{Event}
 use Rattle.mx_auth.proofs.RoomBase.{event, keyed, fields, no_fields, users, e1, e2, e3, e4, e5, e6}
+use Rattle.mx_auth.specs.declared.versions.RoomVersion.TheVariants.{V6}
 use Rattle.mx_graph.specs.Record.{Row}
 use Rattle.mx_orders.specs.StateMap.{State}
 use Rattle.mx_orders.specs.PowerOrder.{power_order}
@@ -50,15 +51,15 @@ after_topic = ((codes "m.room.create", []), 0) ∷ ((codes "m.room.join_rules", 
 
 -- ---- trivial resolutions
 
-resolve-none : resolve base [] ≡ []
+resolve-none : resolve V6 base [] ≡ []
 unfolding resolution_on_examples
 resolve-none = refl
 
-resolve-one : resolve base (after_base ∷ []) ≡ after_base
+resolve-one : resolve V6 base (after_base ∷ []) ≡ after_base
 unfolding resolution_on_examples
 resolve-one = refl
 
-resolve-equal : resolve base (after_base ∷ after_base ∷ []) ≡ after_base
+resolve-equal : resolve V6 base (after_base ∷ after_base ∷ []) ≡ after_base
 unfolding resolution_on_examples
 resolve-equal = refl
 
@@ -68,7 +69,7 @@ difference-create : auth_difference base (after_create ∷ after_base ∷ []) �
 unfolding resolution_on_examples
 difference-create = refl
 
-resolve-create : resolve base (after_create ∷ after_base ∷ []) ≡ after_base
+resolve-create : resolve V6 base (after_create ∷ after_base ∷ []) ≡ after_base
 unfolding resolution_on_examples
 resolve-create = refl
 
@@ -90,7 +91,7 @@ rest-race : mainline_order race (mainline race (Some 7)) (4 ∷ 6 ∷ 8 ∷ []) 
 unfolding resolution_on_examples
 rest-race = refl
 
-resolve-race : resolve race (after_demotion ∷ after_topic ∷ []) ≡ after_demotion
+resolve-race : resolve V6 race (after_demotion ∷ after_topic ∷ []) ≡ after_demotion
 unfolding resolution_on_examples
 resolve-race = refl
 
@@ -116,6 +117,6 @@ order-topics : mainline_order topics (mainline topics None) (2 ∷ 3 ∷ []) ≡
 unfolding resolution_on_examples
 order-topics = refl
 
-resolve-topics : resolve topics (with_topic 2 ∷ with_topic 3 ∷ []) ≡ with_topic 2
+resolve-topics : resolve V6 topics (with_topic 2 ∷ with_topic 3 ∷ []) ≡ with_topic 2
 unfolding resolution_on_examples
 resolve-topics = refl

@@ -2,6 +2,7 @@
 use Rattle.std.proofs.Common.{◌≡◌, ℕ, Bool, true, not, ◌&&◌, ◌||◌, inl, inr, List, [], ◌∷◌, filter, flat_map, map, Option, Some, None, refl, sym, ap, ap₂, subst, ◌∙◌}
 use Rattle.std.specs.List.{All, list_any, list_all}
 use Rattle.mx_auth.specs.Rules.{Key}
+use Rattle.mx_auth.specs.declared.versions.RoomVersion.{RoomVersion}
 use Rattle.mx_graph.specs.Record.{Row, is_in, events_where}
 use Rattle.mx_graph.specs.Graph.{auth_chain}
 use Rattle.mx_graph.proofs.Members.{In, in_filter, in_filter-parts, in_flat_map, in_flat_map-from}
@@ -117,10 +118,10 @@ module _ (ss ts : List State) (sorted : (s : State) → In s ss → Sorted s) (t
   unfolding full_conflicted
   full-same rows = ap₂ (λ xs ys. events_where rows (λ p. is_in xs p || is_in ys p)) (conflicted-same rows) (auth_difference-same rows)
 
-  pub resolve-members : (rows : List Row) → resolve rows ss ≡ resolve rows ts
-  resolve-members rows =
-      resolve-is rows ts (unconflicted ss) (full_conflicted rows ss) (checked rows (unconflicted ss) (full_conflicted rows ss)) (resolve rows ss) unconflicted-same (full-same rows) refl
-      (sym (resolve-is rows ss (unconflicted ss) (full_conflicted rows ss) (checked rows (unconflicted ss) (full_conflicted rows ss)) (overwritten (checked rows (unconflicted ss) (full_conflicted rows ss)) (unconflicted ss)) refl refl refl refl))
+  pub resolve-members : (v : RoomVersion) (rows : List Row) → resolve v rows ss ≡ resolve v rows ts
+  resolve-members v rows =
+      resolve-is v rows ts (unconflicted ss) (full_conflicted rows ss) (checked v rows (unconflicted ss) (full_conflicted rows ss)) (resolve v rows ss) unconflicted-same (full-same rows) refl
+      (sym (resolve-is v rows ss (unconflicted ss) (full_conflicted rows ss) (checked v rows (unconflicted ss) (full_conflicted rows ss)) (overwritten (checked v rows (unconflicted ss) (full_conflicted rows ss)) (unconflicted ss)) refl refl refl refl))
 
 -- ---- by numbers
 
@@ -130,7 +131,7 @@ same-within xs ys h p m = is_in-to p ys (sym (h p) ∙ is_in-from p xs m)
 pub all-within : (P : ℕ → Type 0) (xs ys : List ℕ) → ((p : ℕ) → is_in xs p ≡ is_in ys p) → All P ys → All P xs
 all-within P xs ys h a = all-of P xs (λ x m. all-at P ys a x (same-within xs ys h x m))
 
-pub resolve-each : (rows : List Row) (at : ℕ → State) (each numbers : List ℕ) → ((p : ℕ) → is_in each p ≡ is_in numbers p) → All (λ n. Sorted (at n)) numbers → resolve rows (map at each) ≡ resolve rows (map at numbers)
-resolve-each rows at each numbers h sorted =
+pub resolve-each : (v : RoomVersion) (rows : List Row) (at : ℕ → State) (each numbers : List ℕ) → ((p : ℕ) → is_in each p ≡ is_in numbers p) → All (λ n. Sorted (at n)) numbers → resolve v rows (map at each) ≡ resolve v rows (map at numbers)
+resolve-each v rows at each numbers h sorted =
     let to : Within (map at each) (map at numbers) = within-map at each numbers (same-within each numbers h) in
-    resolve-members (map at each) (map at numbers) (λ s m. at-sorted at numbers sorted s (to s m)) to (within-map at numbers each (same-within numbers each (λ p. sym (h p)))) rows
+    resolve-members (map at each) (map at numbers) (λ s m. at-sorted at numbers sorted s (to s m)) to (within-map at numbers each (same-within numbers each (λ p. sym (h p)))) v rows

@@ -1,6 +1,7 @@
 -- Numbered states, for clauses: a state by its place.
 use Rattle.std.specs.Prelude.{◌≡◌, not, ℕ, ◌<◌, ◌+◌, ◌++◌, ◌&&◌, ◌||◌, ◌↔◌, List, [], ◌∷◌, All, filter, flat_map, Option, Some, None, is_some, is_none, length, slice_index_or}
 use Rattle.mx_auth.specs.Rules.{Key}
+use Rattle.mx_auth.specs.declared.versions.RoomVersion.{RoomVersion}
 use Rattle.mx_graph.specs.Record.{Row, is_in}
 use Rattle.mx_orders.specs.StateMap.{State, entry}
 use Rattle.mx_orders.specs.PowerOrder.{power_order}
@@ -42,12 +43,12 @@ abbrev pub shown_by : Edit → State
 shown_by e = edited e.1.0 e.0 e.1.1
 
 -- a state in which the events of a full conflicted set were checked
-abbrev pub checked : List Row → State → List ℕ → State
-checked rows s full =
+abbrev pub checked : RoomVersion → List Row → State → List ℕ → State
+checked v rows s full =
     let power = power_events rows full in
     let others = filter (λ p. not (is_in power p)) full in
-    let partial = iterative_auth_checks rows s (power_order rows power) in
-    iterative_auth_checks rows partial (mainline_order rows (mainline rows (entry partial power_key)) others)
+    let partial = iterative_auth_checks v rows s (power_order rows power) in
+    iterative_auth_checks v rows partial (mainline_order rows (mainline rows (entry partial power_key)) others)
 
 -- it has an entry at exactly those keys at which states are not all alike
 abbrev pub IsDiffering : State → List State → Type 0

@@ -7,6 +7,7 @@ use Rattle.mx_redact.specs.Fields.{Event, is_some_and, is_text}
 use Rattle.mx_pdu.specs.Event.{has_kind, has_membership, is_state, sender_of, state_key_of}
 use Rattle.mx_auth.specs.StateView.{StateView}
 use Rattle.mx_auth.specs.Rules.{Key, same_key, needed_keys, rules}
+use Rattle.mx_auth.specs.declared.versions.RoomVersion.{RoomVersion}
 use Rattle.mx_graph.specs.Record.{Row, row, event, events_where, is_in}
 use Rattle.mx_graph.specs.Graph.{auth_chain}
 use Rattle.mx_orders.specs.StateMap.{State, key_cmp, entry, events_of, with_event, view_by, auth_event_at}
@@ -58,24 +59,24 @@ full_conflicted rows states =
 -- ---- Iterative auth checks
 
 -- the event's auth event with a key that it needs, unless that one was rejected
-abbrev pub usable_auth_event : List Row → Event → Key → Option ℕ
-usable_auth_event rows e key =
-    if list_any (same_key key) (needed_keys e) then option_and_then (λ p. if (row rows p).rejected then None else Some p) (auth_event_at rows e key) else None
+abbrev pub usable_auth_event : RoomVersion → List Row → Event → Key → Option ℕ
+usable_auth_event v rows e key =
+    if list_any (same_key key) (needed_keys v e) then option_and_then (λ p. if (row rows p).rejected then None else Some p) (auth_event_at rows e key) else None
 
 -- the state in which an event is judged: what the state lacks is taken from the event's auth events
-abbrev pub judged_in : List Row → State → Event → StateView
-judged_in rows s e = view_by rows (λ key. option_or (entry s key) (usable_auth_event rows e key))
+abbrev pub judged_in : RoomVersion → List Row → State → Event → StateView
+judged_in v rows s e = view_by rows (λ key. option_or (entry s key) (usable_auth_event v rows e key))
 
--- the rules allow the event in that state
-unfoldable pub is_allowed : List Row → State → Event → Bool
-is_allowed rows s e = is_none (rules e (judged_in rows s e))
+-- the rules of the version allow the event in that state
+unfoldable pub is_allowed : RoomVersion → List Row → State → Event → Bool
+is_allowed v rows s e = is_none (rules v e (judged_in v rows s e))
 
-unfoldable pub after_check : List Row → State → ℕ → State
-after_check rows s p = if is_state (event rows p) && is_allowed rows s (event rows p) then with_event s (event rows p) p else s
+unfoldable pub after_check : RoomVersion → List Row → State → ℕ → State
+after_check v rows s p = if is_state (event rows p) && is_allowed v rows s (event rows p) then with_event s (event rows p) p else s
 
 -- the state with those of these events, in order, that are allowed
-abbrev pub iterative_auth_checks : List Row → State → List ℕ → State
-iterative_auth_checks rows s events = fold (after_check rows) s events
+abbrev pub iterative_auth_checks : RoomVersion → List Row → State → List ℕ → State
+iterative_auth_checks v rows s events = fold (after_check v rows) s events
 
 -- ---- Algorithm
 
@@ -90,12 +91,12 @@ power_events rows full =
 abbrev pub overwritten : State → State → State
 overwritten s others = fold (λ t e. put key_cmp e.0 e.1 t) s others
 
--- the resolved state of these states
-unfoldable pub resolve : List Row → List State → State
-resolve rows states =
+-- the resolved state of these states of a room of this version
+unfoldable pub resolve : RoomVersion → List Row → List State → State
+resolve v rows states =
     let full = full_conflicted rows states in
     let power = power_events rows full in
     let others = filter (λ p. not (is_in power p)) full in
-    let partial = iterative_auth_checks rows (unconflicted states) (power_order rows power) in
-    let checked = iterative_auth_checks rows partial (mainline_order rows (mainline rows (entry partial power_key)) others) in
+    let partial = iterative_auth_checks v rows (unconflicted states) (power_order rows power) in
+    let checked = iterative_auth_checks v rows partial (mainline_order rows (mainline rows (entry partial power_key)) others) in
     overwritten checked (unconflicted states)

@@ -4,15 +4,16 @@ ghost use Rattle.mx_orders.specs.StateMap.{State};
 ghost use Rattle.mx_state_res.specs.Resolution as definition;
 
 use crate::state_maps::StateMap;
+use mx_auth::RoomVersion;
 use mx_graph::Graph;
 
 /// A law: of equal states the resolution is that state, whatever events they have. It changes nothing: this is what it
 /// ensures.
 ///
 /// Source: the Matrix specification, Room Version 2, "State resolution".
-pub fn equal_states_resolve_to_themselves(graph: &Graph, state: &StateMap)
+pub fn equal_states_resolve_to_themselves(version: RoomVersion, graph: &Graph, state: &StateMap)
     ensures { (others : List State) → All (λ s. s ≡ state.now) others
-        → definition.resolve graph.now (state.now ∷ others) ≡ state.now }
+        → definition.resolve version graph.now (state.now ∷ others) ≡ state.now }
 {
     let _ = state.entries();
 }
@@ -20,8 +21,8 @@ pub fn equal_states_resolve_to_themselves(graph: &Graph, state: &StateMap)
 /// A law: of one state the resolution is that state. It changes nothing: this is what it ensures.
 ///
 /// Source: the Matrix specification, Room Version 2, "State resolution".
-pub fn one_state_resolves_to_itself(graph: &Graph, state: &StateMap)
-    ensures { definition.resolve graph.now (state.now ∷ []) ≡ state.now }
+pub fn one_state_resolves_to_itself(version: RoomVersion, graph: &Graph, state: &StateMap)
+    ensures { definition.resolve version graph.now (state.now ∷ []) ≡ state.now }
 {
-    equal_states_resolve_to_themselves(graph, state);
+    equal_states_resolve_to_themselves(version, graph, state);
 }

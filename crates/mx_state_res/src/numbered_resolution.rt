@@ -12,6 +12,7 @@ use crate::states::States;
 use crate::states::number_sets::each_once;
 use crate::states::state_changes::{StateChange, least_change, restored_puts};
 use crate::states::state_numbers::StateNo;
+use mx_auth::RoomVersion;
 use mx_graph::Graph;
 use std::alloc::{AllocError, Global};
 
@@ -25,6 +26,7 @@ use std::alloc::{AllocError, Global};
 ///
 /// Source: the Matrix specification, Room Version 2, "State resolution".
 pub fn resolve_numbered(
+    version: RoomVersion,
     alloc: Global,
     graph: &Graph,
     states: &mut States,
@@ -33,17 +35,18 @@ pub fn resolve_numbered(
     requires numbers { All (λ number. number < length states.old) numbers.now }
     requires known { AreKnown graph.now states.old }
     ensures resolved { IfOk result (λ number. state_at states.new number
-        ≡ definition.resolve graph.now (map (state_at states.old) numbers.now)) }
+        ≡ definition.resolve version graph.now (map (state_at states.old) numbers.now)) }
     ensures number { IfOk result (λ number. number < length states.new) }
     ensures added { AreAdded graph.now states.old states.new }
 {
     all_are_sorted(states, numbers);
     let each = each_once(alloc, numbers)?;
-    resolve_each(alloc, graph, states, &each)
+    resolve_each(version, alloc, graph, states, &each)
 }
 
 // The same, where each number counts: one that is there twice is looked at twice.
 fn resolve_each(
+    version: RoomVersion,
     alloc: Global,
     graph: &Graph,
     states: &mut States,
@@ -52,7 +55,7 @@ fn resolve_each(
     requires numbers { All (λ number. number < length states.old) numbers.now }
     requires known { AreKnown graph.now states.old }
     ensures resolved { IfOk result (λ number. state_at states.new number
-        ≡ definition.resolve graph.now (map (state_at states.old) numbers.now)) }
+        ≡ definition.resolve version graph.now (map (state_at states.old) numbers.now)) }
     ensures number { IfOk result (λ number. number < length states.new) }
     ensures added { AreAdded graph.now states.old states.new }
 {
@@ -65,7 +68,7 @@ fn resolve_each(
     if differing.entries().is_empty() {
         return Ok(*first);
     }
-    let change = resolving_change(alloc, graph, states, numbers, *first, &differing)?;
+    let change = resolving_change(version, alloc, graph, states, numbers, *first, &differing)?;
     made(states, &change)
 }
 
@@ -86,6 +89,7 @@ fn made(states: &mut States, change: &StateChange) -> Result<StateNo, AllocError
 
 // What makes the resolution of some states of one of them.
 fn resolving_change(
+    version: RoomVersion,
     alloc: Global,
     graph: &Graph,
     states: &States,
@@ -99,19 +103,20 @@ fn resolving_change(
     requires differing { IsDiffering differing.now (map (state_at states.now) numbers.now) }
     ensures parent { IfOk result (λ change. change.parent < length states.now) }
     ensures resolved { IfOk result (λ change. edited change.taken (state_at states.now change.parent) change.puts
-        ≡ definition.resolve graph.now (map (state_at states.now) numbers.now)) }
+        ≡ definition.resolve version graph.now (map (state_at states.now) numbers.now)) }
     ensures known { IfOk result (λ change. All (λ e. e.1 < length graph.now)
         (edited change.taken (state_at states.now change.parent) change.puts)) }
 {
     all_are_sorted(states, numbers);
     let _ = differing.entries();
-    let puts = resolving_puts(alloc, graph, states, numbers, base, differing)?;
+    let puts = resolving_puts(version, alloc, graph, states, numbers, base, differing)?;
     let change = least_change(alloc, states, base, &numbers[1..], differing, &puts)?;
     Ok(change)
 }
 
 // What is put over the first of some states, without the keys at which they differ, in their resolution.
 fn resolving_puts(
+    version: RoomVersion,
     alloc: Global,
     graph: &Graph,
     states: &States,
@@ -124,7 +129,7 @@ fn resolving_puts(
     requires base { (others : List ℕ) × (numbers.now ≡ base ∷ others) }
     requires differing { IsDiffering differing.now (map (state_at states.now) numbers.now) }
     ensures resolved { IfOk result (λ puts. edited differing.now (state_at states.now base) puts
-        ≡ definition.resolve graph.now (map (state_at states.now) numbers.now)) }
+        ≡ definition.resolve version graph.now (map (state_at states.now) numbers.now)) }
     ensures known { IfOk result (λ puts. All (λ e. e.1 < length graph.now)
         (edited differing.now (state_at states.now base) puts)) }
 {
@@ -133,7 +138,7 @@ fn resolving_puts(
     let full = full_conflicted_at(alloc, graph, states, numbers, base, differing)?;
     states.state_is_sorted(base);
     let mut state = WorkingState::without(alloc, states.state(base), differing);
-    check_conflicted(alloc, graph, &mut state, &full)?;
+    check_conflicted(version, alloc, graph, &mut state, &full)?;
     let puts = state.into_puts();
     let kept = restored_puts(alloc, states, base, differing, &puts)?;
     Ok(kept)

@@ -7,10 +7,11 @@ use crate::checks::conflict_checks::check_conflicted;
 use crate::checks::working_states::WorkingState;
 use crate::conflicts::{full_conflicted, unconflicted};
 use crate::state_maps::StateMap;
+use mx_auth::RoomVersion;
 use mx_graph::Graph;
 use std::alloc::{AllocError, Global};
 
-/// The one state that states of a room resolve to. Of no state it is the empty state, of one state that state.
+/// The one state that states of a room of this version resolve to. Of no state it is the empty state, of one state that state.
 ///
 /// Where all states have the same event at a type and a state key, it has that event there. The other events of the
 /// states, and the events in the auth chains of some states that are not in those of all, are the full conflicted set.
@@ -20,16 +21,21 @@ use std::alloc::{AllocError, Global};
 ///
 /// Source: the Matrix specification, Room Version 2, "State resolution".
 #[tactic(auto, unfolding(crate::specs::Resolution::resolve))]
-pub fn resolve(alloc: Global, graph: &Graph, states: &[&StateMap]) -> Result<StateMap, AllocError>
+pub fn resolve(
+    version: RoomVersion,
+    alloc: Global,
+    graph: &Graph,
+    states: &[&StateMap],
+) -> Result<StateMap, AllocError>
     requires known { All (λ s. All (λ e. e.1 < length graph.now) s.now) states.now }
-    ensures resolved { IfOk result (λ state. state ≡ definition.resolve graph.now (map (λ s. s.now) states.now)) }
+    ensures resolved { IfOk result (λ state. state ≡ definition.resolve version graph.now (map (λ s. s.now) states.now)) }
     ensures known { IfOk result (λ state. All (λ e. e.1 < length graph.now) state) }
 {
     let agreed = unconflicted(alloc, states)?;
     let full = full_conflicted(alloc, graph, &agreed, states)?;
     let nothing = StateMap::new(alloc);
     let mut state = WorkingState::of(&nothing, agreed.clone()?);
-    check_conflicted(alloc, graph, &mut state, &full)?;
+    check_conflicted(version, alloc, graph, &mut state, &full)?;
     let mut resolved = state.into_puts();
     overwrite(&mut resolved, &agreed)?;
     Ok(resolved)

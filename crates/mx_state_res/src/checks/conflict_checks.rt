@@ -7,6 +7,7 @@ use crate::checks::auth_checks::check_each;
 use crate::checks::powers::power_events;
 use crate::checks::working_states::WorkingState;
 use crate::conflicts::rising_lists::without;
+use mx_auth::RoomVersion;
 use mx_graph::{EventNo, Graph};
 use mx_orders::{mainline_order, power_order};
 use std::alloc::{AllocError, Global};
@@ -17,6 +18,7 @@ use std::alloc::{AllocError, Global};
 ///
 /// Source: the Matrix specification, Room Version 2, "State resolution".
 pub(crate) fn check_conflicted(
+    version: RoomVersion,
     alloc: Global,
     graph: &Graph,
     state: &mut WorkingState<'_>,
@@ -25,7 +27,7 @@ pub(crate) fn check_conflicted(
     requires full { All (λ event. event < length graph.now) full.now }
     requires rises { Rises full.now }
     requires known { All (λ e. e.1 < length graph.now) (shown_by state.old) }
-    ensures checked { OnOk result (shown_by state.new ≡ checked graph.now (shown_by state.old) full.now) }
+    ensures checked { OnOk result (shown_by state.new ≡ checked version graph.now (shown_by state.old) full.now) }
     ensures base { state.new.0 ≡ state.old.0 }
     ensures taken { state.new.1.0 ≡ state.old.1.0 }
     ensures known { OnOk result (All (λ e. e.1 < length graph.now) (shown_by state.new)) }
@@ -33,9 +35,9 @@ pub(crate) fn check_conflicted(
     let power = power_events(alloc, graph, full)?;
     let others = without(alloc, full, &power)?;
     let order = power_order(alloc, graph, &power)?;
-    check_each(graph, state, &order)?;
+    check_each(version, graph, state, &order)?;
     let power_levels = state.get("m.room.power_levels", "");
     let rest = mainline_order(alloc, graph, power_levels, &others)?;
-    check_each(graph, state, &rest)?;
+    check_each(version, graph, state, &rest)?;
     Ok(())
 }

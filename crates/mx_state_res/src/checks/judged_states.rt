@@ -7,7 +7,7 @@ ghost use Rattle.mx_state_res.specs.Numbered.{shown_by};
 ghost use Rattle.mx_state_res.specs.Resolution as definition;
 
 use crate::checks::working_states::WorkingState;
-use mx_auth::{RoomState, is_at, judge, needed_keys};
+use mx_auth::{RoomState, RoomVersion, is_at, judge, needed_keys};
 use mx_graph::{EventNo, Graph};
 use mx_ident::EventId;
 use mx_pdu::Pdu;
@@ -16,6 +16,7 @@ use std::marker::Model;
 // A state, in which what it lacks is taken from the auth events of an event.
 #[derive(Debug, Drop)]
 pub(crate) struct JudgedState<'a, 's> {
+    version: RoomVersion,
     graph: &'a Graph,
     state: &'a WorkingState<'s>,
     number: EventNo,
@@ -23,16 +24,17 @@ pub(crate) struct JudgedState<'a, 's> {
 
 impl<'a, 's> Model for JudgedState<'a, 's> {
     ghost use Rattle.std.specs.Prelude.{List, ℕ, ◌<◌, All, length};
+    ghost use Rattle.mx_auth.specs.declared.versions.RoomVersion.{RoomVersion};
     ghost use Rattle.mx_graph.specs.Record.{Row};
     ghost use Rattle.mx_orders.specs.StateMap.{State};
     ghost use Rattle.mx_state_res.specs.Numbered.{shown_by};
     ghost use Rattle.mx_state_res.specs.StateCode.{judged_code};
 
-    ghost Value = { List Row × (State × ℕ) };
+    ghost Value = { List Row × (State × (ℕ × RoomVersion)) };
 
     ghost coded = { judged_code };
 
-    ghost view = { λ j. (j.graph.now, (shown_by j.state.now, j.number)) };
+    ghost view = { λ j. (j.graph.now, (shown_by j.state.now, (j.number, j.version))) };
 
     ghost invariant = { λ j.
         (j.number < length j.graph.now) × All (λ e. e.1 < length j.graph.now) (shown_by j.state.now) };
@@ -48,12 +50,12 @@ impl<'a, 's> JudgedState<'a, 's> {
     // The number of the event at a type and a state key.
     fn number_at(&self, kind: &str, key: &str) -> Option<EventNo>
         ensures number { result ≡ option_or (entry_at self.now.1.0 (kind.now, key.now))
-            (definition.usable_auth_event self.now.0 (record_of.event self.now.0 self.now.1.1) (kind.now, key.now)) }
+            (definition.usable_auth_event self.now.1.1.1 self.now.0 (record_of.event self.now.0 self.now.1.1.0) (kind.now, key.now)) }
         ensures known { IfSome result (λ n. n < length self.now.0) }
     {
         match self.state.get(kind, key) {
             Some(number) => Some(number),
-            None => usable_auth_event(self.graph, self.number, kind, key),
+            None => usable_auth_event(self.version, self.graph, self.number, kind, key),
         }
     }
 }
@@ -62,7 +64,7 @@ impl<'a, 's> RoomState for JudgedState<'a, 's> {
     ghost use Rattle.mx_graph.specs.Record as record_of;
     ghost use Rattle.mx_state_res.specs.Resolution as definition;
 
-    ghost state = { λ j. definition.judged_in j.0 j.1.0 (record_of.event j.0 j.1.1) };
+    ghost state = { λ j. definition.judged_in j.1.1.1 j.0 j.1.0 (record_of.event j.0 j.1.1.0) };
 
     fn create_id(&self) -> Option<&EventId> {
         match self.number_at("m.room.create", "") {
@@ -80,13 +82,19 @@ impl<'a, 's> RoomState for JudgedState<'a, 's> {
 }
 
 // The auth event of an event at a key that it needs, unless that one was rejected.
-fn usable_auth_event(graph: &Graph, number: EventNo, kind: &str, state_key: &str) -> Option<EventNo>
+fn usable_auth_event(
+    version: RoomVersion,
+    graph: &Graph,
+    number: EventNo,
+    kind: &str,
+    state_key: &str,
+) -> Option<EventNo>
     requires { number < length graph.now }
-    ensures usable { result ≡ definition.usable_auth_event graph.now (record_of.event graph.now number)
+    ensures usable { result ≡ definition.usable_auth_event version graph.now (record_of.event graph.now number)
         (kind.now, state_key.now) }
     ensures known { IfSome result (λ n. n < length graph.now) }
 {
-    if !needed_keys(&graph.row(number).event).contains(kind, state_key) {
+    if !needed_keys(version, &graph.row(number).event).contains(kind, state_key) {
         return None;
     }
     match auth_event(graph, number, kind, state_key) {
@@ -121,18 +129,24 @@ fn auth_event(graph: &Graph, number: EventNo, kind: &str, state_key: &str) -> Op
     None
 }
 
-/// Whether the rules allow an event in a state, where what the state lacks is taken from the event's auth events. It
+/// Whether the rules of a version allow an event in a state, where what the state lacks is taken from the event's auth events. It
 /// takes no memory.
 #[tactic(auto, unfolding(crate::specs::Resolution::is_allowed))]
-pub(crate) fn is_allowed(graph: &Graph, state: &WorkingState<'_>, number: EventNo) -> bool
+pub(crate) fn is_allowed(
+    version: RoomVersion,
+    graph: &Graph,
+    state: &WorkingState<'_>,
+    number: EventNo,
+) -> bool
     requires number { number < length graph.now }
     requires known { All (λ e. e.1 < length graph.now) (shown_by state.now) }
-    ensures { result ≡ definition.is_allowed graph.now (shown_by state.now) (record_of.event graph.now number) }
+    ensures { result ≡ definition.is_allowed version graph.now (shown_by state.now) (record_of.event graph.now number) }
 {
     let judged = JudgedState {
+        version,
         graph,
         state,
         number,
     };
-    judge(&graph.row(number).event, &judged).is_ok()
+    judge(version, &graph.row(number).event, &judged).is_ok()
 }

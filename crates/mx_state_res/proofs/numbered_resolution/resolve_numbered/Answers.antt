@@ -14,7 +14,7 @@ pub returns-clause-resolved : goal.returns-clause-resolved
 returns-clause-resolved c =
     let rows = c.args.graph.now in
     let at = state_at c.args.states.now in
-    IfOk-weaker c.resolve_each.result (λ number. state_at c.resolve_each.new.states number ≡ resolve rows (map at c.deref.result.now)) (λ number. state_at c.resolve_each.new.states number ≡ resolve rows (map at c.args.numbers.now))
+    IfOk-weaker c.resolve_each.result (λ number. state_at c.resolve_each.new.states number ≡ resolve c.args.version rows (map at c.deref.result.now)) (λ number. state_at c.resolve_each.new.states number ≡ resolve c.args.version rows (map at c.args.numbers.now))
     (λ number is.
-    is ∙ resolve-each rows (state_at c.args.states.now) c.deref.result.now c.args.numbers.now (λ n. ap (λ xs. is_in xs n) c.deref.ensures.value ∙ c.in_ok-each.ensures n) c.all_are_sorted.ensures)
+    is ∙ resolve-each c.args.version rows (state_at c.args.states.now) c.deref.result.now c.args.numbers.now (λ n. ap (λ xs. is_in xs n) c.deref.ensures.value ∙ c.in_ok-each.ensures n) c.all_are_sorted.ensures)
     c.resolve_each.ensures.resolved

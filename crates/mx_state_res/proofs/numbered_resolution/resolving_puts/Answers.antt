@@ -24,9 +24,9 @@ returns-clause-resolved c =
     let taken : c.check_conflicted.new.state.1.0 ≡ c.args.differing.now = c.in_ok-check_conflicted.ensures.taken ∙ ap (λ v. v.1.0) c.without-state.ensures in
     ap (edited keys (at c.args.base)) c.in_ok-kept.ensures
     ∙ resolved-at at keys c.args.base c.requires.base.0 c.args.numbers.now c.requires.base.1 c.entries.ensures.sorted c.all_are_sorted.ensures c.requires.differing
-    rows c.in_ok-full.full.items c.into_puts-puts.result sorted c.in_ok-full.ensures.set
+    c.args.version rows c.in_ok-full.full.items c.into_puts-puts.result sorted c.in_ok-full.ensures.set
     ((λ i. edited (sym taken i) (sym base i) (c.into_puts-puts.ensures.puts i)) ∙ c.in_ok-check_conflicted.ensures.checked
-    ∙ ap₂ (checked rows) (ap shown_by c.without-state.ensures ∙ ap (without keys) c.state.ensures) c.deref.ensures.value)
+    ∙ ap₂ (checked c.args.version rows) (ap shown_by c.without-state.ensures ∙ ap (without keys) c.state.ensures) c.deref.ensures.value)
 
 pub returns-clause-known : goal.returns-clause-known
 returns-clause-known c =

@@ -17,10 +17,10 @@ pub returns-clause-resolved : goal.returns-clause-resolved
 returns-clause-resolved c =
     let rows = c.args.graph.now in
     let copied : c.in_ok-clone.field-0 ≡ c.in_ok-agreed.agreed = search rules in
-    resolve-is rows (shown c.args.states.now) c.in_ok-agreed.agreed c.in_ok-full.full.items c.into_puts-resolved.result c.overwrite.new.state
+    resolve-is c.args.version rows (shown c.args.states.now) c.in_ok-agreed.agreed c.in_ok-full.full.items c.into_puts-resolved.result c.overwrite.new.state
     c.in_ok-agreed.ensures.state c.in_ok-full.ensures.set
     (c.into_puts-resolved.ensures.puts ∙ puts-alone c.check_conflicted.new.state c.into_puts-resolved.ensures.sorted (c.in_ok-check_conflicted.ensures.base ∙ ap (λ v. v.0) c.of-state.ensures.result) ∙ c.in_ok-check_conflicted.ensures.checked
-    ∙ ap₂ (checked rows) (c.of-state.ensures.shown ∙ copied) c.deref.ensures.value) c.in_ok-overwrite.ensures.ok
+    ∙ ap₂ (checked c.args.version rows) (c.of-state.ensures.shown ∙ copied) c.deref.ensures.value) c.in_ok-overwrite.ensures.ok
 
 pub returns-clause-known : goal.returns-clause-known
 returns-clause-known c =

@@ -34,12 +34,12 @@ pub returns-clause-checked : goal.returns-clause-checked
 returns-clause-checked c =
     let rows = c.args.graph.now in
     let partial = shown_by c.check_each.new.state in
-    checked-is rows (shown_by c.args.state.now) c.args.full.now c.in_ok-power.power.items c.in_ok-others.others.items c.in_ok-order.order.items
+    checked-is c.args.version rows (shown_by c.args.state.now) c.args.full.now c.in_ok-power.power.items c.in_ok-others.others.items c.in_ok-order.order.items
     partial (mainline rows c.get-power_levels.result) c.in_ok-rest.rest.items (shown_by c.check_each-2.new.state)
     c.in_ok-power.ensures.set
     (c.in_ok-others.ensures ∙ ap (λ xs. filter (λ p. not (is_in xs p)) c.args.full.now) c.deref.ensures.value)
     (c.in_ok-order.ensures ∙ ap (power_order rows) c.deref-2.ensures.value)
-    (c.in_ok-check_each.ensures.ok ∙ ap (iterative_auth_checks rows (shown_by c.args.state.now)) c.deref-3.ensures.value)
+    (c.in_ok-check_each.ensures.ok ∙ ap (iterative_auth_checks c.args.version rows (shown_by c.args.state.now)) c.deref-3.ensures.value)
     (ap (mainline rows) c.get-power_levels.ensures)
     (c.in_ok-rest.ensures ∙ ap (mainline_order rows (mainline rows c.get-power_levels.result)) c.deref-4.ensures.value)
-    (c.in_ok-check_each-2.ensures.ok ∙ ap (iterative_auth_checks rows partial) c.deref-5.ensures.value)
+    (c.in_ok-check_each-2.ensures.ok ∙ ap (iterative_auth_checks c.args.version rows partial) c.deref-5.ensures.value)
