@@ -5,6 +5,7 @@ Each log is a worked row: `NAME.jsonl` is what `mx_federd replay` reads, and `NA
 The events get their true hashes and ids here. The answers are written by hand, by the authorization rules of room
 versions 6 and 7 and the checks on receipt of an event; nothing here was taken from what the program prints."""
 
+from query_rows import QUERY_ROWS
 from request_rows import REQUEST_ROWS, life_of_a_room
 from row_events import (
     A, B, C, D, E, ACCEPTED, Base, Log, altered, canonical, create, error, event, id_of, join, levels, member,
@@ -644,7 +645,7 @@ ROWS = (
     demotion_before_the_topic, soft_failure, soft_failed_invite, rejected_parent, state_before_rejects,
     create_in_the_auth_difference, invited_after_leaving, left_after_the_invite, invited_by_newer_power_levels,
     invited_by_equal_power_levels, resolution_of_65_states, bad_lines, *REQUEST_ROWS, *STATE_ROWS,
-    *VERSION_ROWS,
+    *VERSION_ROWS, *QUERY_ROWS,
 )
 
 
