@@ -2,7 +2,7 @@
 use Rattle.std.specs.Prelude.{◌≡◌, refl, ℕ, List, [], ◌∷◌, codes, map, Ok, Err}
 use Rattle.mx_redact.specs.Fields.{Event}
 use Rattle.mx_redact.specs.Redaction.{redact}
-use Rattle.mx_receipt.specs.Receipt.{Kept, kept_at}
+use Rattle.mx_receipt.specs.Receipt.{kept_at}
 use Rattle.mx_access.proofs.ExampleHistories.{emptied, history, join_of_D, redacted_by, redacted_by_B, said, second_message, then_joined}
 use Rattle.mx_access.proofs.ExampleRoom.{base}
 use Rattle.mx_room.specs.Queries.{query_answer}

@@ -1,22 +1,23 @@
 -- What a join is to be made of.
-use Rattle.std.proofs.Common.{◌≡◌, ℕ, suc, ◌+◌, ◌<◌, ◌≤◌, Bool, true, false, cond, ◌&&◌, not, inl, inr, List, [], ◌∷◌, ◌++◌, length, map, take, Option, None, Some, refl, sym, ap, subst, ◌∙◌, arith, slice_index_or}
-use Rattle.std.specs.Prelude.{All, codes, bytes_eq, nat_lt, filter_map, fold, is_ok, IsTrue, slice_index, Err, Ok, max, min}
-use Rattle.std.specs.List.{list_all, list_any, cons_option}
-use Rattle.std.specs.declared.cmp.Ordering.{Ordering}
+use Rattle.std.proofs.Common.{◌≡◌, ℕ, ◌+◌, ◌<◌, ◌≤◌, Bool, true, false, ◌&&◌, not, inl, inr, List, [], ◌∷◌, ◌++◌, length, map, take, Option, None, Some, refl, sym, ap, ◌∙◌, arith}
+use Rattle.std.specs.Prelude.{codes, bytes_eq, nat_lt, filter_map, is_ok, IsTrue, slice_index, Err, Ok, min}
+use Rattle.std.specs.List.{list_all, list_any}
 use Rattle.std.specs.Cmp.{IsTotalOrder, on_total, then_total, back_total, nat_cmp_total}
 use Rattle.std.specs.Cmp.Lexicographic.{lists_total}
 use Rattle.std.proofs.lemmas.Slice.Eq.{bytes_eq-Decides}
-use Rattle.serde_json.specs.Data.{Data, item, string}
+use Rattle.serde_json.specs.Data.{item, string}
 use Rattle.serde_json.specs.Find.{as_str}
 use Rattle.serde_json.specs.View.{items_of}
 use Rattle.mx_ident.specs.Identifier.{server_of}
-use Rattle.mx_redact.specs.Fields.{Event, item_list}
+use Rattle.mx_redact.specs.Fields.{item_list}
 use Rattle.mx_pdu.specs.Event.{depth_of, prev_ids}
 use Rattle.mx_auth.specs.Joins.{IsOwnJoin}
 use Rattle.mx_auth.specs.Rules.{all_are, needed_keys, rules, where_so}
+use Rattle.mx_auth.specs.Versions.{version_text}
+use Rattle.mx_auth.specs.declared.versions.RoomVersion.{RoomVersion}
 use Rattle.mx_auth.specs.declared.refusals.Rule.{Rule}
 use Rattle.mx_graph.specs.Edges.{Rises}
-use Rattle.mx_graph.specs.Record.{Row, row, event, is_in}
+use Rattle.mx_graph.specs.Record.{Row, row, event}
 use Rattle.mx_graph.proofs.Closure.{is_in-from}
 use Rattle.mx_canon.specs.Canonical.{largest}
 use Rattle.mx_orders.specs.Mainline.{sorted}
@@ -27,7 +28,7 @@ use Rattle.mx_orders.proofs.SortedLaws.{sorted-permutes}
 use Rattle.mx_receipt.specs.Receipt.{Kept, current_state, rows_of, forward_extremities}
 use Rattle.mx_receipt.proofs.ExtremityLemmas.{extremities-below, extremities-rise}
 use Rattle.mx_room.specs.Answers.{join_answer, join_keys}
-use Rattle.mx_room.specs.Queries.{Answered, current_view, depth_falling, greatest_depth, ids_of, join_auth_events, join_event, join_prev_events, join_template, string_items, template_by, unless}
+use Rattle.mx_room.specs.Queries.{Answered, current_view, depth_falling, greatest_depth, ids_of, join_auth_events, join_event, join_prev_events, join_template, room_version, string_items, template_by, unless}
 use Rattle.mx_room.specs.declared.queries.Denied.TheVariants.{OtherServer, WrongVersion}
 use Rattle.mx_room.specs.declared.queries.Denied.TheVariants as denied
 use Rattle.mx_room.specs.declared.queries.QueryReply.TheVariants as gives
@@ -56,8 +57,8 @@ keys_by own user =
     (codes "m.room.create", []) ∷ (codes "m.room.power_levels", []) ∷ (codes "m.room.member", user)
     ∷ (where_so (not own) ((codes "m.room.member", user) ∷ []) ++ (codes "m.room.join_rules", []) ∷ [])
 
-pub needed-keys : (now : ℕ) (room user : List ℕ) → needed_keys (join_event [] [] 0 now room user) ≡ join_keys user
-needed-keys now room user = ap (λ own. keys_by own user) ((bytes_eq-Decides user user).1 refl)
+pub needed-keys : (v : RoomVersion) (now : ℕ) (room user : List ℕ) → needed_keys v (join_event [] [] 0 now room user) ≡ join_keys user
+needed-keys v now room user = ap (λ own. keys_by own user) ((bytes_eq-Decides user user).1 refl)
 
 pub template-own : (kept : List Kept) (now : ℕ) (room user : List ℕ) → IsOwnJoin user (join_template kept now room user)
 unfolding join_template
@@ -80,7 +81,7 @@ template-is kept now room user =
     ap
     (λ keys. join_event (ids_of (rows_of kept) (filter_map (entry (current_state kept)) keys)) (ids_of (rows_of kept) (join_prev_events kept))
     (min (greatest_depth (rows_of kept) (join_prev_events kept) + 1) largest) now room user)
-    (sym (needed-keys now room user))
+    (sym (needed-keys (room_version kept) now room user))
 
 -- ---- the events that a join follows
 
@@ -157,24 +158,24 @@ module _ (kept : List Kept) (origin : List ℕ) (now : ℕ) (room user : List �
   is_of_server = bytes_eq (server_of user) origin
 
   abbrev knows_version : Bool
-  knows_version = list_any (bytes_eq (codes "6")) versions
+  knows_version = list_any (bytes_eq (version_text (room_version kept))) versions
 
   abbrev broken : Option Rule
-  broken = rules (join_template kept now room user) (current_view kept)
+  broken = rules (room_version kept) (join_template kept now room user) (current_view kept)
 
   abbrev answer : Answered
   answer = join_answer kept origin now room user versions
 
   abbrev answer_by : Bool → Bool → Option Rule → Answered
-  answer_by own known rule = unless (not own) OtherServer (unless (not known) WrongVersion (template_by rule (join_template kept now room user)))
+  answer_by own known rule = unless (not own) OtherServer (unless (not known) (WrongVersion (room_version kept)) (template_by (room_version kept) rule (join_template kept now room user)))
 
-  pub join-wrong_version : is_of_server ≡ true → knows_version ≡ false → Err WrongVersion ≡ answer
+  pub join-wrong_version : is_of_server ≡ true → knows_version ≡ false → Err (WrongVersion (room_version kept)) ≡ answer
   join-wrong_version e f = sym (λ i. answer_by (e i) (f i) broken)
 
   pub join-not_allowed : (rule : Rule) → is_of_server ≡ true → knows_version ≡ true → broken ≡ Some rule → Err (denied.Rule rule) ≡ answer
   join-not_allowed rule e f g = sym (λ i. answer_by (e i) (f i) (g i))
 
-  pub join-allowed : is_of_server ≡ true → knows_version ≡ true → broken ≡ None → Ok (gives.Template (join_template kept now room user)) ≡ answer
+  pub join-allowed : is_of_server ≡ true → knows_version ≡ true → broken ≡ None → Ok (gives.Template (room_version kept) (join_template kept now room user)) ≡ answer
   join-allowed e f g = sym (λ i. answer_by (e i) (f i) (g i))
 
   pub join-told : is_of_server ≡ true → knows_version ≡ true → broken ≡ None → IsTrue (is_ok answer)

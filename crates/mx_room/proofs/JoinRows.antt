@@ -1,10 +1,9 @@
 -- Worked examples of joins. The events have no content hash, which is a wrong one.
 use Rattle.std.specs.Prelude.{◌≡◌, refl, true, ℕ, List, [], ◌∷◌, codes, map, take, Some, None}
-use Prim.Native.String.{String}
 use Rattle.mx_redact.specs.Fields.{Event}
 use Rattle.mx_auth.specs.declared.refusals.Rule.TheVariants.{SenderNotJoined}
 use Rattle.mx_auth.proofs.RoomBase.{event, keyed, no_fields}
-use Rattle.mx_receipt.specs.Receipt.{Kept, kept_at}
+use Rattle.mx_receipt.specs.Receipt.{kept_at}
 use Rattle.mx_receipt.specs.declared.verdicts.Verdict.TheVariants.{Accepted, Rejected}
 use Rattle.mx_access.proofs.ExampleRoom.{Arrival, arrival, base, join}
 use Rattle.mx_room.specs.Joins.{join_reply, with_offer}

@@ -13,6 +13,7 @@ use Rattle.mx_room.specs.Offer.{Offered, offer_outcome}
 use Rattle.mx_room.specs.Queries.{Answered, query_answer}
 use Rattle.mx_room.specs.declared.outcomes.Outcome.TheVariants.{Kept as now_kept, Refused}
 use Rattle.mx_room.specs.declared.outcomes.Refusal.TheVariants.{AccessList as denied_offer}
+use Rattle.mx_auth.specs.declared.versions.RoomVersion.TheVariants.{V6}
 use Rattle.mx_room.specs.declared.queries.Denied.TheVariants.{AccessList, NotInRoom, NotFound, OtherServer, WrongVersion, Rule}
 use Rattle.mx_room.specs.declared.queries.Query.TheVariants as ask
 use Rattle.mx_room.specs.declared.queries.QueryReply.TheVariants as gives
@@ -119,7 +120,7 @@ d_server = codes "d.example"
 
 -- what a server gives of a template
 template_text : Answered → List ℕ
-template_text (Ok (gives.Template e)) = canonical_text (object (put (codes "origin") (string (codes "hub.example")) (members_of e)))
+template_text (Ok (gives.Template v e)) = canonical_text (object (put (codes "origin") (string (codes "hub.example")) (members_of e)))
 template_text other = []
 
 make_join-d : template_text (query_answer base d_server 1000 (ask.MakeJoin r d (codes "6" ∷ [])))
@@ -127,7 +128,7 @@ make_join-d : template_text (query_answer base d_server 1000 (ask.MakeJoin r d (
 unfolding canonical_text digits room_on_examples template_text
 make_join-d = refl
 
-make_join-version : query_answer base d_server 1000 (ask.MakeJoin r d []) ≡ Err WrongVersion
+make_join-version : query_answer base d_server 1000 (ask.MakeJoin r d []) ≡ Err (WrongVersion V6)
 unfolding room_on_examples
 make_join-version = refl
 

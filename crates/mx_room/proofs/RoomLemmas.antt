@@ -15,7 +15,7 @@ use Rattle.mx_auth.specs.declared.refusals.Rule.{Rule}
 use Rattle.mx_graph.specs.Adding.{most_rows}
 use Rattle.mx_graph.specs.Record.{Row, place_of}
 use Rattle.mx_orders.specs.StateMap.{view}
-use Rattle.mx_receipt.specs.Receipt.{Kept, rows_of, kept_at, lacks_cited, verdict, offer_error}
+use Rattle.mx_receipt.specs.Receipt.{Kept, created_version, rows_of, kept_at, lacks_cited, verdict, offer_error}
 use Rattle.mx_receipt.specs.TimelineView.{IsSoundCreate, TimelineView}
 use Rattle.mx_receipt.specs.declared.refusals.NotReceived.{NotReceived}
 use Rattle.mx_receipt.specs.declared.refusals.NotReceived.TheVariants as received
@@ -51,7 +51,7 @@ sound-of o h =
     let third = not_refused (not o.signed) _ _ second.1 in
     let fourth = not_refused (not (hash_holds o.pdu)) _ _ third.1 in
     let parts = and_parts (has_kind (codes "m.room.create") o.pdu) (is_text [] (state_key_of o.pdu)) first.0 in
-    record { kind = parts.0; state_key = parts.1; allowed = no_rule (rules o.pdu (view [] [])) fourth.1; auth_events = no_ids (auth_ids o.pdu) second.0 }
+    record { kind = parts.0; state_key = parts.1; allowed = no_rule (rules (created_version o.pdu) o.pdu (view [] [])) fourth.1; auth_events = no_ids (auth_ids o.pdu) second.0 }
 
 -- and so is one that was kept
 pub sound-kept : (e : Event) → reopen_error e ≡ None → IsSoundCreate e
@@ -60,7 +60,7 @@ sound-kept e h =
     let first = not_refused (not (has_kind (codes "m.room.create") e && is_text [] (state_key_of e))) _ _ h in
     let second = not_refused (nat_lt 0 (length (auth_ids e))) _ _ first.1 in
     let parts = and_parts (has_kind (codes "m.room.create") e) (is_text [] (state_key_of e)) first.0 in
-    record { kind = parts.0; state_key = parts.1; allowed = no_rule (rules e (view [] [])) second.1; auth_events = no_ids (auth_ids e) second.0 }
+    record { kind = parts.0; state_key = parts.1; allowed = no_rule (rules (created_version e) e (view [] [])) second.1; auth_events = no_ids (auth_ids e) second.0 }
 
 -- ---- the form in which an event is kept
 

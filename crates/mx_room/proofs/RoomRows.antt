@@ -12,7 +12,7 @@ use Rattle.mx_auth.specs.declared.refusals.Rule.TheVariants.{CreateHasPrevEvents
 use Rattle.mx_auth.proofs.RoomBase.{text, fields, no_fields, keyed, event, e1, e2, e3, e4, e5, e6}
 use Rattle.mx_auth.proofs.RulesOnExamples.{rules_on_examples}
 use Rattle.mx_orders.specs.StateMap.{view}
-use Rattle.mx_receipt.specs.Receipt.{Kept, received}
+use Rattle.mx_receipt.specs.Receipt.{Kept, created_version, received}
 use Rattle.mx_receipt.specs.declared.verdicts.Verdict.TheVariants.{Accepted, Rejected}
 use Rattle.mx_room.specs.Queries.{query_answer}
 use Rattle.mx_room.specs.Hosting.{host_error}
@@ -55,11 +55,11 @@ host-bad_hash = refl
 -- where the content hash is right, the rules are asked
 host-prev_events : (right : hash_holds (create [] (codes "$2" ∷ []) []) ≡ true) → host_error (offer "$1" (create [] (codes "$2" ∷ []) [])) ≡ Some (BreaksRule CreateHasPrevEvents)
 unfolding rules_on_examples host_error
-host-prev_events right = ap (λ b. refuse_if (not b) BadContentHash (option_map BreaksRule (rules (create [] (codes "$2" ∷ []) []) (view [] [])))) right
+host-prev_events right = ap (λ b. refuse_if (not b) BadContentHash (option_map BreaksRule (rules (created_version (create [] (codes "$2" ∷ []) [])) (create [] (codes "$2" ∷ []) []) (view [] [])))) right
 
 host-no_version : (right : hash_holds (create [] [] []) ≡ true) → host_error (offer "$1" (create [] [] [])) ≡ Some (BreaksRule CreateVersionUnknown)
 unfolding rules_on_examples host_error
-host-no_version right = ap (λ b. refuse_if (not b) BadContentHash (option_map BreaksRule (rules (create [] [] []) (view [] [])))) right
+host-no_version right = ap (λ b. refuse_if (not b) BadContentHash (option_map BreaksRule (rules (created_version (create [] [] [])) (create [] [] []) (view [] [])))) right
 
 -- ---- what becomes of an offered event, after the first six of a room
 

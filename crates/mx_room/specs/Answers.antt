@@ -4,12 +4,13 @@ use Rattle.std.specs.Prelude.{ℕ, ◌==◌, Bool, true, false, ◌&&◌, ◌||�
 use Rattle.std.specs.List.{list_any}
 use Rattle.mx_ident.specs.Identifier.{server_of}
 use Rattle.mx_auth.specs.Rules.{Key, rules}
+use Rattle.mx_auth.specs.Versions.{version_text}
 use Rattle.mx_pdu.specs.Event.{depth_of}
 use Rattle.mx_graph.specs.Record.{Row, row, event, place_of, events_where, is_in}
 use Rattle.mx_graph.specs.Graph.{ancestors}
 use Rattle.mx_orders.specs.StateMap.{events_of}
 use Rattle.mx_receipt.specs.Receipt.{Kept, rows_of, state_before}
-use Rattle.mx_room.specs.Queries.{Answered, all_served, backfill, chain_by_id, event_shown, events_reply, given_or, held, if_standing, current_view, join_template, missing_events, state_ids_reply, state_reply, template_by, unless}
+use Rattle.mx_room.specs.Queries.{Answered, all_served, backfill, chain_by_id, event_shown, events_reply, given_or, held, if_standing, current_view, join_template, missing_events, room_version, state_ids_reply, state_reply, template_by, unless}
 use Rattle.mx_room.specs.declared.queries.Query.{Query}
 use Rattle.mx_room.specs.declared.queries.Query.TheVariants as ask
 use Rattle.mx_room.specs.declared.queries.QueryReply.TheVariants as gives
@@ -41,13 +42,14 @@ join_keys user =
     (codes "m.room.create", []) ∷ (codes "m.room.power_levels", []) ∷ (codes "m.room.member", user)
     ∷ (codes "m.room.join_rules", []) ∷ []
 
--- the user is of the server, which knows version 6, and the rules allow the join in the current state
+-- the user is of the server, which knows the room's version, and the rules allow the join in the current state
 abbrev pub join_answer : List Kept → List ℕ → ℕ → List ℕ → List ℕ → List (List ℕ) → Answered
 join_answer kept origin now room user versions =
+    let version = room_version kept in
     let template = join_template kept now room user in
     unless (not (bytes_eq (server_of user) origin)) OtherServer
-    (unless (not (list_any (bytes_eq (codes "6")) versions)) WrongVersion
-    (template_by (rules template (current_view kept)) template))
+    (unless (not (list_any (bytes_eq (version_text version)) versions)) (WrongVersion version)
+    (template_by version (rules version template (current_view kept)) template))
 
 abbrev pub allowed_answer : List Kept → List ℕ → ℕ → Query → Answered
 allowed_answer kept origin now (ask.Event id) = event_answer kept origin id

@@ -12,12 +12,14 @@ use Rattle.mx_redact.specs.Fields.{Event}
 use Rattle.mx_pdu.specs.Event.{depth_of}
 use Rattle.mx_auth.specs.Rules.{needed_keys, rules}
 use Rattle.mx_auth.specs.StateView.{StateView}
+use Rattle.mx_auth.specs.Versions.{version_text}
+use Rattle.mx_auth.specs.declared.versions.RoomVersion.{RoomVersion}
 use Rattle.mx_auth.specs.declared.refusals.Rule.{Rule}
 use Rattle.mx_graph.specs.Record.{Row, row, event, place_of, events_where, is_in}
 use Rattle.mx_graph.specs.Graph.{ancestors, auth_chain}
 use Rattle.mx_orders.specs.Mainline.{sorted}
 use Rattle.mx_orders.specs.StateMap.{entry, events_of, view}
-use Rattle.mx_receipt.specs.Receipt.{Kept, rows_of, state_before, current_state, forward_extremities}
+use Rattle.mx_receipt.specs.Receipt.{Kept, rows_of, version_in, state_before, current_state, forward_extremities}
 use Rattle.mx_access.specs.Acl.{acl_allows}
 use Rattle.mx_access.specs.Access.{in_room, served, shown}
 use Rattle.mx_room.specs.declared.queries.Query.{Query}
@@ -108,10 +110,14 @@ greatest_depth rows ps = fold (λ d p. max d (depth_of (event rows p))) 0 ps
 abbrev pub join_prev_events : List Kept → List ℕ
 join_prev_events kept = take 20 (sorted (depth_falling (rows_of kept)) (forward_extremities kept))
 
+-- the version of the room
+abbrev pub room_version : List Kept → RoomVersion
+room_version kept = version_in (rows_of kept)
+
 -- the events of the current state on which a join of the user is to rest
 abbrev pub join_auth_events : List Kept → ℕ → List ℕ → List ℕ → List ℕ
 join_auth_events kept now room user =
-    filter_map (entry (current_state kept)) (needed_keys (join_event [] [] 0 now room user))
+    filter_map (entry (current_state kept)) (needed_keys (room_version kept) (join_event [] [] 0 now room user))
 
 unfoldable pub join_template : List Kept → ℕ → List ℕ → List ℕ → Event
 join_template kept now room user =
@@ -167,18 +173,19 @@ event_shown kept origin id = option_and_then (shown kept origin) (place_of (rows
 abbrev pub current_view : List Kept → StateView
 current_view kept = view (rows_of kept) (current_state kept)
 
-abbrev pub template_by : Option Rule → Event → Answered
-template_by None e = Ok (gives.Template e)
-template_by (Some rule) e = Err (denied.Rule rule)
+abbrev pub template_by : RoomVersion → Option Rule → Event → Answered
+template_by v None e = Ok (gives.Template v e)
+template_by v (Some rule) e = Err (denied.Rule rule)
 
--- the user is of the asking server, which knows version 6, and the rules allow the join in the current state
+-- the user is of the asking server, which knows the room's version, and the rules allow the join in the current state
 abbrev pub make_join : List Kept → List ℕ → ℕ → List ℕ → List ℕ → List (List ℕ) → Answered
 make_join kept origin now room user versions =
+    let version = room_version kept in
     let template = join_template kept now room user in
     unless (not (acl_allows kept origin)) AccessList
     (unless (not (bytes_eq (server_of user) origin)) OtherServer
-    (unless (not (list_any (bytes_eq (codes "6")) versions)) WrongVersion
-    (template_by (rules template (current_view kept)) template)))
+    (unless (not (list_any (bytes_eq (version_text version)) versions)) (WrongVersion version)
+    (template_by version (rules version template (current_view kept)) template)))
 
 unfoldable pub query_answer : List Kept → List ℕ → ℕ → Query → Answered
 query_answer kept origin now (ask.Event id) = given_or NotFound (option_map gives.Event (event_shown kept origin id))

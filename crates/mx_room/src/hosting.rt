@@ -4,11 +4,13 @@ ghost use Rattle.mx_redact.specs.Fields.{is_text};
 ghost use Rattle.mx_pdu.specs.Event.{has_kind, state_key_of, auth_ids};
 ghost use Rattle.mx_auth.specs.Rules.{rules};
 ghost use Rattle.mx_orders.specs.StateMap.{view};
+ghost use Rattle.mx_receipt.specs.Receipt.{created_version as created_version_of};
 ghost use Rattle.mx_room.specs.Hosting.{host_error, reopen_error};
 
 use mx_auth::{RoomState, Rule, judge};
 use mx_ident::EventId;
 use mx_pdu::{Offered, Pdu};
+use mx_receipt::created_version;
 use std::alloc::{AllocError, AllocFailed};
 use thiserror::Error;
 
@@ -18,7 +20,7 @@ use thiserror::Error;
 /// events. `Unsigned`: its signatures were refused. `BadContentHash`: its content hash is wrong. `BreaksRule`: an
 /// authorization rule refuses it.
 ///
-/// Source: the Matrix specification, Room Version 6, "Authorization rules", rule 1; the order is ours.
+/// Source: the Matrix specification, Room Version 6 and Room Version 7, "Authorization rules", rule 1; the order is ours.
 #[derive(Clone, Copy, Debug, PartialEq, Eq, Drop, Error)]
 pub enum NotARoom {
     #[error("not a create event")]
@@ -120,7 +122,7 @@ fn cites_auth_events(event: &Pdu) -> bool
 }
 
 fn broken_rule(event: &Pdu) -> Option<Rule>
-    ensures { result ≡ rules event.now (view [] []) }
+    ensures { result ≡ rules (created_version_of event.now) event.now (view [] []) }
 {
-    judge(event, &NoState).err()
+    judge(created_version(event), event, &NoState).err()
 }

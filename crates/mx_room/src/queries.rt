@@ -4,7 +4,7 @@ ghost use Rattle.mx_room.specs.Queries.{room_named};
 
 use crate::event_lists::{EventIdList, EventList, VersionList};
 use crate::join_templates::JoinTemplate;
-use mx_auth::Rule;
+use mx_auth::{RoomVersion, Rule};
 use mx_ident::{EventId, RoomId, UserId};
 use mx_pdu::Pdu;
 
@@ -75,7 +75,8 @@ impl Query {
 /// `Event`: the event, as it is shown. `State`: the events of a state in the order of their keys, and their auth chain in
 /// the order of its ids, each as it is served. `StateIds`: the ids of these. `EventAuth`: the auth chain of an event, in
 /// the order of its ids, each as it is served. `Events`: events as they are shown; for `Backfill` the deepest first, for
-/// `Missing` the deepest last, and of one depth in the order of their ids. `Template`: what the join is to be made of.
+/// `Missing` the deepest last, and of one depth in the order of their ids. `Template`: the version of the room,
+/// and what the join is to be made of.
 #[derive(Debug, Drop)]
 pub enum QueryReply {
     Event(Pdu),
@@ -89,7 +90,7 @@ pub enum QueryReply {
     },
     EventAuth(EventList),
     Events(EventList),
-    Template(JoinTemplate),
+    Template(RoomVersion, JoinTemplate),
 }
 
 /// Why a query gives nothing, in the order in which it is asked.
@@ -99,7 +100,7 @@ pub enum QueryReply {
 /// A query for an event by its id alone is refused by `NotFound` alone.
 ///
 /// `MakeJoin` is refused by `AccessList`, and by the last three alone. `OtherServer`: the user is of another server than
-/// the one that asks. `WrongVersion`: the server does not know version 6 of rooms. `Rule`: the line of the authorization
+/// the one that asks. `WrongVersion`: the server does not know the version of the room, which is this one. `Rule`: the line of the authorization
 /// rules that does not allow the join in the room's current state.
 #[derive(Clone, Copy, Debug, PartialEq, Eq)]
 pub enum Denied {
@@ -107,6 +108,6 @@ pub enum Denied {
     NotInRoom,
     NotFound,
     OtherServer,
-    WrongVersion,
+    WrongVersion(RoomVersion),
     Rule(Rule),
 }

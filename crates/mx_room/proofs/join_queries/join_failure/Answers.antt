@@ -1,7 +1,7 @@
-use Rattle.std.proofs.Common.{ap, sym, ◌∙◌}
+use Rattle.std.proofs.Common.{sym, ◌∙◌}
 use Rattle.mx_auth.specs.Rules.{all_are, rules}
-use Rattle.mx_orders.specs.StateMap.{State, view}
-use Rattle.mx_receipt.specs.Receipt.{Kept, rows_of}
+use Rattle.mx_orders.specs.StateMap.{view}
+use Rattle.mx_receipt.specs.Receipt.{rows_of}
 use Rattle.mx_room.specs.Queries.{join_template}
 use Rattle.mx_room.proofs.JoinLemmas.{template-own, template-prev}
 use Rattle.mx_room.proofs.join_queries.join_failure.Goals as goal
@@ -13,4 +13,4 @@ returns c = λ now room.
     c.err.ensures.value
     ∙ c.judge_own_join.ensures (join_template kept now room user) (template-own kept now room user)
     ((λ i. all_are (sym c.create_id.ensures i) (template-prev kept now room user i)) ∙ sym c.follows_alone-follows_create_alone.ensures)
-    ∙ ap (λ s. rules (join_template kept now room user) (view (rows_of s.0) s.1)) c.current-state.ensures
+    ∙ (λ i. rules (c.version.ensures i) (join_template kept now room user) (view (rows_of (c.current-state.ensures i).0) (c.current-state.ensures i).1))

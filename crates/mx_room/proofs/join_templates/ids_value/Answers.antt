@@ -1,4 +1,4 @@
-use Rattle.std.proofs.Common.{◌≡◌, ◌≤◌, ap, ◌∙◌, arith, map, take, length}
+use Rattle.std.proofs.Common.{◌≡◌, ap, ◌∙◌, arith, map, take}
 use Rattle.std.proofs.lemmas.List.{take_all}
 use Rattle.serde_json.proofs.Views.{view-Array}
 use Rattle.serde_json.specs.Data.{array, string}

@@ -1,4 +1,4 @@
-use Rattle.std.proofs.Common.{◌≡◌, ◌+◌, ℕ, List, ap, sym, ◌∙◌, filter_map, take}
+use Rattle.std.proofs.Common.{◌≡◌, ◌+◌, ℕ, List, ap, ◌∙◌, filter_map, take}
 use Rattle.std.specs.Prelude.{min}
 use Rattle.mx_canon.specs.Canonical.{largest}
 use Rattle.mx_orders.specs.Mainline.{sorted}
