@@ -3,7 +3,7 @@
 
 Each log is a worked row: `NAME.jsonl` is what `mx_federd replay` reads, and `NAME.answers.jsonl` what it has to print.
 The events get their true hashes and ids here. The answers are written by hand, by the authorization rules of room
-version 6 and the checks on receipt of an event; nothing here was taken from what the program prints."""
+versions 6 and 7 and the checks on receipt of an event; nothing here was taken from what the program prints."""
 
 from request_rows import REQUEST_ROWS, life_of_a_room
 from row_events import (
@@ -28,7 +28,8 @@ def host_refusals(log):
     host("rule A1.1", prev_events=["$x"])
     host("rule A1.2", room_id="!r:z.example")
     host("rule A1.3", content={"creator": A})
-    host("rule A1.3", content={"creator": A, "room_version": "7"})
+    host("rule A1.3", content={"creator": A, "room_version": "5"})
+    host("rule A1.3", content={"creator": A, "room_version": "8"})
     host("not a create event", type="m.room.message")
     host("not a create event", state_key="k")
     host("malformed", auth_events=["$x"])
@@ -373,6 +374,50 @@ def ban_and_invite_rules(log):
     )
 
 
+def knocks(log):
+    """In room version 7 users knock, and those who are invited join by the rule that lets them knock."""
+    base = Base(log, room_version="7")
+    early = member(D, D, "knock", [base.join_c], [base.create, base.levels, base.rules])
+    rule = rules([base.join_c], base.of_a, "knock")
+    seen = [base.create, base.levels, rule]
+    knock = member(D, D, "knock", [rule], seen)
+    invite = member(A, D, "invite", [knock], base.of_a + [rule, knock])
+    ban = member(A, C, "ban", [rule], base.of_a + [base.join_c])
+    log.transaction(
+        "a.example", "t1",
+        (early, rejected("A4.7.1")),
+        (rule, ACCEPTED),
+        (member(B, B, "knock", [rule], [base.create, base.levels, base.join_b, rule]), rejected("A4.7.4")),
+        (member(A, D, "knock", [rule], base.of_a + [rule]), rejected("A4.7.2")),
+        (member(D, D, "knock", [rule], [base.create, base.levels]), rejected("A4.7.1")),
+        (knock, ACCEPTED),
+        (join(D, [knock], seen + [knock]), rejected("A4.2.6")),
+        (message(D, [knock], [base.create, base.levels, knock]), rejected("A5")),
+        (member(D, D, "leave", [knock], [base.create, base.levels, knock]), ACCEPTED),
+        (invite, ACCEPTED),
+        (join(D, [invite], seen + [invite]), ACCEPTED),
+        (ban, ACCEPTED),
+        (member(C, C, "knock", [ban], seen + [ban]), rejected("A4.7.4")),
+        (member(C, C, "leave", [ban], [base.create, base.levels, ban]), rejected("A4.4.1")),
+    )
+
+
+def knocks_in_version_6(log):
+    """In room version 6 nobody knocks, and the rule `knock` lets nobody join."""
+    base = Base(log)
+    rule = rules([base.join_c], base.of_a, "knock")
+    knock = member(D, D, "knock", [rule], [base.create, base.levels])
+    invite = member(A, D, "invite", [rule], base.of_a + [rule])
+    log.transaction(
+        "a.example", "t1",
+        (rule, ACCEPTED),
+        (member(D, D, "knock", [rule], [base.create, base.levels, rule]), rejected("A2.2")),
+        (knock, rejected("A4.6")),
+        (invite, ACCEPTED),
+        (join(D, [invite], [base.create, base.levels, rule, invite]), rejected("A4.2.6")),
+    )
+
+
 def auth_events_check(log):
     """What an event may cite as its auth events."""
     base = Base(log)
@@ -639,8 +684,8 @@ ROWS = (
     host_refusals, join_before_join_rules, child_before_parent, steps_out_of_turn, last_text_stands, altered_content,
     two_rooms_one_transaction, one_of_two_rooms_alone, refusals_in_their_order, access_list, malformed_events,
     format_limits, signatures, level_texts, power_level_changes, notification_levels, join_on_an_invite,
-    ban_and_invite_rules, auth_events_check, closed_to_other_servers, other_rules, demotion_race,
-    demotion_before_the_topic, soft_failure, soft_failed_invite, rejected_parent, state_before_rejects,
+    ban_and_invite_rules, knocks, knocks_in_version_6, auth_events_check, closed_to_other_servers, other_rules,
+    demotion_race, demotion_before_the_topic, soft_failure, soft_failed_invite, rejected_parent, state_before_rejects,
     create_in_the_auth_difference, invited_after_leaving, left_after_the_invite, invited_by_newer_power_levels,
     invited_by_equal_power_levels, resolution_of_65_states, bad_lines, *REQUEST_ROWS, *STATE_ROWS,
 )

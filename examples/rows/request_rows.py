@@ -209,6 +209,24 @@ def template_of_a_join(log):
     get(log, "v1/make_join/%s/%s?ver=6" % (quoted(ROOM), quoted(C)), forbidden("rule A4.2.3"), "c.example")
 
 
+def template_of_a_join_in_version_7(log):
+    """The row 'join template' in a room of version 7, whose servers have to know that one."""
+    base = Base(log, room_version="7")
+    path = "v1/make_join/%s/%s" % (quoted(ROOM), quoted(D))
+    made = {
+        "auth_events": ids([base.create, base.levels, base.rules]), "content": {"membership": "join"}, "depth": 7,
+        "origin": NAME, "origin_server_ts": 1000, "prev_events": ids([base.join_c]), "room_id": ROOM, "sender": D,
+        "state_key": D, "type": "m.room.member",
+    }
+    answer = 200, {"event": made, "room_version": "7"}
+    get(log, path + "?ver=7", answer, "d.example")
+    get(log, path + "?ver=6&ver=7", answer, "d.example")
+    wrong = 400, {"errcode": "M_INCOMPATIBLE_ROOM_VERSION", "error": "room version", "room_version": "7"}
+    get(log, path + "?ver=6", wrong, "d.example")
+    get(log, path, wrong, "d.example")
+    get(log, path + "?ver=6", forbidden("user of another server"), "b.example")
+
+
 def joined_history(log):
     """The row 'joined history', and what is shown after the join."""
     base = Base(log)
@@ -427,7 +445,8 @@ def life_of_a_room(log):
 
 REQUEST_ROWS = (
     requests_child_before_parent, requests_altered_content, requests_two_rooms, access_list_by_requests,
-    state_ids_and_chains, backfill_and_missing_events, template_of_a_join, joined_history, effective_redaction,
+    state_ids_and_chains, backfill_and_missing_events, template_of_a_join, template_of_a_join_in_version_7,
+    joined_history, effective_redaction,
     route_faults, authorization_spellings, transaction_limits, parameter_faults, number_held_by_a_line, send_join,
     key_removed_by_a_delta, long_chain,
 )

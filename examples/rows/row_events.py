@@ -158,8 +158,8 @@ class Log:
 class Base:
     """A creates a room and joins it, gives B and C level 50 and lets everybody join, and they join."""
 
-    def __init__(self, log):
-        self.create = create()
+    def __init__(self, log, **content):
+        self.create = create(**content)
         self.join_a = join(A, [self.create], [self.create])
         users = {A: 100, B: 50, C: 50}
         self.levels = levels(A, [self.join_a], [self.create, self.join_a], users)
