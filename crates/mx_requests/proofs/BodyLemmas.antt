@@ -4,6 +4,9 @@ use Rattle.serde_json.specs.Data.{object, string, Members, no_members, member}
 use Rattle.std.specs.Str.{chars}
 use Rattle.mx_canon.specs.Canonical.{canonical_text, string_text, member_text}
 use Rattle.mx_canon.specs.Pieces.{comma_if}
+use Rattle.mx_auth.specs.Versions.{version_text}
+use Rattle.mx_auth.specs.declared.versions.RoomVersion.{RoomVersion}
+use Rattle.mx_auth.specs.declared.versions.RoomVersion.TheVariants.{V6, V7}
 use Rattle.mx_requests.specs.declared.faults.Fault.{Fault}
 use Rattle.mx_requests.specs.declared.faults.Fault.TheVariants.{NotJson, WrongForm, Missing, Invalid, IncompatibleVersion, NoOrigin, WrongDestination, Forbidden, NotFound, UnknownPath, UnknownMethod, TooLarge, Memory, Storage, Busy}
 use Rattle.mx_requests.specs.Faults.{fault_body, fault_code, fault_text}
@@ -30,10 +33,13 @@ two taken code text =
     let flat : with_more code text no_members ≡ codes "{" ++ (pair code text ++ codes "}") = refl in
     rw flat simp (append_assoc)
 
-three : (taken code text : List ℕ) → written taken code text ++ codes ",\"room_version\":\"6\"}" ≡ taken ++ with_more code text (member (codes "room_version") (string (codes "6")) no_members)
+three : (taken code text : List ℕ) (v : RoomVersion) → written taken code text ++ body_end (IncompatibleVersion v) ≡ taken ++ with_more code text (member (codes "room_version") (string (version_text v)) no_members)
 unfolding canonical_text chars
-three taken code text =
+three taken code text V6 =
     let flat : with_more code text (member (codes "room_version") (string (codes "6")) no_members) ≡ codes "{" ++ (member_text (codes "errcode", string_text code) ++ 44 ∷ (member_text (codes "error", string_text text) ++ 44 ∷ member_text (codes "room_version", string_text (codes "6"))) ++ codes "}") = refl in
+    rw flat simp (append_assoc)
+three taken code text V7 =
+    let flat : with_more code text (member (codes "room_version") (string (codes "7")) no_members) ≡ codes "{" ++ (member_text (codes "errcode", string_text code) ++ 44 ∷ (member_text (codes "error", string_text text) ++ 44 ∷ member_text (codes "room_version", string_text (codes "7"))) ++ codes "}") = refl in
     rw flat simp (append_assoc)
 
 pub whole : (taken : List ℕ) (f : Fault) → written taken (fault_code f) (fault_text f) ++ body_end f ≡ taken ++ fault_body f
@@ -41,7 +47,7 @@ whole taken NotJson = two taken _ _
 whole taken WrongForm = two taken _ _
 whole taken (Missing parameter) = two taken _ _
 whole taken (Invalid part) = two taken _ _
-whole taken IncompatibleVersion = three taken _ _
+whole taken (IncompatibleVersion version) = three taken _ _ version
 whole taken NoOrigin = two taken _ _
 whole taken WrongDestination = two taken _ _
 whole taken (Forbidden why) = two taken _ _

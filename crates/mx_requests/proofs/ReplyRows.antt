@@ -5,6 +5,7 @@ use Prim.Native.String.{String}
 use Rattle.serde_json.specs.Data.{object, string, member, no_members}
 use Rattle.mx_redact.specs.Fields.{Event}
 use Rattle.mx_auth.specs.declared.refusals.Rule.TheVariants as rule
+use Rattle.mx_auth.specs.declared.versions.RoomVersion.TheVariants.{V6}
 use Rattle.mx_room.specs.declared.queries.Query.{Query}
 use Rattle.mx_room.specs.declared.queries.Query.TheVariants as ask
 use Rattle.mx_room.specs.declared.queries.QueryReply.{QueryReply}
@@ -46,14 +47,14 @@ unfolding replies_on_examples
 given-sent = refl
 
 -- the name of this server among the other members
-given-template : reply (ask.MakeJoin room (codes "@u:b") []) (Ok (gives.Template (event "m"))) ≡ success (codes "{\"event\":{\"origin\":\"hub.example\",\"type\":\"m\"},\"room_version\":\"6\"}")
+given-template : reply (ask.MakeJoin room (codes "@u:b") []) (Ok (gives.Template V6 (event "m"))) ≡ success (codes "{\"event\":{\"origin\":\"hub.example\",\"type\":\"m\"},\"room_version\":\"6\"}")
 unfolding replies_on_examples
 given-template = refl
 
 abbrev refused : ℕ → String → Response
 refused status body = record { status = status; body = codes body }
 
-denied-each : map (λ why. reply (ask.Event id) (Err why)) (denied.AccessList ∷ denied.NotInRoom ∷ denied.NotFound ∷ denied.OtherServer ∷ denied.WrongVersion ∷ denied.Rule rule.StateWithoutCreate ∷ [])
+denied-each : map (λ why. reply (ask.Event id) (Err why)) (denied.AccessList ∷ denied.NotInRoom ∷ denied.NotFound ∷ denied.OtherServer ∷ denied.WrongVersion V6 ∷ denied.Rule rule.StateWithoutCreate ∷ [])
     ≡ refused 403 "{\"errcode\":\"M_FORBIDDEN\",\"error\":\"server acl\"}" ∷ refused 403 "{\"errcode\":\"M_FORBIDDEN\",\"error\":\"not in room\"}" ∷ refused 404 "{\"errcode\":\"M_NOT_FOUND\",\"error\":\"not found\"}" ∷ refused 403 "{\"errcode\":\"M_FORBIDDEN\",\"error\":\"user of another server\"}" ∷ refused 400 "{\"errcode\":\"M_INCOMPATIBLE_ROOM_VERSION\",\"error\":\"room version\",\"room_version\":\"6\"}" ∷ refused 403 "{\"errcode\":\"M_FORBIDDEN\",\"error\":\"rule A0\"}" ∷ []
 unfolding replies_on_examples
 denied-each = refl

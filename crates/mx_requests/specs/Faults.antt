@@ -4,6 +4,7 @@ use Rattle.std.specs.Prelude.{ℕ, List, ◌++◌, codes}
 use Rattle.serde_json.specs.Data.{object, string, Members, no_members, member}
 use Rattle.mx_canon.specs.Canonical.{canonical_text}
 use Rattle.mx_auth.specs.Rules.{label_text}
+use Rattle.mx_auth.specs.Versions.{version_text}
 use Rattle.mx_room.specs.Refusals.{refusal_text}
 use Rattle.mx_requests.specs.declared.faults.MissingParameter.{MissingParameter}
 use Rattle.mx_requests.specs.declared.faults.MissingParameter.TheVariants as missing
@@ -39,7 +40,7 @@ fault_status NotJson = 400
 fault_status WrongForm = 400
 fault_status (Missing parameter) = 400
 fault_status (Invalid part) = 400
-fault_status IncompatibleVersion = 400
+fault_status (IncompatibleVersion version) = 400
 fault_status NoOrigin = 401
 fault_status WrongDestination = 401
 fault_status (Forbidden why) = 403
@@ -56,7 +57,7 @@ fault_code NotJson = codes "M_NOT_JSON"
 fault_code WrongForm = codes "M_BAD_JSON"
 fault_code (Missing parameter) = codes "M_MISSING_PARAM"
 fault_code (Invalid part) = codes "M_INVALID_PARAM"
-fault_code IncompatibleVersion = codes "M_INCOMPATIBLE_ROOM_VERSION"
+fault_code (IncompatibleVersion version) = codes "M_INCOMPATIBLE_ROOM_VERSION"
 fault_code NoOrigin = codes "M_UNAUTHORIZED"
 fault_code WrongDestination = codes "M_UNAUTHORIZED"
 fault_code (Forbidden why) = codes "M_FORBIDDEN"
@@ -73,7 +74,7 @@ fault_text NotJson = codes "body is not JSON"
 fault_text WrongForm = codes "body has a wrong form"
 fault_text (Missing parameter) = codes "missing " ++ missing_name parameter
 fault_text (Invalid part) = codes "invalid " ++ invalid_name part
-fault_text IncompatibleVersion = codes "room version"
+fault_text (IncompatibleVersion version) = codes "room version"
 fault_text NoOrigin = codes "no origin"
 fault_text WrongDestination = codes "wrong destination"
 fault_text (Forbidden why) = denial_text why
@@ -87,7 +88,7 @@ fault_text Busy = codes "busy"
 
 -- Server-Server API, make_join: the room's version stands beside the refusal of an incompatible one
 abbrev pub fault_members : Fault → Members
-fault_members IncompatibleVersion = member (codes "room_version") (string (codes "6")) no_members
+fault_members (IncompatibleVersion version) = member (codes "room_version") (string (version_text version)) no_members
 fault_members _ = no_members
 
 -- the body, in canonical JSON

@@ -4,6 +4,8 @@ use Rattle.std.specs.Prelude.{ℕ, List, [], ◌∷◌, codes, Result, Ok, Err}
 use Rattle.serde_json.specs.Data.{Data, Items, no_items, item, no_members, member, put, string, array, object, number, unsigned}
 use Rattle.mx_canon.specs.Canonical.{canonical_text}
 use Rattle.mx_redact.specs.Fields.{Event, members_of}
+use Rattle.mx_auth.specs.Versions.{version_text}
+use Rattle.mx_auth.specs.declared.versions.RoomVersion.{RoomVersion}
 use Rattle.mx_room.specs.declared.queries.Query.{Query}
 use Rattle.mx_room.specs.declared.queries.Query.TheVariants.{Missing}
 use Rattle.mx_room.specs.declared.queries.QueryReply.{QueryReply}
@@ -65,8 +67,9 @@ missing_data es = object (member (codes "events") (event_array es) no_members)
 abbrev pub with_origin : List ℕ → Event → Event
 with_origin server e = object (put (codes "origin") (string server) (members_of e))
 
-abbrev pub template_data : Event → Data
-template_data e = object (member (codes "event") e (member (codes "room_version") (string (codes "6")) no_members))
+abbrev pub template_data : RoomVersion → Event → Data
+template_data v e =
+    object (member (codes "event") e (member (codes "room_version") (string (version_text v)) no_members))
 
 -- backfill gives PDUs of this server, get_missing_events the events alone
 abbrev pub events_data : List ℕ → ℕ → Query → List Event → Data
@@ -79,7 +82,7 @@ query_data server now q (gives.State pdus chain) = state_data pdus chain
 query_data server now q (gives.StateIds pdus chain) = state_ids_data pdus chain
 query_data server now q (gives.EventAuth chain) = chain_data chain
 query_data server now q (gives.Events es) = events_data server now q es
-query_data server now q (gives.Template e) = template_data (with_origin server e)
+query_data server now q (gives.Template v e) = template_data v (with_origin server e)
 
 -- ---- replies
 
@@ -88,7 +91,7 @@ denied_fault denied.AccessList = Forbidden denial.ServerAcl
 denied_fault denied.NotInRoom = Forbidden denial.NotInRoom
 denied_fault denied.NotFound = NotFound
 denied_fault denied.OtherServer = Forbidden denial.UserOfAnotherServer
-denied_fault denied.WrongVersion = IncompatibleVersion
+denied_fault (denied.WrongVersion v) = IncompatibleVersion v
 denied_fault (denied.Rule rule) = Forbidden (denial.Rule rule)
 
 -- the reply of this server, at a time, to a query that was answered so

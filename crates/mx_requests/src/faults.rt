@@ -3,7 +3,7 @@ ghost use Rattle.std.specs.Prelude.{◌≡◌, ◌++◌, IfOk, List, ℕ, string
 ghost use Rattle.mx_requests.specs.Faults.{fault_body, fault_code, fault_status, fault_text, invalid_name, missing_name};
 ghost use Rattle.mx_requests.specs.Bodies.{body_end};
 
-use mx_auth::Rule;
+use mx_auth::{RoomVersion, Rule};
 use mx_canon::{TextBuffer, TextSink, write_key, write_string};
 use mx_room::Refusal;
 use std::alloc::{AllocError, Global};
@@ -58,7 +58,7 @@ pub enum Fault {
     // A part of the request is not of its kind.
     Invalid(InvalidPart),
     // The sender knows other versions of rooms than the room's.
-    IncompatibleVersion,
+    IncompatibleVersion(RoomVersion),
     // The request has no header that names the server from which it comes.
     NoOrigin,
     // The request is for another server.
@@ -128,7 +128,7 @@ impl Fault {
     {
         match self {
             Fault::NotJson | Fault::WrongForm | Fault::Missing(_) | Fault::Invalid(_) => 400,
-            Fault::IncompatibleVersion => 400,
+            Fault::IncompatibleVersion(_) => 400,
             Fault::NoOrigin | Fault::WrongDestination => 401,
             Fault::Forbidden(_) => 403,
             Fault::NotFound | Fault::UnknownPath => 404,
@@ -147,7 +147,7 @@ impl Fault {
             Fault::WrongForm => "M_BAD_JSON",
             Fault::Missing(_) => "M_MISSING_PARAM",
             Fault::Invalid(_) => "M_INVALID_PARAM",
-            Fault::IncompatibleVersion => "M_INCOMPATIBLE_ROOM_VERSION",
+            Fault::IncompatibleVersion(_) => "M_INCOMPATIBLE_ROOM_VERSION",
             Fault::NoOrigin | Fault::WrongDestination => "M_UNAUTHORIZED",
             Fault::Forbidden(_) => "M_FORBIDDEN",
             Fault::NotFound => "M_NOT_FOUND",
@@ -176,7 +176,7 @@ impl Fault {
             Fault::WrongForm => ("body has a wrong form", ""),
             Fault::Missing(parameter) => ("missing ", parameter.name()),
             Fault::Invalid(part) => ("invalid ", part.name()),
-            Fault::IncompatibleVersion => ("room version", ""),
+            Fault::IncompatibleVersion(_) => ("room version", ""),
             Fault::NoOrigin => ("no origin", ""),
             Fault::WrongDestination => ("wrong destination", ""),
             Fault::Forbidden(why) => why.words(),
@@ -239,8 +239,10 @@ fn write_body<S: TextSink>(sink: &mut S, fault: Fault, text: &[u8])
 fn close_body<S: TextSink>(sink: &mut S, fault: Fault)
     ensures { (taken : List ℕ) → S.has_taken sink.old taken → S.has_taken sink.new (taken ++ body_end fault) }
 {
-    if fault == Fault::IncompatibleVersion {
-        sink.put(b",\"room_version\":\"6\"}");
+    if let Fault::IncompatibleVersion(version) = fault {
+        sink.put(b",\"room_version\":\"");
+        sink.put(version.text().as_bytes());
+        sink.put(b"\"}");
     } else {
         sink.put(b"}");
     }

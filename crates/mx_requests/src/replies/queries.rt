@@ -9,6 +9,7 @@ ghost use Rattle.mx_requests.specs.RepliesShown.{reply_shown};
 use crate::faults::{Denial, Fault};
 use crate::replies::pieces::{write_events, write_ids, write_number};
 use crate::replies::{ReplyBody, WireReply, fault_reply};
+use mx_auth::RoomVersion;
 use mx_canon::{TextBuffer, TextSink, write_key, write_object, write_string};
 use mx_ident::{EventId, ServerName};
 use mx_pdu::Pdu;
@@ -53,7 +54,7 @@ pub(crate) fn denied_fault(denied: Denied) -> Fault
         Denied::NotInRoom => Fault::Forbidden(Denial::NotInRoom),
         Denied::NotFound => Fault::NotFound,
         Denied::OtherServer => Fault::Forbidden(Denial::UserOfAnotherServer),
-        Denied::WrongVersion => Fault::IncompatibleVersion,
+        Denied::WrongVersion(version) => Fault::IncompatibleVersion(version),
         Denied::Rule(rule) => Fault::Forbidden(Denial::Rule(rule)),
     }
 }
@@ -78,7 +79,7 @@ fn query_body(
         }
         QueryReply::EventAuth(chain) => chain_body(alloc, chain.as_slice()),
         QueryReply::Events(events) => events_body(alloc, name, now, query, events.as_slice()),
-        QueryReply::Template(template) => template_body(alloc, name, template),
+        QueryReply::Template(version, template) => template_body(alloc, name, version, template),
     }
 }
 
@@ -216,14 +217,15 @@ fn write_missing<S: TextSink>(sink: &mut S, events: &[Pdu])
 fn template_body(
     alloc: Global,
     name: &ServerName,
+    version: RoomVersion,
     template: JoinTemplate,
 ) -> Result<Vec<u8>, AllocError>
     ensures { IfOk result (λ body.
-        body.items ≡ canonical_text (definition.template_data (definition.with_origin name.now template))) }
+        body.items ≡ canonical_text (definition.template_data version (definition.with_origin name.now template))) }
 {
     let event = with_origin(alloc, name, template)?;
     let mut body = TextBuffer::new(alloc);
-    write_template(&mut body, &event);
+    write_template(&mut body, version, &event);
     let bytes = body.into_bytes()?;
     Ok(bytes)
 }
@@ -249,14 +251,14 @@ fn text_value(alloc: Global, text: &str) -> Result<Value, AllocError>
     Ok(Value::String(text))
 }
 
-fn write_template<S: TextSink>(sink: &mut S, event: &Map<String, Value>)
+fn write_template<S: TextSink>(sink: &mut S, version: RoomVersion, event: &Map<String, Value>)
     ensures { (taken : List ℕ) → S.has_taken sink.old taken → S.has_taken sink.new
-        (taken ++ canonical_text (definition.template_data (object (members_view event.now.entries)))) }
+        (taken ++ canonical_text (definition.template_data version (object (members_view event.now.entries)))) }
 {
     sink.put(b"{");
     write_key(sink, false, b"event");
     write_object(sink, event);
     write_key(sink, true, b"room_version");
-    write_string(sink, b"6");
+    write_string(sink, version.text().as_bytes());
     sink.put(b"}");
 }
