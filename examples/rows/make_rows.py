@@ -3,7 +3,7 @@
 
 Each log is a worked row: `NAME.jsonl` is what `mx_federd replay` reads, and `NAME.answers.jsonl` what it has to print.
 The events get their true hashes and ids here. The answers are written by hand, by the authorization rules of room
-version 6 and the checks on receipt of an event; nothing here was taken from what the program prints."""
+versions 6 and 7 and the checks on receipt of an event; nothing here was taken from what the program prints."""
 
 from request_rows import REQUEST_ROWS, life_of_a_room
 from row_events import (
@@ -11,6 +11,7 @@ from row_events import (
     message, rejected, rules, sealed, topic, unsigned, without,
 )
 from state_rows import STATE_ROWS
+from version_rows import VERSION_ROWS
 
 
 def host_refusals(log):
@@ -28,7 +29,7 @@ def host_refusals(log):
     host("rule A1.1", prev_events=["$x"])
     host("rule A1.2", room_id="!r:z.example")
     host("rule A1.3", content={"creator": A})
-    host("rule A1.3", content={"creator": A, "room_version": "7"})
+    host("rule A1.3", content={"creator": A, "room_version": "8"})
     host("not a create event", type="m.room.message")
     host("not a create event", state_key="k")
     host("malformed", auth_events=["$x"])
@@ -643,6 +644,7 @@ ROWS = (
     demotion_before_the_topic, soft_failure, soft_failed_invite, rejected_parent, state_before_rejects,
     create_in_the_auth_difference, invited_after_leaving, left_after_the_invite, invited_by_newer_power_levels,
     invited_by_equal_power_levels, resolution_of_65_states, bad_lines, *REQUEST_ROWS, *STATE_ROWS,
+    *VERSION_ROWS,
 )
 
 

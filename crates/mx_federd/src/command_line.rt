@@ -157,6 +157,9 @@ fn serve_of(alloc: Global, given: &ArgMatches) -> Result<Command, CommandLineErr
     let Some(name) = name_of(alloc, given)? else {
         return misused(alloc, "the name is no server name\n");
     };
+    if given.get_str("data") == Some("") {
+        return misused(alloc, "the directory has no name\n");
+    }
     match options_of(alloc, given, name)? {
         Some(options) => Ok(Command::Serve(options)),
         None => misused(alloc, "a number is outside its limits\n"),

@@ -7,6 +7,7 @@ use Rattle.mx_ident.specs.Identifier.{refuse_if}
 use Rattle.mx_redact.specs.Fields.{Event}
 use Rattle.mx_pdu.specs.Event.{has_kind, prev_ids}
 use Rattle.mx_auth.specs.Rules.{rules, create_lines, first_line, where_so, reject_if, Line}
+use Rattle.mx_auth.specs.declared.versions.RoomVersion.{RoomVersion}
 use Rattle.mx_auth.specs.StateView.{StateView}
 use Rattle.mx_auth.specs.declared.refusals.Rule.TheVariants.{CreateHasPrevEvents}
 use Rattle.mx_graph.specs.declared.refusals.NotAdded.TheVariants.{Known, MissingPrevEvent, MissingAuthEvent, Full}
@@ -42,14 +43,14 @@ of_create true e lines k h = no_ids (prev_ids e) (first-passes (nat_lt 0 (length
 of_create false e lines k h = absurd (cc k)
 
 -- a create event that the rules allow has no prev events
-pub create-first : (e : Event) (s : StateView) → has_kind (codes "m.room.create") e ≡ true → rules e s ≡ None → prev_ids e ≡ []
+pub create-first : (v : RoomVersion) (e : Event) (s : StateView) → has_kind (codes "m.room.create") e ≡ true → rules v e s ≡ None → prev_ids e ≡ []
 unfolding rules
-create-first e s kind allowed = of_create (has_kind (codes "m.room.create") e) e _ kind allowed
+create-first v e s kind allowed = of_create (has_kind (codes "m.room.create") e) e _ kind allowed
 
 pub sound-free : (e : Event) (id : List ℕ) → IsSoundCreate e → add_error [] (record { id = id; event = e; rejected = false }) ≡ None
 unfolding add_error
 sound-free e id sound = λ i.
-    refuse_if {E = NotAdded} false Known (refuse_if {E = NotAdded} (not (list_all (is_known []) (create-first e (view [] []) sound.kind sound.allowed i))) MissingPrevEvent
+    refuse_if {E = NotAdded} false Known (refuse_if {E = NotAdded} (not (list_all (is_known []) (create-first _ e (view [] []) sound.kind sound.allowed i))) MissingPrevEvent
     (refuse_if {E = NotAdded} (not (list_all (is_known []) (sound.auth_events i))) MissingAuthEvent (refuse_if {E = NotAdded} (nat_le most_rows 0) Full None)))
 
 empty-current : current_state [] ≡ []

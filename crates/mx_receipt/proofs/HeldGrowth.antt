@@ -7,8 +7,7 @@ use Rattle.mx_graph.specs.Graph.{IsSound}
 use Rattle.mx_graph.specs.Record.{Row}
 use Rattle.mx_orders.specs.StateMap.{State}
 use Rattle.mx_state_res.specs.Numbered.{AreAdded, AreKnown, state_at}
-use Rattle.mx_state_res.specs.Resolution.{resolve}
-use Rattle.mx_receipt.specs.Receipt.{states_at}
+use Rattle.mx_receipt.specs.Receipt.{resolve_in, states_at}
 use Rattle.mx_receipt.specs.Judgements.{AreBelow, ArePast, IsHeld, IsJudged, IsKept, afters, is_marked, judged_by, judged_in, verdicts_in}
 use Rattle.mx_receipt.specs.declared.snapshots.Judgement.{Judgement}
 use Rattle.mx_receipt.proofs.HeldLemmas.{added-below, added-judged, all-known, judged-length, judged-push, known-longer}
@@ -44,7 +43,7 @@ module _ (rows : List Row) (old : List State) (js : List Judgement) (exts : List
       (below-push rows (judged_in old js) exts (state_at old cur) held.is_kept r (judged_by mid j) exts' is_judged)
 
   module _ (sound : IsSound rows) (after : IsSound (rows ++ r ∷ [])) (new : List State) (more : AreAdded (rows ++ r ∷ []) mid new) (cur' : ℕ) (below : cur' < length new)
-      (current : state_at new cur' ≡ resolve (rows ++ r ∷ []) (states_at (afters (judged_in mid (js ++ j ∷ []))) exts'))
+      (current : state_at new cur' ≡ resolve_in (rows ++ r ∷ []) (states_at (afters (judged_in mid (js ++ j ∷ []))) exts'))
       (past : ArePast (rows ++ r ∷ []) (verdicts_in (js ++ j ∷ [])) exts' (is_marked (js ++ j ∷ []))) where
     known-new : AreKnown (rows ++ r ∷ []) new
     known-new = all-known (rows ++ r ∷ []) mid new known-mid more
@@ -57,7 +56,7 @@ module _ (rows : List Row) (old : List State) (js : List Judgement) (exts : List
       is_kept =
           subst (λ is. IsKept (rows ++ r ∷ []) is exts' (state_at new cur')) (sym are-new)
           (kept-push rows (judged_in old js) exts (state_at old cur) held.is_kept r (judged_by mid j) exts' is_judged sound after (state_at new cur')
-          (current ∙ ap (λ is. resolve (rows ++ r ∷ []) (states_at (afters is) exts')) are-mid)
+          (current ∙ ap (λ is. resolve_in (rows ++ r ∷ []) (states_at (afters is) exts')) are-mid)
           (All-get_or (λ s. All (λ e. e.1 < length (rows ++ r ∷ [])) s) new cur' [] below known-new));
       below = added-below (rows ++ r ∷ []) mid new (js ++ j ∷ []) more numbers-mid;
       below_current = below;

@@ -6,7 +6,6 @@ use Rattle.std.specs.Prelude.{get_or, slice_index_or}
 use Rattle.std.specs.List.{All}
 use Rattle.mx_orders.specs.StateMap.{State}
 use Rattle.mx_graph.specs.Record.{Row, no_row}
-use Rattle.mx_redact.specs.Fields.{Event}
 use Rattle.mx_state_res.specs.Numbered.{AreAdded, AreKnown, state_at}
 use Rattle.mx_receipt.specs.Receipt.{states_at}
 use Rattle.mx_receipt.specs.Judgements.{Judged, AreBelow, afters, judged_by, judged_in, numbers_after, verdicts_in, verdicts_of}

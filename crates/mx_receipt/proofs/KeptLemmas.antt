@@ -12,8 +12,7 @@ use Rattle.mx_redact.specs.Fields.{Event}
 use Rattle.mx_auth.specs.Rules.{rules}
 use Rattle.mx_graph.specs.Record.{Row, is_in, events_where, prev_events}
 use Rattle.mx_orders.specs.StateMap.{State, with_event, view}
-use Rattle.mx_state_res.specs.Resolution.{resolve}
-use Rattle.mx_receipt.specs.Receipt.{Kept, verdict, accept_or, auth_failure, before_event, is_accepted, is_rejected, rows_of, states_at, with_kept, states_after, state_before, state_before_next, forward_extremities, current_state}
+use Rattle.mx_receipt.specs.Receipt.{Kept, verdict, accept_or, auth_failure, before_event, version_in, resolve_in, is_accepted, is_rejected, rows_of, states_at, with_kept, states_after, state_before, state_before_next, forward_extremities, current_state}
 use Rattle.mx_receipt.specs.Judgements.{Judged, kept_of, kept_row, verdicts_of, afters, befores, Knows, KnowsAll, IsKept, IsJudged, AreNext, leads_on}
 use Rattle.mx_receipt.specs.declared.verdicts.Verdict.TheVariants.{Accepted, SoftFailed, Rejected}
 use Rattle.mx_state_res.proofs.SetLemmas.{is_in-filter}
@@ -148,11 +147,11 @@ module _ (rows : List Row) (js : List Judged) (exts : List ℕ) (cur : State) (o
         by true e = replaced e (next.are_next.replace e)
         by false e = next.are_next.stay e ∙ old.are_extremities ∙ sym (extremities-kept K k sound_of after_of e)
 
-    module _ (cur' : State) (current : cur' ≡ resolve (rows ++ r ∷ []) (states_at (afters (js ++ j ∷ [])) exts')) (knows_current : Knows (rows ++ r ∷ []) cur') where
+    module _ (cur' : State) (current : cur' ≡ resolve_in (rows ++ r ∷ []) (states_at (afters (js ++ j ∷ [])) exts')) (knows_current : Knows (rows ++ r ∷ []) cur') where
       current-push : cur' ≡ current_state (K ++ k ∷ [])
       unfolding current_state
       current-push =
-          current ∙ λ i. resolve (sym rows-push i) (states_at ((afters-push ∙ ap (states_after (K ++ k ∷ [])) longer) i) (extremities-push i))
+          current ∙ λ i. resolve_in (sym rows-push i) (states_at ((afters-push ∙ ap (states_after (K ++ k ∷ [])) longer) i) (extremities-push i))
 
       pub kept-push : IsKept (rows ++ r ∷ []) (js ++ j ∷ []) exts' cur'
       kept-push =
@@ -170,24 +169,24 @@ module _ (rows : List Row) (js : List Judged) (exts : List ℕ) (cur : State) (o
           }
 
 -- the current state that is kept is the resolution of the states after the forward extremities
-pub current-is : (rows : List Row) (js : List Judged) (exts : List ℕ) (cur : State) → IsKept rows js exts cur → cur ≡ resolve rows (states_at (afters js) exts)
+pub current-is : (rows : List Row) (js : List Judged) (exts : List ℕ) (cur : State) → IsKept rows js exts cur → cur ≡ resolve_in rows (states_at (afters js) exts)
 unfolding current_state
 current-is rows js exts cur kept =
     let same : afters js ≡ states_after (kept_of rows js) (length (kept_of rows js)) = kept.afters ∙ ap (states_after (kept_of rows js)) (sym (kept_of-length rows js kept.count)) in
-    kept.is_current ∙ sym (λ i. resolve (kept.are_kept i) (states_at (same i) (kept.are_extremities i)))
+    kept.is_current ∙ sym (λ i. resolve_in (kept.are_kept i) (states_at (same i) (kept.are_extremities i)))
 
 -- ---- the verdict and the state before, from what is kept
 
 module _ (rows : List Row) (js : List Judged) (exts : List ℕ) (cur : State) (kept : IsKept rows js exts cur) (e : Event) where
-  pub before-is : resolve rows (states_at (afters js) (events_where rows (is_in (prev_events rows e)))) ≡ state_before_next (kept_of rows js) e
+  pub before-is : resolve_in rows (states_at (afters js) (events_where rows (is_in (prev_events rows e)))) ≡ state_before_next (kept_of rows js) e
   unfolding state_before_next before_event
   before-is =
       let same : afters js ≡ states_after (kept_of rows js) (length (kept_of rows js)) = kept.afters ∙ ap (states_after (kept_of rows js)) (sym (kept_of-length rows js kept.count)) in
-      λ i. resolve (kept.are_kept i) (states_at (same i) (events_where (kept.are_kept i) (is_in (prev_events (kept.are_kept i) e))))
+      λ i. resolve_in (kept.are_kept i) (states_at (same i) (events_where (kept.are_kept i) (is_in (prev_events (kept.are_kept i) e))))
 
   pub verdict-is : (before : State) → before ≡ state_before_next (kept_of rows js) e
-      → accept_or Rejected (auth_failure rows e) (accept_or Rejected (rules e (view rows before)) (accept_or SoftFailed (rules e (view rows cur)) Accepted)) ≡ verdict (kept_of rows js) e
+      → accept_or Rejected (auth_failure rows e) (accept_or Rejected (rules (version_in rows) e (view rows before)) (accept_or SoftFailed (rules (version_in rows) e (view rows cur)) Accepted)) ≡ verdict (kept_of rows js) e
   unfolding verdict
   verdict-is before b = λ i.
       accept_or Rejected (auth_failure (kept.are_kept i) e)
-      (accept_or Rejected (rules e (view (kept.are_kept i) (b i))) (accept_or SoftFailed (rules e (view (kept.are_kept i) (kept.is_current i))) Accepted))
+      (accept_or Rejected (rules (version_in (kept.are_kept i)) e (view (kept.are_kept i) (b i))) (accept_or SoftFailed (rules (version_in (kept.are_kept i)) e (view (kept.are_kept i) (kept.is_current i))) Accepted))

@@ -16,7 +16,13 @@ use Rattle.mx_graph.specs.Record.{Row, is_in}
 use Rattle.mx_orders.specs.StateMap.{State}
 use Rattle.mx_state_res.specs.Numbered.{AreAdded, AreKnown, state_at}
 use Rattle.mx_state_res.specs.Resolution.{resolve}
+use Rattle.mx_state_res.proofs.ChangeLemmas.{resolve-none}
+use Rattle.mx_state_res.proofs.EqualStateLemmas.{resolve-same}
+use Rattle.mx_state_res.proofs.KeyLemmas.{Sorted}
 use Rattle.mx_state_res.proofs.LongerRecordLemmas.{resolve-longer}
+use Rattle.mx_auth.specs.declared.versions.RoomVersion.{RoomVersion}
+use Rattle.mx_auth.specs.declared.versions.RoomVersion.TheVariants.{V6}
+use Rattle.mx_receipt.specs.Receipt.{created_version, resolve_in}
 use Rattle.mx_receipt.specs.Resolutions.{AreRight, IsResolution}
 use Rattle.mx_receipt.specs.declared.resolution_cache.ResolutionCache.{ResolutionCache}
 use Rattle.mx_receipt.proofs.HeldLemmas.{grown-length, grown-state, known-longer, one-longer}
@@ -38,19 +44,44 @@ module _ (rows : List Row) (old more new : List State) (are : new ≡ old ++ mor
     below = below-grown h.below;
     state_below = grown-length old more new s are h.state_below;
     known = subst (AreKnown rows) (sym (same-states old more new are ns h.below)) h.known;
-    resolved = grown-state old more new s are h.state_below ∙ h.resolved ∙ ap (resolve rows) (sym (same-states old more new are ns h.below));
+    resolved = grown-state old more new s are h.state_below ∙ h.resolved ∙ ap (resolve_in rows) (sym (same-states old more new are ns h.below));
   }
 
   -- one that was found
-  resolution-found : (s : ℕ) → AreKnown rows old → All (λ n. n < length old) ns → s < length new → state_at new s ≡ resolve rows (map (state_at old) ns) → IsResolution rows new ns s
+  resolution-found : (s : ℕ) → AreKnown rows old → All (λ n. n < length old) ns → s < length new → state_at new s ≡ resolve_in rows (map (state_at old) ns) → IsResolution rows new ns s
   resolution-found s known below l is = record {
     below = below-grown below;
     state_below = l;
     known =
         subst (AreKnown rows) (sym (same-states old more new are ns below))
         (All-map (λ t. All (λ e. e.1 < length rows) t) (state_at old) ns (λ k d m. All-get_or (λ t. All (λ e. e.1 < length rows) t) old (get_or ns k d) [] (below k d m) known));
-    resolved = is ∙ ap (resolve rows) (sym (same-states old more new are ns below));
+    resolved = is ∙ ap (resolve_in rows) (sym (same-states old more new are ns below));
   }
+
+-- ---- the version of a record's room
+
+no_events : (s : State) → All (λ e. e.1 < 0) s → s ≡ []
+no_events [] h = refl
+no_events (e ∷ s) h = absurd (let l : e.1 < 0 = h 0 e (omega arith) in omega arith)
+
+-- in a record without events the version says nothing
+resolve-versions : (v w : RoomVersion) (states : List State) → AreKnown [] states → resolve v [] states ≡ resolve w [] states
+resolve-versions v w [] known = resolve-none v [] ∙ sym (resolve-none w [])
+resolve-versions v w (s ∷ others) known = resolve-same v [] s sorted others same ∙ sym (resolve-same w [] s sorted others same)
+  where
+    first : s ≡ []
+    first = no_events s (known 0 s (omega arith))
+
+    sorted : Sorted s
+    sorted = subst Sorted (sym first) tt
+
+    same : All (λ t. t ≡ s) others
+    same = λ k d l. no_events (get_or others k d) (known (suc k) d (omega arith)) ∙ sym first
+
+resolve_in-longer : (rows : List Row) (r : Row) (states : List State) → IsSound rows → IsSound (rows ++ r ∷ []) → AreKnown rows states → resolve_in (rows ++ r ∷ []) states ≡ resolve_in rows states
+resolve_in-longer [] r states sound after known =
+    resolve-longer (created_version r.event) [] r states sound after known ∙ resolve-versions (created_version r.event) V6 states known
+resolve_in-longer (q ∷ rows) r states sound after known = resolve-longer (created_version q.event) (q ∷ rows) r states sound after known
 
 -- nor does a row
 resolution-longer : (rows : List Row) (r : Row) (states : List State) (ns : List ℕ) (s : ℕ) → IsSound rows → IsSound (rows ++ r ∷ []) → IsResolution rows states ns s → IsResolution (rows ++ r ∷ []) states ns s
@@ -58,7 +89,7 @@ resolution-longer rows r states ns s sound after h = record {
   below = h.below;
   state_below = h.state_below;
   known = known-longer rows (rows ++ r ∷ []) (map (state_at states) ns) (one-longer rows r) h.known;
-  resolved = h.resolved ∙ sym (resolve-longer rows r (map (state_at states) ns) sound after h.known);
+  resolved = h.resolved ∙ sym (resolve_in-longer rows r (map (state_at states) ns) sound after h.known);
 }
 
 -- ---- a cache of them
@@ -74,7 +105,7 @@ right-longer rows r states cache sound after h = λ e m. resolution-longer rows 
 
 -- with the entries of another one, and one that was found
 pub right-put : (rows : List Row) (old new : List State) (cache after : ResolutionCache) (ns : List ℕ) (s : ℕ) → AreAdded rows old new → AreKnown rows old → AreRight rows old cache
-    → All (λ n. n < length old) ns → s < length new → state_at new s ≡ resolve rows (map (state_at old) ns)
+    → All (λ n. n < length old) ns → s < length new → state_at new s ≡ resolve_in rows (map (state_at old) ns)
     → ((e : Vec ℕ Global × ℕ) → Contains after.resolutions.entries e → Contains cache.resolutions.entries e ⊎ ((e.0.items ≡ ns) × (e.1 ≡ s)))
     → AreRight rows new after
 right-put rows old new cache after ns s added known h below l is put = λ e m. by e (put e m)

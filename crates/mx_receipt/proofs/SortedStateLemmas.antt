@@ -1,22 +1,23 @@
 -- The states of a record are in the order of their keys.
-use Rattle.std.proofs.Common.{◌≡◌, ◌<◌, ◌++◌, ℕ, zero, suc, Bool, true, false, not, ◌&&◌, List, [], ◌∷◌, filter, map, length, sym, ap, subst, ◌∙◌, arith, Option, Some, None}
-use Rattle.std.proofs.lemmas.List.Elements.{All-append, All-get_or, All-map}
+use Rattle.std.proofs.Common.{◌≡◌, ◌<◌, ◌++◌, ℕ, zero, suc, Bool, true, false, not, List, [], ◌∷◌, filter, map, length, sym, subst, arith, Option, Some, None}
+use Rattle.std.proofs.lemmas.List.Elements.{All-append, All-map}
 use Rattle.std.specs.Prelude.{get_or, if◌then◌else◌, option_map, slice_index_or, take, unwrap_or}
 use Rattle.std.specs.FinMap.Entries.{put}
 use Rattle.std.specs.List.{All}
 use Rattle.mx_redact.specs.Fields.{Event}
 use Rattle.mx_auth.specs.Rules.{Key, key_of}
+use Rattle.mx_auth.specs.declared.versions.RoomVersion.{RoomVersion}
 use Rattle.mx_graph.specs.Record.{Row, event, is_in}
 use Rattle.mx_orders.specs.Mainline.{mainline, mainline_order, power_key}
 use Rattle.mx_orders.specs.PowerOrder.{power_order}
 use Rattle.mx_orders.specs.StateMap.{State, entry, key_cmp, with_event}
 use Rattle.mx_state_res.specs.Numbered.{AreAdded, state_at}
-use Rattle.mx_state_res.specs.Resolution.{after_check, full_conflicted, in_every, is_allowed, iterative_auth_checks, power_events, resolve, unconflicted}
+use Rattle.mx_state_res.specs.Resolution.{after_check, full_conflicted, in_every, iterative_auth_checks, power_events, resolve, unconflicted}
 use Rattle.mx_state_res.proofs.EntryLemmas.{sorted-overwritten}
 use Rattle.mx_state_res.proofs.KeyLemmas.{Sorted, sorted-filter}
 use Rattle.mx_state_res.proofs.PlaceLemmas.{sorted-put}
-use Rattle.mx_receipt.specs.Receipt.{Kept, before_event, is_rejected, kept_at, rows_of, state_before_next, states_after, states_at, with_kept}
-use Rattle.mx_receipt.specs.Judgements.{AreBelow, AreSorted, IsHeld, IsJudged, Judged, afters, judged_by, judged_in, kept_of, kept_row, numbers_after}
+use Rattle.mx_receipt.specs.Receipt.{Kept, before_event, version_in, is_rejected, kept_at, rows_of, state_before_next, states_after, with_kept}
+use Rattle.mx_receipt.specs.Judgements.{AreBelow, AreSorted, IsHeld, IsJudged, Judged, afters, judged_in, kept_of, kept_row, numbers_after}
 use Rattle.mx_receipt.specs.declared.snapshots.Judgement.{Judgement}
 use Rattle.mx_receipt.proofs.HeldLemmas.{added-state}
 
@@ -36,13 +37,13 @@ either-sorted false s t h k = k
 kept-sorted : (s : State) (k : Kept) (p : ℕ) → Sorted s → Sorted (with_kept s k p)
 kept-sorted s k p h = either-sorted (is_rejected k.verdict) s (with_event s k.event p) h (event-sorted s k.event p h)
 
-check-sorted : (rows : List Row) (s : State) (p : ℕ) → Sorted s → Sorted (after_check rows s p)
+check-sorted : (v : RoomVersion) (rows : List Row) (s : State) (p : ℕ) → Sorted s → Sorted (after_check v rows s p)
 unfolding after_check
-check-sorted rows s p h = either-sorted _ (with_event s (event rows p) p) s (event-sorted s (event rows p) p h) h
+check-sorted v rows s p h = either-sorted _ (with_event s (event rows p) p) s (event-sorted s (event rows p) p h) h
 
-checks-sorted : (rows : List Row) (s : State) (events : List ℕ) → Sorted s → Sorted (iterative_auth_checks rows s events)
-checks-sorted rows s [] h = h
-checks-sorted rows s (p ∷ events) h = checks-sorted rows (after_check rows s p) events (check-sorted rows s p h)
+checks-sorted : (v : RoomVersion) (rows : List Row) (s : State) (events : List ℕ) → Sorted s → Sorted (iterative_auth_checks v rows s events)
+checks-sorted v rows s [] h = h
+checks-sorted v rows s (p ∷ events) h = checks-sorted v rows (after_check v rows s p) events (check-sorted v rows s p h)
 
 -- ---- a resolution
 
@@ -51,15 +52,15 @@ unfolding unconflicted
 unconflicted-sorted [] h = tt
 unconflicted-sorted (s ∷ states) h = sorted-filter (in_every states) s (h 0 s (omega arith))
 
-pub resolve-sorted : (rows : List Row) (states : List State) → All Sorted states → Sorted (resolve rows states)
+pub resolve-sorted : (v : RoomVersion) (rows : List Row) (states : List State) → All Sorted states → Sorted (resolve v rows states)
 unfolding resolve
-resolve-sorted rows states h =
+resolve-sorted v rows states h =
     let full = full_conflicted rows states in
     let power = power_events rows full in
-    let partial = iterative_auth_checks rows (unconflicted states) (power_order rows power) in
+    let partial = iterative_auth_checks v rows (unconflicted states) (power_order rows power) in
     let order = mainline_order rows (mainline rows (entry partial power_key)) (filter (λ p. not (is_in power p)) full) in
-    sorted-overwritten (unconflicted states) (iterative_auth_checks rows partial order)
-    (checks-sorted rows partial order (checks-sorted rows (unconflicted states) (power_order rows power) (unconflicted-sorted states h)))
+    sorted-overwritten (unconflicted states) (iterative_auth_checks v rows partial order)
+    (checks-sorted v rows partial order (checks-sorted v rows (unconflicted states) (power_order rows power) (unconflicted-sorted states h)))
 
 -- ---- the states before and after events
 
@@ -70,7 +71,7 @@ at-sorted (s ∷ states) (suc p) h = at-sorted states p (λ k d l. h (suc k) d (
 
 before-sorted : (rows : List Row) (states : List State) (e : Event) → All Sorted states → Sorted (before_event rows states e)
 unfolding before_event
-before-sorted rows states e h = resolve-sorted rows _ (All-map Sorted (λ p. slice_index_or states p []) _ (λ k d l. at-sorted states _ h))
+before-sorted rows states e h = resolve-sorted (version_in rows) rows _ (All-map Sorted (λ p. slice_index_or states p []) _ (λ k d l. at-sorted states _ h))
 
 one : (s : State) → Sorted s → All Sorted (s ∷ [])
 one s h zero d l = h

@@ -1,5 +1,5 @@
 -- Checks performed on receipt of a PDU, forward extremities and room state (Matrix specification, Server-Server API).
-use Rattle.std.specs.Prelude.{ℕ, zero, suc, nat_le, Bool, true, false, not, if◌then◌else◌, List, [], ◌∷◌, ◌++◌, codes, map, length, take, slice_index_or, filter, Option, None, Some, is_some, is_none}
+use Rattle.std.specs.Prelude.{ℕ, zero, suc, nat_le, Bool, true, false, not, if◌then◌else◌, List, [], ◌∷◌, ◌++◌, codes, map, length, take, slice_index_or, filter, unwrap_or, Option, None, Some, is_some, is_none}
 use Rattle.std.specs.Option.{option_or}
 use Rattle.std.specs.List.{list_any}
 use Rattle.serde_json.specs.Data.{null}
@@ -7,6 +7,9 @@ use Rattle.mx_ident.specs.Identifier.{refuse_if}
 use Rattle.mx_redact.specs.Fields.{Event}
 use Rattle.mx_pdu.specs.Event.{has_kind, prev_ids, auth_ids}
 use Rattle.mx_auth.specs.Rules.{rules, auth_rules}
+use Rattle.mx_auth.specs.Versions.{version_of}
+use Rattle.mx_auth.specs.declared.versions.RoomVersion.{RoomVersion}
+use Rattle.mx_auth.specs.declared.versions.RoomVersion.TheVariants.{V6}
 use Rattle.mx_auth.specs.declared.refusals.Rule.{Rule}
 use Rattle.mx_graph.specs.Adding.{most_rows}
 use Rattle.mx_graph.specs.Record.{Row, event, row, place_of, events_where, is_in, prev_events, auth_events}
@@ -41,6 +44,21 @@ rows_of = map (λ k. record { id = k.id; event = k.event; rejected = is_rejected
 abbrev pub kept_at : List Kept → ℕ → Kept
 kept_at kept p = slice_index_or kept p (record { id = []; event = null; verdict = Accepted })
 
+-- ---- The version of a room (Matrix specification, m.room.create)
+
+-- the version that a create event names; where it names none that is recognised, 6, which no hosted room asks
+abbrev pub created_version : Event → RoomVersion
+created_version create = unwrap_or (version_of create) V6
+
+-- the version of a record's room: that of the event that begins it
+abbrev pub version_in : List Row → RoomVersion
+version_in [] = V6
+version_in (r ∷ rows) = created_version r.event
+
+-- what states resolve to, by the version of the record's room
+abbrev pub resolve_in : List Row → List State → State
+resolve_in rows states = resolve (version_in rows) rows states
+
 -- ---- The state before and after an event (Matrix specification, Server-Server API, PDUs; State Resolution v2)
 
 -- the states after some events, of the states after all, in order
@@ -49,7 +67,7 @@ states_at states = map (λ p. slice_index_or states p [])
 
 -- the state before an event that comes next, from the states after all events so far: those after its prev events, each once, resolved
 unfoldable pub before_event : List Row → List State → Event → State
-before_event rows states e = resolve rows (states_at states (events_where rows (is_in (prev_events rows e))))
+before_event rows states e = resolve_in rows (states_at states (events_where rows (is_in (prev_events rows e))))
 
 -- the state with the event at its key, where it is a state event and not rejected
 abbrev pub with_kept : State → Kept → ℕ → State
@@ -86,15 +104,15 @@ forward_extremities kept =
 unfoldable pub current_state : List Kept → State
 current_state kept =
     let states = states_after kept (length kept) in
-    resolve (rows_of kept) (states_at states (forward_extremities kept))
+    resolve_in (rows_of kept) (states_at states (forward_extremities kept))
 
 -- ---- Checks performed on receipt of a PDU
 
 -- check 4: the event's auth events, and then the rules on the state that they make
 unfoldable pub auth_failure : List Row → Event → Option Rule
 auth_failure rows e =
-    option_or (auth_rules e (map (λ p. record { event = event rows p; rejected = (row rows p).rejected }) (auth_events rows e)))
-    (rules e (view rows (state_of rows (auth_events rows e))))
+    option_or (auth_rules (version_in rows) e (map (λ p. record { event = event rows p; rejected = (row rows p).rejected }) (auth_events rows e)))
+    (rules (version_in rows) e (view rows (state_of rows (auth_events rows e))))
 
 abbrev pub accept_or : (Rule → Verdict) → Option Rule → Verdict → Verdict
 accept_or fails None next = next
@@ -105,8 +123,8 @@ unfoldable pub verdict : List Kept → Event → Verdict
 verdict kept e =
     let rows = rows_of kept in
     accept_or Rejected (auth_failure rows e)
-    (accept_or Rejected (rules e (view rows (state_before_next kept e)))
-    (accept_or SoftFailed (rules e (view rows (current_state kept))) Accepted))
+    (accept_or Rejected (rules (version_in rows) e (view rows (state_before_next kept e)))
+    (accept_or SoftFailed (rules (version_in rows) e (view rows (current_state kept))) Accepted))
 
 -- the event under its verdict
 abbrev pub judged : List Kept → List ℕ → Event → Kept

@@ -5,7 +5,7 @@ use Rattle.std.specs.declared.alloc.Global.{Global}
 use Rattle.mx_graph.specs.Record.{Row}
 use Rattle.mx_orders.specs.StateMap.{State}
 use Rattle.mx_state_res.specs.Numbered.{AreKnown, state_at}
-use Rattle.mx_state_res.specs.Resolution.{resolve}
+use Rattle.mx_receipt.specs.Receipt.{resolve_in}
 use Rattle.mx_receipt.specs.declared.resolution_cache.ResolutionCache.{ResolutionCache}
 
 -- states by their numbers, and the one that they resolve to
@@ -13,7 +13,7 @@ pub record IsResolution (rows : List Row) (states : List State) (numbers : List 
   pub below : All (λ n. n < length states) numbers
   pub state_below : state < length states
   pub known : AreKnown rows (map (state_at states) numbers)
-  pub resolved : state_at states state ≡ resolve rows (map (state_at states) numbers)
+  pub resolved : state_at states state ≡ resolve_in rows (map (state_at states) numbers)
 
 -- each entry is a resolution
 abbrev pub AreRight : List Row → List State → ResolutionCache → Type 0

@@ -10,7 +10,7 @@ ghost use Rattle.mx_receipt.specs.Receipt as definition;
 ghost use Rattle.mx_receipt.specs.Citing.{cited_in};
 ghost use Rattle.mx_receipt.specs.declared.verdicts.Verdict.TheVariants.{Accepted, SoftFailed as soft_failed, Rejected as rejected};
 
-use crate::room_states::{failure_by, failure_in};
+use crate::room_states::{failure_by, failure_in, version_in};
 use crate::verdicts::Verdict;
 use mx_auth::{CitedEvent, Rule, judge_auth_events};
 use mx_graph::{EventNo, Graph};
@@ -38,8 +38,8 @@ pub(crate) fn judged(
     requires current { current < length states.now }
     ensures { IfOk result (λ verdict. verdict
         ≡ definition.accept_or rejected (definition.auth_failure graph.now event.now)
-        (definition.accept_or rejected (rules event.now (view graph.now (state_at states.now before)))
-        (definition.accept_or soft_failed (rules event.now (view graph.now (state_at states.now current))) Accepted))) }
+        (definition.accept_or rejected (rules (definition.version_in graph.now) event.now (view graph.now (state_at states.now before)))
+        (definition.accept_or soft_failed (rules (definition.version_in graph.now) event.now (view graph.now (state_at states.now current))) Accepted))) }
 {
     if let Some(rule) = auth_failure(alloc, graph, event, auth_events)? {
         return Ok(Verdict::Rejected(rule));
@@ -69,7 +69,7 @@ fn auth_failure(
     ensures { IfOk result (λ rule. rule ≡ definition.auth_failure graph.now event.now) }
 {
     let cited = cited_events(alloc, graph, auth_events)?;
-    if let Err(rule) = judge_auth_events(event, &cited) {
+    if let Err(rule) = judge_auth_events(version_in(graph), event, &cited) {
         return Ok(Some(rule));
     }
     Ok(failure_by(graph, auth_events, event))

@@ -16,5 +16,6 @@ mod timelines;
 mod verdicts;
 
 pub use refusals::{NotReceived, OfferError};
+pub use room_states::created_version;
 pub use timelines::{Timeline, timeline_ids_differ, timeline_is_sound};
 pub use verdicts::Verdict;

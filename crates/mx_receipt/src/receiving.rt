@@ -5,7 +5,6 @@ ghost use Rattle.mx_graph.specs.Edges.{Rises};
 ghost use Rattle.mx_graph.specs.Graph.{IsSound};
 ghost use Rattle.mx_graph.specs.Record as record_of;
 ghost use Rattle.mx_orders.specs.StateMap.{State};
-ghost use Rattle.mx_state_res.specs.Resolution as resolution;
 ghost use Rattle.mx_state_res.specs.Numbered.{AreAdded, AreKnown, state_at};
 ghost use Rattle.mx_receipt.specs.Judgements.{AreAfter, AreBelow, AreCovered, ArePast, AreSorted, IsAdded, IsHeld, IsJudged, afters, is_marked, judged_by, judged_in, kept_of, verdicts_in};
 ghost use Rattle.mx_receipt.specs.Receipt as definition;
@@ -66,9 +65,9 @@ fn state_before(
     requires known { AreKnown graph.now states.old }
     requires right { AreRight graph.now states.old resolutions.old }
     requires current { state_at states.old latest.now.current
-        ≡ resolution.resolve graph.now (definition.states_at (afters (judged_in states.old judgements.now)) latest.now.extremities.now) }
+        ≡ definition.resolve_in graph.now (definition.states_at (afters (judged_in states.old judgements.now)) latest.now.extremities.now) }
     requires below_current { latest.now.current < length states.old }
-    ensures resolved { IfOk result (λ before. state_at states.new before ≡ resolution.resolve graph.now
+    ensures resolved { IfOk result (λ before. state_at states.new before ≡ definition.resolve_in graph.now
         (definition.states_at (afters (judged_in states.old judgements.now)) (record_of.events_where graph.now (record_of.is_in prev_events.now)))) }
     ensures below { IfOk result (λ before. before < length states.new) }
     ensures added { AreAdded graph.now states.old states.new }
@@ -230,7 +229,7 @@ fn add(
     ensures judgements { OnOk result (judgements.new.items ≡ judgements.old.items ++ next.judged.judgement ∷ []) }
     ensures extremities { IfOk result (λ prepared. prepared.extremities.items ≡ next.judged.extremities.items) }
     ensures covered { IfOk result (λ prepared. prepared.covered.items ≡ next.judged.covered.items) }
-    ensures current { IfOk result (λ prepared. state_at states.new prepared.current ≡ resolution.resolve graph.new
+    ensures current { IfOk result (λ prepared. state_at states.new prepared.current ≡ definition.resolve_in graph.new
         (definition.states_at (afters (judged_in states.old judgements.new.items)) next.judged.extremities.items)) }
     ensures below_current { IfOk result (λ prepared. prepared.current < length states.new) }
     ensures count { IfOk result (λ prepared. prepared.states ≡ next.states) }

@@ -2,9 +2,10 @@
 ghost use Rattle.std.specs.Prelude.{◌≡◌, ◌<◌, All, IfOk, OnOk, ℕ, length, map};
 ghost use Rattle.mx_graph.specs.Record.{is_in};
 ghost use Rattle.mx_state_res.specs.Numbered.{AreAdded, AreKnown, state_at};
-ghost use Rattle.mx_state_res.specs.Resolution as resolution;
+ghost use Rattle.mx_receipt.specs.Receipt.{resolve_in};
 ghost use Rattle.mx_receipt.specs.Resolutions.{AreRight};
 
+use crate::room_states::version_in;
 use lru::LruCache;
 use mx_graph::{Graph, graph_is_sound};
 use mx_state_res::{StateNo, States, resolve_numbered};
@@ -86,19 +87,19 @@ pub(crate) fn resolve_cached(
     requires known { AreKnown graph.now states.old }
     requires right { AreRight graph.now states.old resolutions.old }
     ensures resolved { IfOk result (λ state. state_at states.new state
-        ≡ resolution.resolve graph.now (map (state_at states.old) numbers.items)) }
+        ≡ resolve_in graph.now (map (state_at states.old) numbers.items)) }
     ensures below { IfOk result (λ state. state < length states.new) }
     ensures added { AreAdded graph.now states.old states.new }
     ensures right { OnOk result (AreRight graph.now states.new resolutions.new) }
 {
     if numbers.len() < 2 {
-        let state = resolve_numbered(alloc, graph, states, &numbers)?;
+        let state = resolve_numbered(version_in(graph), alloc, graph, states, &numbers)?;
         return Ok(state);
     }
     if let Some(state) = resolutions.get(&numbers) {
         return Ok(state);
     }
-    let state = resolve_numbered(alloc, graph, states, &numbers)?;
+    let state = resolve_numbered(version_in(graph), alloc, graph, states, &numbers)?;
     resolutions.put(numbers, state);
     Ok(state)
 }

@@ -5,8 +5,9 @@ ghost use Rattle.mx_redact.specs.Fields.{is_some_and};
 ghost use Rattle.mx_graph.specs.Record as record_of;
 ghost use Rattle.mx_orders.specs.StateMap as state_of_events;
 ghost use Rattle.mx_state_res.specs.Numbered.{AreKnown, state_at};
+ghost use Rattle.mx_receipt.specs.Receipt.{created_version as created_version_of, version_in as version_in_rows};
 
-use mx_auth::{RoomState, Rule, is_at, judge};
+use mx_auth::{RoomState, RoomVersion, Rule, is_at, judge};
 use mx_graph::{EventNo, Graph};
 use mx_ident::EventId;
 use mx_pdu::Pdu;
@@ -136,6 +137,28 @@ fn first_at(graph: &Graph, events: &[EventNo], kind: &str, state_key: &str) -> O
     None
 }
 
+/// The version of the room that a create event makes: the one that it names, and 6 where it names none that is known
+/// here, which no event does that the rules allow. It takes no memory.
+///
+/// Source: the Matrix specification, `m.room.create`.
+pub fn created_version(create: &Pdu) -> RoomVersion
+    ensures { result ≡ created_version_of create.now }
+{
+    RoomVersion::of(create).unwrap_or(RoomVersion::V6)
+}
+
+/// The version of a graph's room: that of its first event, which is its create event. It takes no memory.
+///
+/// Source: the Matrix specification, `m.room.create`.
+pub(crate) fn version_in(graph: &Graph) -> RoomVersion
+    ensures { result ≡ version_in_rows graph.now }
+{
+    if graph.len() == 0 {
+        return RoomVersion::V6;
+    }
+    created_version(&graph.row(EventNo::at(0)).event)
+}
+
 /// The line of the authorization rules that does not allow an event in a state, where there is one. It takes no memory.
 pub(crate) fn failure_in(
     graph: &Graph,
@@ -145,21 +168,21 @@ pub(crate) fn failure_in(
 ) -> Option<Rule>
     requires states { AreKnown graph.now states.now }
     requires number { number < length states.now }
-    ensures { result ≡ rules event.now (state_of_events.view graph.now (state_at states.now number)) }
+    ensures { result ≡ rules (version_in_rows graph.now) event.now (state_of_events.view graph.now (state_at states.now number)) }
 {
     let state = StateInGraph {
         graph,
         state: states.state(number),
     };
-    judge(event, &state).err()
+    judge(version_in(graph), event, &state).err()
 }
 
 /// The line of the authorization rules that does not allow an event in the state that some events make, where there is
 /// one. It takes no memory.
 pub(crate) fn failure_by(graph: &Graph, events: &[EventNo], event: &Pdu) -> Option<Rule>
     requires { All (λ number. number < length graph.now) events.now }
-    ensures { result ≡ rules event.now (state_of_events.view graph.now (state_of_events.state_of graph.now events.now)) }
+    ensures { result ≡ rules (version_in_rows graph.now) event.now (state_of_events.view graph.now (state_of_events.state_of graph.now events.now)) }
 {
     let state = StateOfEvents { graph, events };
-    judge(event, &state).err()
+    judge(version_in(graph), event, &state).err()
 }

@@ -3,7 +3,6 @@ ghost use Rattle.std.specs.Prelude.{◌≡◌, ◌<◌, ◌++◌, List, slice_in
 ghost use Rattle.mx_orders.specs.StateMap.{State, with_event};
 ghost use Rattle.mx_graph.specs.Record.{Row};
 ghost use Rattle.mx_state_res.specs.Numbered.{AreAdded, AreKnown, state_at};
-ghost use Rattle.mx_state_res.specs.Resolution as resolution;
 ghost use Rattle.mx_receipt.specs.Judgements.{AreBelow, AreSorted, afters, judged_in, numbers_after};
 ghost use Rattle.mx_receipt.specs.Receipt as definition;
 ghost use Rattle.mx_receipt.specs.Resolutions.{AreRight};
@@ -40,7 +39,7 @@ pub(crate) fn resolved_after(
     requires known { AreKnown graph.now states.old }
     requires right { AreRight graph.now states.old resolutions.old }
     ensures resolved { IfOk result (λ state. state_at states.new state
-        ≡ resolution.resolve graph.now (definition.states_at (afters (judged_in states.old judgements.now)) events.now)) }
+        ≡ definition.resolve_in graph.now (definition.states_at (afters (judged_in states.old judgements.now)) events.now)) }
     ensures below { IfOk result (λ state. state < length states.new) }
     ensures added { AreAdded graph.now states.old states.new }
     ensures right { OnOk result (AreRight graph.now states.new resolutions.new) }

@@ -19,8 +19,10 @@ use crate::receiving::{Latest, TakenEvent, begin_in, last_event, prepare_checked
 use crate::redactions::below_count;
 use crate::refusals::{NotReceived, OfferError};
 use crate::resolution_cache::ResolutionCache;
+use crate::room_states::created_version;
 use crate::snapshots::Judgement;
 use crate::verdicts::Verdict;
+use mx_auth::RoomVersion;
 use mx_graph::{EventNo, Graph, GraphRow, MOST_ROWS, graph_is_sound};
 use mx_ident::EventId;
 use mx_pdu::Pdu;
@@ -109,6 +111,18 @@ impl Timeline {
             current: first.current,
             prepared: None,
         })
+    }
+
+    /// The version of the room, which its create event names. It takes no memory.
+    ///
+    /// Source: the Matrix specification, `m.room.create`.
+    pub fn version(&self) -> RoomVersion
+        ensures { result ≡ definition.version_in (definition.rows_of self.now.kept) }
+    {
+        if self.len() == 0 {
+            return RoomVersion::V6;
+        }
+        created_version(&self.row(EventNo::at(0)).event)
     }
 
     /// How many events the room has.

@@ -6,7 +6,11 @@ use mx_keeper::{BookRow, Keeper, KeeperFault, MOST_PLACES, ShardRow, SqliteKeepe
 use mx_wire::ShardCount;
 use sqlite::{Alter, Connection, Error, ErrorCode, File, FileStore};
 use std::alloc::{AllocError, Global};
-use std::fs;
+use std::fs::{self, DirBuilder};
+use std::os::unix::fs::DirBuilderExt;
+
+// Who may look at a directory of rows: its owner, who may change it too.
+const OWNER_ALONE: u32 = 0o700;
 
 /// Rows of one kind in a file.
 pub type FileRows<R> = SqliteKeeper<FileStore<File>, R>;
@@ -50,8 +54,11 @@ pub fn open_directory(
     })
 }
 
+// Makes the directory, where it is not there, for its owner alone.
 fn make_directory(host: &HostRuntime, directory: &str) -> Result<(), StartError> {
-    match fs::create_dir_all(host, directory) {
+    let mut maker = DirBuilder::new();
+    maker.recursive(true).mode(OWNER_ALONE);
+    match maker.create(host, directory) {
         Ok(()) => Ok(()),
         Err(error) => Err(StartError::of_io(host.alloc(), directory, &error)),
     }

@@ -1,4 +1,4 @@
-use Rattle.std.proofs.Common.{◌≡◌, ◌<◌, ◌==◌, not, filter, length, true, false, sym, ap, ◌∙◌}
+use Rattle.std.proofs.Common.{sym, ap, ◌∙◌}
 use Rattle.std.specs.Result.{is_ok}
 use Rattle.mx_graph.specs.Record.{is_in}
 use Rattle.mx_state_res.proofs.SetLemmas.{search-is}

@@ -4,7 +4,7 @@ use Rattle.mx_graph.specs.Graph.{IsSound}
 use Rattle.mx_graph.specs.Record.{Row}
 use Rattle.mx_orders.specs.StateMap.{State, with_event}
 use Rattle.mx_state_res.specs.Numbered.{AreAdded, state_at}
-use Rattle.mx_state_res.specs.Resolution.{resolve}
+use Rattle.mx_receipt.specs.Receipt.{resolve_in}
 use Rattle.mx_receipt.specs.Judgements.{IsHeld, IsJudged, afters, is_marked, judged_by, judged_in}
 use Rattle.mx_receipt.specs.Receipt.{states_at}
 use Rattle.mx_receipt.specs.declared.snapshots.Judgement.{Judgement}
@@ -51,7 +51,7 @@ returns-clause-held c =
     (subst IsSound c.requires.rows c.graph_is_sound.ensures) (subst IsSound rows c.graph_is_sound-2.ensures)
     c.add.new.states (subst (λ (rs : List Row). AreAdded (rs ++ row ∷ []) mid c.add.new.states) c.requires.rows c.in_ok-prepared.ensures.added)
     c.in_ok-prepared.prepared.current c.in_ok-prepared.ensures.below_current
-    (c.in_ok-prepared.ensures.current ∙ λ i. resolve (rows i) (states_at (afters (judged_in mid (judgements i))) (pushed i)))
+    (c.in_ok-prepared.ensures.current ∙ λ i. resolve_in (rows i) (states_at (afters (judged_in mid (judgements i))) (pushed i)))
     (none-past (row ∷ []) (Accepted ∷ []) (0 ∷ []) (is_marked (j ∷ [])) (marked-push [] j refl)) in
     subst (λ rs. IsHeld rs c.add.new.states c.add.new.judgements.items c.in_ok-prepared.prepared.extremities.items c.in_ok-prepared.prepared.current) (sym rows)
     (subst (λ (js : List Judgement). IsHeld (row ∷ []) c.add.new.states js c.in_ok-prepared.prepared.extremities.items c.in_ok-prepared.prepared.current) (sym judgements)

@@ -5,7 +5,7 @@ use Rattle.mx_graph.specs.Edges.{Rises}
 use Rattle.mx_graph.specs.Record.{is_in, events_where, prev_events}
 use Rattle.mx_orders.specs.StateMap.{with_event, view}
 use Rattle.mx_state_res.specs.Numbered.{state_at}
-use Rattle.mx_state_res.specs.Resolution.{resolve}
+use Rattle.mx_receipt.specs.Receipt.{resolve_in, version_in}
 use Rattle.mx_receipt.specs.Judgements.{Judged, judged_in, kept_of, afters, verdicts_in, AreAfter, AreCovered, Knows}
 use Rattle.mx_receipt.specs.Receipt.{states_at, state_before_next, is_rejected, accept_or, auth_failure}
 use Rattle.mx_receipt.specs.declared.verdicts.Verdict.TheVariants.{Accepted, SoftFailed, Rejected}
@@ -28,12 +28,12 @@ returns-clause-verdict c =
     let js : List Judged = judged_in c.args.states.now c.args.judgements.now in
     let prevs : c.deref.result.now ≡ prev_events c.args.graph.now c.args.citing.now.event.now = c.deref.ensures.value ∙ c.requires.prev in
     let before : state_at c.state_before.new.states c.in_ok-before.before ≡ state_before_next (kept_of c.args.graph.now js) c.args.citing.now.event.now =
-    c.in_ok-before.ensures.resolved ∙ ap (λ xs. resolve c.args.graph.now (states_at (afters js) (events_where c.args.graph.now (is_in xs)))) prevs
+    c.in_ok-before.ensures.resolved ∙ ap (λ xs. resolve_in c.args.graph.now (states_at (afters js) (events_where c.args.graph.now (is_in xs)))) prevs
     ∙ before-is c.args.graph.now js c.args.latest.now.extremities.now (state_at c.args.states.now c.args.latest.now.current) c.requires.held.is_kept c.args.citing.now.event.now in
     let current : state_at c.state_before.new.states c.args.latest.now.current ≡ state_at c.args.states.now c.args.latest.now.current =
     added-state c.args.graph.now c.args.states.now c.state_before.new.states c.args.latest.now.current c.in_ok-before.ensures.added c.requires.held.below_current in
     c.in_ok-verdict.ensures
-    ∙ ap (λ s. accept_or Rejected (auth_failure c.args.graph.now c.args.citing.now.event.now) (accept_or Rejected (rules c.args.citing.now.event.now (view c.args.graph.now (state_at c.state_before.new.states c.in_ok-before.before))) (accept_or SoftFailed (rules c.args.citing.now.event.now (view c.args.graph.now s)) Accepted))) current
+    ∙ ap (λ s. accept_or Rejected (auth_failure c.args.graph.now c.args.citing.now.event.now) (accept_or Rejected (rules (version_in c.args.graph.now) c.args.citing.now.event.now (view c.args.graph.now (state_at c.state_before.new.states c.in_ok-before.before))) (accept_or SoftFailed (rules (version_in c.args.graph.now) c.args.citing.now.event.now (view c.args.graph.now s)) Accepted))) current
     ∙ verdict-is c.args.graph.now js c.args.latest.now.extremities.now (state_at c.args.states.now c.args.latest.now.current) c.requires.held.is_kept c.args.citing.now.event.now (state_at c.state_before.new.states c.in_ok-before.before) before
 
 pub returns-clause-judged : goal.returns-clause-judged
@@ -46,7 +46,7 @@ returns-clause-judged c = λ id.
     record {
       flag = refl;
       before =
-          stays ∙ c.in_ok-before.ensures.resolved ∙ ap (λ xs. resolve c.args.graph.now (states_at (afters js) (events_where c.args.graph.now (is_in xs)))) prevs
+          stays ∙ c.in_ok-before.ensures.resolved ∙ ap (λ xs. resolve_in c.args.graph.now (states_at (afters js) (events_where c.args.graph.now (is_in xs)))) prevs
           ∙ before-is c.args.graph.now js c.args.latest.now.extremities.now (state_at c.args.states.now c.args.latest.now.current) c.requires.held.is_kept c.args.citing.now.event.now;
       after =
           c.in_ok-after.ensures.after ∙ (λ i. if is_rejected c.in_ok-verdict.verdict then sym stays i else with_event (sym stays i) c.args.citing.now.event.now (c.next_number-number.ensures i));

@@ -4,7 +4,7 @@ use Rattle.mx_graph.specs.Graph.{IsSound}
 use Rattle.mx_graph.specs.Record.{Row, is_in, prev_events}
 use Rattle.mx_graph.proofs.Closure.{or_left}
 use Rattle.mx_state_res.specs.Numbered.{AreAdded}
-use Rattle.mx_state_res.specs.Resolution.{resolve}
+use Rattle.mx_receipt.specs.Receipt.{resolve_in}
 use Rattle.mx_receipt.specs.Judgements.{AreAfter, AreCovered, ArePast, IsHeld, IsJudged, is_marked, judged_by, judged_in, kept_of, afters, verdicts_in}
 use Rattle.mx_receipt.specs.Receipt.{states_at, verdict, is_rejected}
 use Rattle.mx_receipt.specs.declared.snapshots.Judgement.{Judgement}
@@ -88,7 +88,7 @@ returns-clause-added c =
     c.deref.ensures.value (c.in_ok-judged.ensures.judged c.args.taken.id)))
     c.in_ok-judged.ensures.below c.in_ok-judged.ensures.added
     c.graph_is_sound.ensures (subst IsSound rows c.graph_is_sound-2.ensures) c.add.new.states c.in_ok-prepared.ensures.added c.in_ok-prepared.prepared.current c.in_ok-prepared.ensures.below_current
-    (c.in_ok-prepared.ensures.current ∙ λ i. resolve (rows i) (states_at (afters (judged_in c.judged_event.new.states (judgements i))) c.in_ok-judged.judged.extremities.items))
+    (c.in_ok-prepared.ensures.current ∙ λ i. resolve_in (rows i) (states_at (afters (judged_in c.judged_event.new.states (judgements i))) c.in_ok-judged.judged.extremities.items))
     (past-fewer (c.args.graph.now ++ row ∷ []) (verdicts_in (c.args.judgements.now.items ++ c.in_ok-judged.judged.judgement ∷ [])) c.in_ok-judged.judged.extremities.items
     (λ p. is_marked (c.args.judgements.now.items ++ c.in_ok-judged.judged.judgement ∷ []) p || is_in c.in_ok-judged.judged.covered.items p) (is_marked (c.args.judgements.now.items ++ c.in_ok-judged.judged.judgement ∷ []))
     (λ p e. or_left (is_marked (c.args.judgements.now.items ++ c.in_ok-judged.judged.judgement ∷ []) p) (is_in c.in_ok-judged.judged.covered.items p) e) past) in

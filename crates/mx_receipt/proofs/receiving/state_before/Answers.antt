@@ -5,7 +5,7 @@ use Rattle.std.specs.List.{All}
 use Rattle.mx_graph.specs.Record.{is_in, events_where}
 use Rattle.mx_graph.proofs.Closure.{all-in}
 use Rattle.mx_state_res.proofs.SetLemmas.{rising-is}
-use Rattle.mx_state_res.specs.Resolution.{resolve}
+use Rattle.mx_receipt.specs.Receipt.{resolve_in}
 use Rattle.mx_receipt.specs.Judgements.{afters, judged_in}
 use Rattle.mx_receipt.specs.Receipt.{states_at}
 use Rattle.mx_receipt.proofs.CoverLemmas.{in-all}
@@ -19,7 +19,7 @@ returns-then-eq-clause-resolved c =
     (λ p e. in-all (λ q. q < length c.args.graph.now) c.args.prev_events.now p c.requires.prev (sym (c.in_ok-prev_events.ensures.same p) ∙ e)) c.in_ok-prev_events.ensures.same in
     let same : c.in_ok-prev_events.prev_events.items ≡ c.args.latest.now.extremities.now =
     sym c.as_slice.ensures.value ∙ (slice_eq-Decides Decides-eqb c.as_slice.result.now c.args.latest.now.extremities.now true (sym c.if-eq.true ∙ c.eq.ensures)).0 refl in
-    c.requires.current ∙ ap (λ xs. resolve c.args.graph.now (states_at (afters (judged_in c.args.states.now c.args.judgements.now)) xs)) (sym same ∙ rising_are)
+    c.requires.current ∙ ap (λ xs. resolve_in c.args.graph.now (states_at (afters (judged_in c.args.states.now c.args.judgements.now)) xs)) (sym same ∙ rising_are)
 
 pub returns-then-eq-clause-added : goal.returns-then-eq-clause-added
 returns-then-eq-clause-added c = none-added c.args.graph.now c.args.states.now
@@ -33,6 +33,6 @@ resolved_after-requires-clause-events c =
 pub returns-clause-resolved : goal.returns-clause-resolved
 returns-clause-resolved c =
     c.in_ok-before.ensures.resolved
-    ∙ ap (λ xs. resolve c.args.graph.now (states_at (afters (judged_in c.args.states.now c.args.judgements.now)) xs))
+    ∙ ap (λ xs. resolve_in c.args.graph.now (states_at (afters (judged_in c.args.states.now c.args.judgements.now)) xs))
     (c.deref.ensures.value ∙ rising-is c.args.graph.now c.in_ok-prev_events.prev_events.items (is_in c.args.prev_events.now) c.in_ok-prev_events.ensures.rises
     (λ p e. in-all (λ q. q < length c.args.graph.now) c.args.prev_events.now p c.requires.prev (sym (c.in_ok-prev_events.ensures.same p) ∙ e)) c.in_ok-prev_events.ensures.same)

@@ -1,4 +1,3 @@
-use Rattle.std.proofs.Common.{ap, ◌∙◌}
 use Rattle.mx_receipt.proofs.ResolutionLemmas.{right-grown, right-put}
 use Rattle.mx_receipt.proofs.resolution_cache.resolve_cached.Goals as goal
 
@@ -15,4 +14,4 @@ returns-in-Some-clause-right c = λ e m. c.requires.right e (c.get.ensures.stay 
 pub returns-clause-right : goal.returns-clause-right
 returns-clause-right c =
     right-put c.args.graph.now c.args.states.now c.resolve_numbered-2.new.states c.get.new.self c.put.new.self c.args.numbers.items c.in_ok-state-2.state c.in_ok-state-2.ensures.added c.requires.known
-    (λ e m. c.requires.right e (c.get.ensures.stay e m)) c.requires.numbers c.in_ok-state-2.ensures.number (rw (← c.deref-3.ensures.value) c.in_ok-state-2.ensures.resolved) c.put.ensures
+    (λ e m. c.requires.right e (c.get.ensures.stay e m)) c.requires.numbers c.in_ok-state-2.ensures.number (rw (← c.deref-3.ensures.value, ← c.version_in-2.ensures) c.in_ok-state-2.ensures.resolved) c.put.ensures

@@ -1,4 +1,4 @@
-use Rattle.std.proofs.Common.{ap, nat_eq, subst, ◌∙◌}
+use Rattle.std.proofs.Common.{nat_eq, subst, ◌∙◌}
 use Rattle.std.specs.List.{Contains}
 use Rattle.std.specs.Cmp.Lexicographic.{pointwise}
 use Rattle.lru.proofs.CallerLemmas.{Contains-promoted}

@@ -1,7 +1,6 @@
-use Rattle.std.proofs.Common.{◌≡◌, ◌<◌, ap, length, subst, sym, ◌∙◌}
+use Rattle.std.proofs.Common.{◌<◌, ap, length, subst, sym, ◌∙◌}
 use Rattle.std.specs.List.{All}
 use Rattle.mx_graph.specs.Graph.{ancestors}
-use Rattle.mx_receipt.specs.Receipt.{rows_of}
 use Rattle.mx_receipt.specs.TimelineView.{TimelineView}
 use Rattle.mx_receipt.specs.Timelines.{HasKept}
 use Rattle.mx_receipt.proofs.ClosureLemmas.{ancestors-known}
