@@ -27,7 +27,7 @@ pub(crate) struct LineReader {
 }
 
 impl LineReader {
-    ghost use Rattle.std.specs.Prelude.{◌≡◌, ◌++◌, ◌∷◌, ◌<◌, List, [], ℕ, IfOk, IfSome, OnOk, Ok, true, false, IsTrue};
+    ghost use Rattle.std.specs.Prelude.{◌≡◌, ◌++◌, ◌∷◌, ◌<◌, List, [], ℕ, IfOk, IfSome, OnOk, Ok, true, false};
     ghost use Rattle.std.specs.Io.KnownBytes.{Consumes, IsAtEnd, Keeps};
     ghost use Rattle.mx_log.specs.LineReading.{IsOneLine, IsTakenFrom, held, left, turns_left};
 

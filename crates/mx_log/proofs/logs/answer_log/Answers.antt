@@ -1,4 +1,4 @@
-use Rattle.std.proofs.Common.{◌≡◌, ◌<◌, List, ℕ, [], ◌∷◌, ◌++◌, Option, Ok, length, ap, arith, vec_len}
+use Rattle.std.proofs.Common.{◌≡◌, ◌<◌, List, ℕ, [], ◌∷◌, ◌++◌, Option, Ok, length, ap, vec_len}
 use Rattle.mx_log.specs.LineReading.{held, left}
 use Rattle.mx_log.specs.LineRuns.{AreAnswered}
 use Rattle.mx_pdu.specs.Offers.{offer_by}
@@ -31,8 +31,7 @@ returns-then-is_empty g c = λ start now.
     let lines : List (List ℕ) = c.loop-line.invariant.0 in
     let line : List ℕ = c.next_line.new.line.items in
     let read : Option (List ℕ) = g.R.Read.remaining c.args.input.now in
-    let counted : vec_len c.next_line.new.line ≡ length line = omega arith in
-    let none : line ≡ [] = none-left line (vec_len c.next_line.new.line) c.is_empty.result c.is_empty.ensures counted c.if-is_empty.true in
+    let none : line ≡ [] = none-left line (vec_len c.next_line.new.line) c.is_empty.result c.is_empty.ensures c.next_line.new.line.ok.0 c.if-is_empty.true in
     of_all
     (λ ls. AreAnswered (offer_by (g.V.Verifier.judges c.args.verifier.now)) c.args.server.now.name start ls (g.W.Write.contents c.args.out.now) (g.W.Write.contents c.loop-line.out) c.loop-line.world)
     read lines
@@ -44,8 +43,7 @@ returns g c = λ start now.
     let lines : List (List ℕ) = c.loop-line.invariant.0 in
     let line : List ℕ = c.next_line.new.line.items in
     let read : Option (List ℕ) = g.R.Read.remaining c.args.input.now in
-    let counted : vec_len c.next_line.new.line ≡ length line = omega arith in
-    let some : 0 < length line = some-left line (vec_len c.next_line.new.line) c.is_empty.result c.is_empty.ensures counted c.if-is_empty.false in
+    let some : 0 < length line = some-left line (vec_len c.next_line.new.line) c.is_empty.result c.is_empty.ensures c.next_line.new.line.ok.0 c.if-is_empty.false in
     of_all
     (λ ls. AreAnswered (offer_by (g.V.Verifier.judges c.args.verifier.now)) c.args.server.now.name start ls (g.W.Write.contents c.args.out.now) (g.W.Write.contents c.answer_text-2.new.out) c.answer_text-2.new.world)
     read (lines ++ line ∷ [])
