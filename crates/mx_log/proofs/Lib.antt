@@ -2,6 +2,7 @@ pub mod LineLemmas
 pub mod OutputLemmas
 pub mod OutputRows
 pub mod RefusalLineLemmas
+pub mod LineReadingLemmas
 pub mod LineRunLemmas
 pub mod CallStepLemmas
 pub mod LogLemmas

@@ -1,8 +1,7 @@
 -- What was written for the lines so far, and for one line more.
-use Rattle.std.proofs.Common.{◌≡◌, ◌<◌, ℕ, zero, suc, List, [], ◌∷◌, ◌++◌, length, Bool, true, false, Option, Some, None, sym, ◌∙◌, ap, subst, ⊎_elim, arith}
-use Rattle.std.specs.Prelude.{IfSome, flat_map, ◌==◌, if◌then◌else◌}
-use Rattle.std.proofs.lemmas.Bool.{cases_Bool, eqb-true, true≢false}
-use Rattle.std.proofs.lemmas.List.{nil_from_length}
+use Rattle.std.proofs.Common.{◌≡◌, ℕ, List, [], ◌∷◌, ◌++◌, Bool, true, false, Option, Some, None, sym, ◌∙◌, ⊎_elim}
+use Rattle.std.specs.Prelude.{IfSome, flat_map, if◌then◌else◌}
+use Rattle.std.proofs.lemmas.Bool.{cases_Bool, true≢false}
 use Rattle.std.specs.Io.KnownBytes.{Appends}
 use Rattle.mx_redact.specs.Fields.{Event}
 use Rattle.mx_world.specs.Calls.{Start}
@@ -14,7 +13,7 @@ use Rattle.mx_log.specs.LineRuns.{AreAnswered, IsDone, IsEnded, IsWritten, answe
 use Rattle.mx_log.specs.Lines.{lines_of, read_line}
 use Rattle.mx_log.specs.declared.answers.LineRefusal.TheVariants.{Memory}
 use Rattle.mx_log.specs.LinesShown.{refusal_output}
-use Rattle.mx_log.specs.LineSteps.{AreRun, IsAnswered, nothing_yet}
+use Rattle.mx_log.specs.LineSteps.{IsAnswered, nothing_yet}
 use Rattle.mx_pdu.specs.Offers.{Judge, offer_by}
 use Rattle.mx_pdu.specs.declared.offering.Offered.{Offered}
 use Rattle.mx_log.proofs.LineRunLemmas.{appends_more, appends_none, none_so_far, one_more}
@@ -54,24 +53,11 @@ pub written_by : {K L : Type 0} (offer : Event → Offered) (server text output 
 written_by offer server text output true old new before after appends done = answered output appends done
 written_by offer server text output false old new before after appends done = not_answered Memory appends
 
--- ---- what is left
-
-pub some-left : (n : ℕ) (b : Bool) → b ≡ (n == 0) → b ≡ false → 0 < n
-some-left zero b is test = absurd (true≢false (sym is ∙ test))
-some-left (suc n) b is test = omega arith
-
-pub none-left : (rest : List ℕ) (b : Bool) → b ≡ (length rest == 0) → b ≡ true → lines_of rest ≡ []
-unfolding lines_of
-none-left rest b is test = ap lines_of (nil_from_length rest (eqb-true (length rest) 0 (sym is ∙ test)))
-
--- a whole log
-pub log_answered : {K L : Type 0} (judges : Judge) (server log : List ℕ) (remaining before after : Option (List ℕ)) (w : WorldView K L) → IfSome remaining (λ all. log ≡ all) → AreAnswered (offer_by judges) server nothing_yet (lines_of log) before after w → IfSome remaining (λ read. (written : List ℕ) × Appends before after written × (has_refusal written ≡ false → IsAnswered judges server read written))
-log_answered judges server log None before after w read done = tt
-log_answered judges server log (Some all) before after w read done = (
+-- a whole log, where it is known
+pub log_answered : {K L : Type 0} (judges : Judge) (server : List ℕ) (remaining before after : Option (List ℕ)) (w : WorldView K L) → IfSome remaining (λ read. AreAnswered (offer_by judges) server nothing_yet (lines_of read) before after w) → IfSome remaining (λ read. (written : List ℕ) × Appends before after written × (has_refusal written ≡ false → IsAnswered judges server read written))
+log_answered judges server None before after w done = tt
+log_answered judges server (Some read) before after w done = (
   done.written,
   done.appends,
-  λ clean.
-      let so_far = done.run clean in
-      let P : List ℕ → Type 0 = λ input. AreRun nothing_yet (offer_by judges) server (lines_of input) done.written so_far.exchanges in
-      (so_far.exchanges, subst P read so_far.run),
+  λ clean. let so_far = done.run clean in (so_far.exchanges, so_far.run),
 )

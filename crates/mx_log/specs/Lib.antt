@@ -7,6 +7,7 @@ pub mod Lines
 pub mod LineOutputs
 pub mod LineSteps
 pub mod LinesShown
+pub mod LineReading
 pub mod LineRuns
 pub mod TextMembers
 pub mod LineErrors

@@ -5,6 +5,7 @@
 mod answers;
 mod host_lines;
 mod input;
+mod line_reader;
 mod lines;
 mod logs;
 mod shard_counts;

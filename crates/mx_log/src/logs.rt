@@ -14,9 +14,9 @@ ghost use Rattle.mx_pdu.specs.Offers.{offer_by};
 
 use crate::answers::writing::{write_answer, write_refusal};
 use crate::answers::{LineAnswer, LineRefusal};
-use crate::input::{InputError, read_all};
+use crate::input::InputError;
+use crate::line_reader::LineReader;
 use crate::lines::read_line;
-use crate::lines::splitting::first_line;
 use crate::shard_counts::ShardCount;
 use crate::steps::answer_line;
 use json::Scratch;
@@ -31,8 +31,8 @@ use thiserror::Error;
 
 /// Why a log was not answered to its end.
 ///
-/// `Memory`: no memory was left before its first line. `Storage`: what is to keep the rows failed before it. `Read`: it
-/// could not be read. `Write`: an answer could not be written.
+/// `Memory`: no memory was left before its first line, or for the bytes of a line. `Storage`: what is to keep the rows
+/// failed before the first line. `Read`: the log could not be read on. `Write`: an answer could not be written.
 #[derive(Clone, Copy, Debug, PartialEq, Eq, Drop, Error)]
 pub enum LinesError {
     #[error("memory")]
@@ -70,6 +70,17 @@ impl From<InputError> for LinesError {
     }
 }
 
+impl From<io::Error> for LinesError {
+    ghost use Rattle.std.specs.Prelude.{◌≡◌};
+    ghost use Rattle.mx_log.specs.declared.logs.LinesError.TheVariants.{Write};
+
+    ghost from_gives = { λ _ e. e ≡ Write };
+
+    fn from(_failed: io::Error) -> LinesError {
+        LinesError::Write
+    }
+}
+
 impl From<CallError> for LinesError {
     ghost use Rattle.std.specs.Prelude.{◌≡◌};
     ghost use Rattle.mx_log.specs.LineErrors.{of_call};
@@ -85,7 +96,8 @@ impl From<CallError> for LinesError {
 }
 
 /// Answers a log as a new server of this name, over so many shards and books, with its rows in memory: one line for each
-/// line of the log, in their order.
+/// line of the log, in their order. A line is answered once it is whole, so that of the log no more is held than one line
+/// and what one read gave.
 ///
 /// Where no line is a refusal for memory or storage, what is written is what the lines' steps call for: a server that
 /// takes these steps one after another, each transaction's next only where it was opened, gives these replies. A line
@@ -104,14 +116,11 @@ pub fn run_lines<R: Read, W: Write, V: Verifier>(
         (written : List ℕ) × Appends (W.contents out.old) (W.contents out.new) written
         × (has_refusal written ≡ false → IsAnswered (V.judges verifier.now) name.now read written))) }
 {
-    let log = read_all(alloc, input)?;
     let name = name.clone()?;
     let server = WireServer::new(alloc, name)?;
     let mut world = new_world(alloc, shards)?;
-    match answer_log(alloc, &server, verifier, &mut world, &log, out) {
-        Ok(()) => Ok(()),
-        Err(_failed) => Err(LinesError::Write),
-    }
+    answer_log(alloc, &server, verifier, &mut world, input, out)?;
+    Ok(())
 }
 
 // A server that hosts no room.
@@ -142,24 +151,27 @@ fn keepers<R: Storable>(
 }
 
 // Each line of a log, answered.
-fn answer_log<K: Keeper<Row = ShardRow>, L: Keeper<Row = BookRow>, V: Verifier, W: Write>(
+fn answer_log<K: Keeper<Row = ShardRow>, L: Keeper<Row = BookRow>, V: Verifier, R: Read, W: Write>(
     alloc: Global,
     server: &WireServer,
     verifier: &V,
     world: &mut World<K, L>,
-    log: &[u8],
+    input: &mut R,
     out: &mut W,
-) -> io::Result<()>
-    ensures { OnOk result ((start : Start) → IsAfter start [] world.old
-        → AreAnswered (offer_by (V.judges verifier.now)) server.now.name start (lines_of log.now) (W.contents out.old) (W.contents out.new) world.new) }
+) -> Result<(), LinesError>
+    ensures { OnOk result ((start : Start) → IsAfter start [] world.old → IfSome (R.remaining input.old) (λ read.
+        AreAnswered (offer_by (V.judges verifier.now)) server.now.name start (lines_of read) (W.contents out.old) (W.contents out.new) world.new)) }
 {
     let mut scratch = Scratch::new(alloc);
-    let mut rest = log;
-    while !rest.is_empty() {
-        let (line, after) = first_line(rest);
-        answer_text(alloc, server, verifier, world, &mut scratch, line, out)?;
-        rest = after;
+    let mut lines = LineReader::new(alloc)?;
+    let mut line = Vec::new(alloc);
+    while lines.next_line(alloc, input, &mut line)? {
+        answer_text(alloc, server, verifier, world, &mut scratch, &line, out)?;
     }
+    if line.is_empty() {
+        return Ok(());
+    }
+    answer_text(alloc, server, verifier, world, &mut scratch, &line, out)?;
     Ok(())
 }
 
