@@ -129,7 +129,11 @@ pub fn report_server<E: Write>(refused: StartError, err: &mut E) -> u8
 pub fn lines_of(alloc: Global, checked: &Checked) -> Result<Vec<u8>, AllocError>
     ensures { IfOk result (λ lines. lines.items ≡ check_lines checked.now.id (hash_holds checked.now.event) (canonical_text checked.now.event)) }
 {
-    let hash = if checked.event.hash_holds() { "good" } else { "bad" };
+    let hash = if checked.event.hash_holds() {
+        "good"
+    } else {
+        "bad"
+    };
     let id = checked.id.as_str();
     let head = format!(in alloc; "id {id}\nhash {hash}\ncanonical ")?;
     let text = checked.event.text();
