@@ -2,6 +2,7 @@ ghost use Rattle.std.specs.Prelude.{◌<◌, All, IfOk, OnOk, length};
 ghost use Rattle.mx_state_res.specs.Numbered.{AreKnown};
 
 use crate::rows::{Written, event_at, next, row};
+use mx_auth::RoomVersion;
 use mx_graph::{Graph, GraphRow};
 use mx_state_res::{StateMap, StateNo, States, resolve, resolve_numbered};
 use std::alloc::Global;
@@ -180,12 +181,18 @@ fn compare(alloc: Global, first: u64) -> Result<(bool, usize), Fail> {
     let one = random_state(alloc, &graph, next(first))?;
     let two = random_state(alloc, &graph, next(next(first)))?;
     let three = random_state(alloc, &graph, next(next(next(first))))?;
-    let plain = resolve(alloc, &graph, &[&one, &two, &three])?;
+    let plain = resolve(RoomVersion::V6, alloc, &graph, &[&one, &two, &three])?;
     let mut states = States::new(alloc);
     let one = add(&mut states, &graph, &one)?;
     let two = add(&mut states, &graph, &two)?;
     let three = add(&mut states, &graph, &three)?;
-    let number = resolve_numbered(alloc, &graph, &mut states, &[two, one, three, one])?;
+    let number = resolve_numbered(
+        RoomVersion::V6,
+        alloc,
+        &graph,
+        &mut states,
+        &[two, one, three, one],
+    )?;
     let found = states.state(number).map(alloc)?;
     Ok((are_same(&plain, &found), states.len()))
 }
