@@ -87,3 +87,7 @@ returns-in-Some-clause-shown g c =
     let t : IsAskTurn call (own c.index_mut-berth.result.now) (own c.ask_one.new.berth) (Ok (Some told)) =
     subst (λ r. IsAskTurn call (own c.index_mut-berth.result.now) (own c.ask_one.new.berth) r) (c.in_ok-answer.was ∙ ap Ok c.in-Some.is) c.ask_one.ensures.turn in
     shown_found call (views_of (set berths n c.ask_one.new.berth)) n told t.told (subst (λ j. n < j) (sym (length-map (set berths n c.ask_one.new.berth) own ∙ length-set berths n c.ask_one.new.berth)) k) (shows_here call berths n c.index_mut-berth.result.now c.ask_one.new.berth (Some told) k t)
+
+pub returns-in-Some-clause-seated : goal.returns-in-Some-clause-seated
+returns-in-Some-clause-seated g c =
+    seated_set c.args.docks.now c.args.caller c.loop-number.berths.items c.loop-number.number c.new-place.result c.index-docks-number.result c.deref.result.now c.ask_one.new.berth c.loop-number.invariant.seated c.loop-number-test.true c.new-place.ensures.number c.new-place.ensures.count (sym c.index-docks-number.is) c.deref.ensures c.ask_one.ensures.berth

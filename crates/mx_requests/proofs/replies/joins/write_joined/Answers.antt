@@ -12,9 +12,8 @@ returns g c = λ taken had.
     let all = c.put-2.ensures _ (c.write_events-2.ensures _ (c.write_key-4.ensures _ (c.write_string.ensures _ (c.write_key-3.ensures _ (c.write_event.ensures _ (c.write_key-2.ensures _ (c.write_events.ensures _ (c.write_key.ensures _ (c.put.ensures taken had))))))))) in
     let name = c.as_bytes.ensures.value ∙ c.as_str.ensures.text in
     let chain = c.as_slice.ensures in
-    let event = c.as_map.ensures.event in
     let state = c.as_slice-2.ensures in
     subst (g.S.TextSink.has_taken c.put-2.new.self)
-    ((λ i. with_next (with_next (with_next (with_first taken (codes "auth_chain") (value_text (event_array (chain i)))) (codes "event") (value_text (event i))) (codes "origin") (string_text (name i))) (codes "state") (value_text (event_array (state i))) ++ codes "}")
+    ((λ i. with_next (with_next (with_next (with_first taken (codes "auth_chain") (value_text (event_array (chain i)))) (codes "event") (value_text c.args.joined.now.event)) (codes "origin") (string_text (name i))) (codes "state") (value_text (event_array (state i))) ++ codes "}")
     ∙ four taken (codes "auth_chain") (codes "event") (codes "origin") (codes "state") (event_array c.args.joined.now.auth_chain) c.args.joined.now.event (string c.args.name.now) (event_array c.args.joined.now.state) refl)
     all
