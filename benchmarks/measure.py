@@ -8,14 +8,16 @@ members and fifty events to a transaction. With `--instructions` each log is als
 the instructions of an event are told, without those of the start and of the base room."""
 
 import argparse
-import os
 import re
 import subprocess
 import sys
 import tempfile
-import time
 from pathlib import Path
 
+STARTER = """import resource, subprocess, sys, time
+start = time.monotonic()
+subprocess.run(sys.argv[1:], stdout=subprocess.DEVNULL, check=True)
+print(time.monotonic() - start, resource.getrusage(resource.RUSAGE_CHILDREN).ru_maxrss)"""
 HERE = Path(__file__).resolve().parent
 PROGRAM = HERE.parent / "crates/mx_federd/out/mx_federd"
 SHAPES = "linear,fork,conflict,joins,wide,soft"
@@ -31,18 +33,15 @@ def replay(program):
 
 
 def seconds_and_memory(program, log):
-    """The seconds of a run, and the most memory that it held, in megabytes."""
+    """The seconds of a run, and the most memory that it held, in megabytes. Since a process counts the memory of the one
+    that starts it as its own, it is started by one that holds no log."""
     with tempfile.TemporaryFile() as source:
         source.write(log)
         source.seek(0)
-        start = time.monotonic()
-        ran = subprocess.Popen(replay(program), stdin=source, stdout=subprocess.DEVNULL)
-        _, status, usage = os.wait4(ran.pid, 0)
-        seconds = time.monotonic() - start
-        ran.returncode = os.waitstatus_to_exitcode(status)
-    if ran.returncode:
-        sys.exit(f"the program ended with status {ran.returncode}")
-    return seconds, usage.ru_maxrss / 1024
+        words = [sys.executable, "-c", STARTER, *replay(program)]
+        told = subprocess.run(words, stdin=source, stdout=subprocess.PIPE, text=True, check=True)
+    seconds, kilobytes = told.stdout.split()
+    return float(seconds), int(kilobytes) / 1024
 
 
 def instructions(program, log):

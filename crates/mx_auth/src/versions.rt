@@ -38,7 +38,7 @@ impl RoomVersion {
         }
     }
 
-    /// Whether users may knock on the doors of such rooms.
+    /// Whether such rooms know the membership `knock`.
     pub(crate) fn has_knocks(self) -> bool
         ensures { result ≡ has_knocks_in self }
     {

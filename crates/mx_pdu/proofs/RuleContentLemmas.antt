@@ -1,12 +1,13 @@
 -- What rules read of a content.
-use Rattle.std.proofs.Common.{◌≡◌, ℕ, List, Bool, true, false, Some, refl, sym, ap, ◌∙◌, Option, None, option_and_then}
-use Rattle.std.specs.Prelude.{codes, unwrap_or, if◌then◌else◌}
+use Rattle.std.proofs.Common.{◌≡◌, ℕ, List, Bool, true, false, Some, refl, sym, ap, ◌∙◌, option_and_then}
+use Rattle.std.specs.Prelude.{codes, if◌then◌else◌}
 use Rattle.serde_json.specs.Data.{Data, null, boolean, number, string, array, object, Members, member}
 use Rattle.serde_json.specs.Find.{as_object}
 use Rattle.mx_redact.specs.Fields.{field}
 use Rattle.mx_redact.specs.Redaction.{members_where}
 use Rattle.mx_pdu.specs.Event.{content_of}
 use Rattle.mx_pdu.specs.RuleContent.{is_rule_key, rule_content}
+use Rattle.mx_pdu.proofs.FormatLemmas.{object-content}
 use Rattle.mx_pdu.proofs.LookupLemmas.{get-where}
 
 module _ (test : List ℕ → Bool) (k : List ℕ) (d : Data) (ms : Members) where
@@ -30,16 +31,7 @@ field-rule_content k (string s) read = refl
 field-rule_content k (array ds) read = refl
 field-rule_content k (object ms) read = get-where is_rule_key k ms read
 
--- the members of a content that is there
-content-at : (o : Option Data) (ms : Members) → Some ms ≡ option_and_then as_object o → unwrap_or o null ≡ object ms
-content-at None ms h = cc
-content-at (Some null) ms h = cc
-content-at (Some (boolean b)) ms h = cc
-content-at (Some (number n)) ms h = cc
-content-at (Some (string s)) ms h = cc
-content-at (Some (array ds)) ms h = cc
-content-at (Some (object ns)) ms h = cc
-
+-- the members kept are those of the event's content
 pub rule_content-at : (d : Data) (ms kept : Members) → Some ms ≡ option_and_then as_object (field (codes "content") d) → kept ≡ members_where is_rule_key ms
     → object kept ≡ rule_content (content_of d)
-rule_content-at d ms kept there is = ap object is ∙ ap rule_content (sym (content-at (field (codes "content") d) ms there))
+rule_content-at d ms kept there is = ap object is ∙ ap rule_content (object-content (field (codes "content") d) ms (sym there))

@@ -172,6 +172,9 @@ impl Pdu {
 
     /// What the authorization rules, the power levels, the history visibility and the access lists read of its
     /// content: its members at the keys of `rule_keys`, in events of all types.
+    ///
+    /// Source: the Matrix specification, Room Version 6, "Authorization rules", `m.room.power_levels`,
+    /// `m.room.history_visibility` and `m.room.server_acl`.
     pub fn content(&self) -> &Map<String, Value>
         ensures { object (members_view result.now.entries) ≡ rule_content (content_of self.now) }
     {
