@@ -33,7 +33,7 @@ is_in-to x (y ∷ ys) e = by (λ k. is_in-to x ys k) (or_cases (y == x) (is_in y
     by later (inl k) = inl (sym (eqb-true y x k))
     by later (inr k) = inr (later k)
 
-is_in-index : (xs : List ℕ) (k d : ℕ) → k < length xs → is_in xs (slice_index_or xs k d) ≡ true
+pub is_in-index : (xs : List ℕ) (k d : ℕ) → k < length xs → is_in xs (slice_index_or xs k d) ≡ true
 is_in-index [] k d h = absurd (omega arith)
 is_in-index (x ∷ xs) zero d h = or_left (x == x) _ (eq-eqb x x refl)
 is_in-index (x ∷ xs) (suc k) d h = or_right (x == slice_index_or xs k d) _ (is_in-index xs k d (omega arith))

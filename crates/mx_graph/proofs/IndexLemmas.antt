@@ -15,7 +15,7 @@ use Rattle.mx_pdu.specs.Event.{prev_ids, auth_ids}
 use Rattle.mx_graph.specs.Adding.{add_error, is_known, most_rows}
 use Rattle.mx_graph.specs.Edges.{cited, LeadDown}
 use Rattle.mx_graph.specs.Graph.{CitesDown, IsSound}
-use Rattle.mx_graph.specs.Inside.{IsIndexed, AreKeptFor}
+use Rattle.mx_graph.specs.Inside.{IsIndexed, AreKeptFor, AreBoundsOf}
 use Rattle.mx_graph.specs.declared.auth_chains.AuthChains.{AuthChains}
 use Rattle.mx_graph.specs.Record.{Row, row, event, place_of, is_in, prev_events, auth_events}
 use Rattle.mx_graph.specs.Redactions.{with_event}
@@ -25,7 +25,7 @@ use Rattle.mx_graph.proofs.RowLemmas.{place_of-push, place_of-known, row-new, ro
 
 -- ---- no rows
 
-pub indexed-empty : (naming : List ℕ → List ℕ) (chains : AuthChains) → ((id : List ℕ) → naming id ≡ []) → AreKeptFor [] chains → IsIndexed [] [] [] [] naming chains
+pub indexed-empty : (naming : List ℕ → List ℕ) (chains : AuthChains) → ((id : List ℕ) → naming id ≡ []) → AreKeptFor [] chains → IsIndexed [] [] [] [] naming chains []
 indexed-empty naming chains none kept =
     record {
       few = omega arith;
@@ -41,6 +41,7 @@ indexed-empty naming chains none kept =
       numbered = λ id. refl;
       redactions = none;
       auth_chains = kept;
+      depth_bounds = record { len = refl; right = λ p l. absurd (omega arith) };
     }
 
 -- ---- a row that may be added
@@ -196,13 +197,14 @@ sound-by rows own prev auth = record { ids = λ x y h k e. some-same x y (sym (o
 
 -- ---- one row more
 
-pub indexed-push : (rows : List Row) (r : Row) (prev auth : List (Vec ℕ Global)) (numbers after : List (List ℕ × ℕ)) (naming naming_after : List ℕ → List ℕ) (chains chains_after : AuthChains) (v w : Vec ℕ Global) → IsIndexed rows prev auth numbers naming chains → add_error rows r ≡ None
+pub indexed-push : (rows : List Row) (r : Row) (prev auth : List (Vec ℕ Global)) (numbers after : List (List ℕ × ℕ)) (naming naming_after : List ℕ → List ℕ) (chains chains_after : AuthChains) (bounds bounds_after : List ℕ) (v w : Vec ℕ Global) → IsIndexed rows prev auth numbers naming chains bounds → add_error rows r ≡ None
     → v.items ≡ prev_events rows r.event → w.items ≡ auth_events rows r.event
     → ((id : List ℕ) → lookup (λ k. is_eq (slice_cmp nat_cmp id k)) after ≡ cond (is_eq (slice_cmp nat_cmp r.id id)) (Some (length rows)) (lookup (λ k. is_eq (slice_cmp nat_cmp id k)) numbers))
     → ((id : List ℕ) → naming_after id ≡ with_event r.event (length rows) id (naming id))
     → (IsSound (rows ++ r ∷ []) → auth_events (rows ++ r ∷ []) (event (rows ++ r ∷ []) (length rows)) ≡ w.items → AreKeptFor (rows ++ r ∷ []) chains_after)
-    → IsIndexed (rows ++ r ∷ []) (prev ++ v ∷ []) (auth ++ w ∷ []) after naming_after chains_after
-indexed-push rows r prev auth numbers after naming naming_after chains chains_after v w indexed h prev_items auth_items step named kept =
+    → (IsSound (rows ++ r ∷ []) → AreBoundsOf (rows ++ r ∷ []) bounds_after)
+    → IsIndexed (rows ++ r ∷ []) (prev ++ v ∷ []) (auth ++ w ∷ []) after naming_after chains_after bounds_after
+indexed-push rows r prev auth numbers after naming naming_after chains chains_after bounds bounds_after v w indexed h prev_items auth_items step named kept bound =
     let f : IsFree rows r = free rows r h in
     let more : length (rows ++ r ∷ []) ≡ length rows + 1 = length-append rows (r ∷ []) in
     let sound : IsSound (rows ++ r ∷ []) =
@@ -221,12 +223,13 @@ indexed-push rows r prev auth numbers after naming naming_after chains chains_af
       numbered = numbered-push rows r f.fresh (λ id. lookup (λ k. is_eq (slice_cmp nat_cmp id k)) numbers) (λ id. lookup (λ k. is_eq (slice_cmp nat_cmp id k)) after) indexed.numbered step;
       redactions = λ id. named id ∙ ap (with_event r.event (length rows) id) (indexed.redactions id) ∙ sym (redactions-push rows r id);
       auth_chains = kept sound (cites-new rows r auth_ids f.auth indexed.auth_known (length rows) (eq-eqb (length rows) (length rows) refl) ∙ sym auth_items);
+      depth_bounds = bound sound;
     }
 
 -- the same rows, with other numbers, redactions and chains that agree with them
-pub indexed-again : (rows : List Row) (prev auth : List (Vec ℕ Global)) (numbers after : List (List ℕ × ℕ)) (naming naming_after : List ℕ → List ℕ) (chains chains_after : AuthChains) → IsIndexed rows prev auth numbers naming chains
-    → ((id : List ℕ) → lookup (λ k. is_eq (slice_cmp nat_cmp id k)) after ≡ place_of rows id) → ((id : List ℕ) → naming_after id ≡ naming id) → AreKeptFor rows chains_after → IsIndexed rows prev auth after naming_after chains_after
-indexed-again rows prev auth numbers after naming naming_after chains chains_after indexed step named kept =
+pub indexed-again : (rows : List Row) (prev auth : List (Vec ℕ Global)) (numbers after : List (List ℕ × ℕ)) (naming naming_after : List ℕ → List ℕ) (chains chains_after : AuthChains) (bounds : List ℕ) → IsIndexed rows prev auth numbers naming chains bounds
+    → ((id : List ℕ) → lookup (λ k. is_eq (slice_cmp nat_cmp id k)) after ≡ place_of rows id) → ((id : List ℕ) → naming_after id ≡ naming id) → AreKeptFor rows chains_after → IsIndexed rows prev auth after naming_after chains_after bounds
+indexed-again rows prev auth numbers after naming naming_after chains chains_after bounds indexed step named kept =
     record {
       few = indexed.few;
       own_place = indexed.own_place;
@@ -241,12 +244,13 @@ indexed-again rows prev auth numbers after naming naming_after chains chains_aft
       numbered = step;
       redactions = λ id. named id ∙ indexed.redactions id;
       auth_chains = kept;
+      depth_bounds = indexed.depth_bounds;
     }
 
 -- ---- what follows for the rows
 
-pub indexed-sound : (rows : List Row) (prev auth : List (Vec ℕ Global)) (numbers : List (List ℕ × ℕ)) (naming : List ℕ → List ℕ) (chains : AuthChains) → IsIndexed rows prev auth numbers naming chains → IsSound rows
-indexed-sound rows prev auth numbers naming chains indexed = sound-by rows indexed.own_place indexed.prev_down indexed.auth_down
+pub indexed-sound : (rows : List Row) (prev auth : List (Vec ℕ Global)) (numbers : List (List ℕ × ℕ)) (naming : List ℕ → List ℕ) (chains : AuthChains) (bounds : List ℕ) → IsIndexed rows prev auth numbers naming chains bounds → IsSound rows
+indexed-sound rows prev auth numbers naming chains bounds indexed = sound-by rows indexed.own_place indexed.prev_down indexed.auth_down
 
 pub lead-down : (rows : List Row) (cites : ℕ → List ℕ) (edges : List (Vec ℕ Global)) → CitesDown rows cites → ((p : ℕ) → cited edges p ≡ cites p) → LeadDown (cited edges)
 lead-down rows cites edges down agree x y h = (down x y (subst (λ ys. is_in ys y ≡ true) (agree x) h)).1

@@ -31,7 +31,7 @@ alone-in q x e = by (or_cases (q == x) false e)
     by (inr k) = absurd (cc k)
 
 module _ (rows : List Row) (cites : ℕ → List ℕ) (down : CitesDown rows cites) where
-  abbrev meets : ℕ → ℕ → Bool
+  abbrev pub meets : ℕ → ℕ → Bool
   meets r p = is_in (reached rows cites (r ∷ [])) p
 
   module _ (r : ℕ) where
@@ -74,7 +74,7 @@ module _ (rows : List Row) (cites : ℕ → List ℕ) (down : CitesDown rows cit
         by (inl e) = let s : r ≡ x = alone-in r x e in let l : y < x = d in grind (arith, nat_tests)
         by (inr e) = let l : y < x = d in grind (arith, nat_tests)
 
-  met-reached : AreMet cites meets
+  pub met-reached : AreMet cites meets
   met-reached = record {
     step = λ r p. same_closed cites (r ∷ []) (meets r) (by_cited r) (reached-is_least rows cites (r ∷ []) down) (by_cited-closed r, by_cited-least r) p;
     down = λ r p e. let t : nat_lt p r ≡ true = (reached-is_least rows cites (r ∷ []) down).1 (λ q. nat_lt q r) (lower-closed r) p e in grind (arith, nat_tests);
@@ -413,7 +413,7 @@ lists-apart [] y d p l = absurd (omega arith)
 lists-apart (x ∷ xs) y d zero l = refl
 lists-apart (x ∷ xs) y d (suc p) l = lists-apart xs y d p (omega arith)
 
-lists-last : {A : Type 0} (xs : List A) (y d : A) → get_or (xs ++ y ∷ []) (length xs) d ≡ y
+pub lists-last : {A : Type 0} (xs : List A) (y d : A) → get_or (xs ++ y ∷ []) (length xs) d ≡ y
 lists-last [] y d = refl
 lists-last (x ∷ xs) y d = lists-last xs y d
 
@@ -423,7 +423,7 @@ lists-past [] y d (suc p) l = refl
 lists-past (x ∷ xs) y d zero l = absurd (omega arith)
 lists-past (x ∷ xs) y d (suc p) l = lists-past xs y d p (omega arith)
 
-lists-begin : {A : Type 0} (xs ys : List A) (d : A) (p : ℕ) → p < length xs → get_or (xs ++ ys) p d ≡ get_or xs p d
+pub lists-begin : {A : Type 0} (xs ys : List A) (d : A) (p : ℕ) → p < length xs → get_or (xs ++ ys) p d ≡ get_or xs p d
 lists-begin [] ys d p l = absurd (omega arith)
 lists-begin (x ∷ xs) ys d zero l = refl
 lists-begin (x ∷ xs) ys d (suc p) l = lists-begin xs ys d p (omega arith)
@@ -502,11 +502,11 @@ kept-none chains places reached = record {
 }
 
 -- rows that are cited have got their places
-pub kept-cited : (rows : List Row) (prev auth : List (Vec ℕ Global)) (numbers : List (List ℕ × ℕ)) (naming : List ℕ → List ℕ) (chains after : AuthChains) → IsIndexed rows prev auth numbers naming chains
+pub kept-cited : (rows : List Row) (prev auth : List (Vec ℕ Global)) (numbers : List (List ℕ × ℕ)) (naming : List ℕ → List ℕ) (chains after : AuthChains) (bounds : List ℕ) → IsIndexed rows prev auth numbers naming chains bounds
     → length after.places.items ≡ length chains.places.items → after.reached.items ≡ chains.reached.items
     → ((meets : ℕ → ℕ → Bool) → AreMet (cited auth) meets → AreChains meets (place_at chains.places.items) (kept_at chains.reached.items) → AreChains meets (place_at after.places.items) (kept_at chains.reached.items))
     → AreKeptFor rows after
-kept-cited rows prev auth numbers naming chains after indexed len reached step = record {
+kept-cited rows prev auth numbers naming chains after bounds indexed len reached step = record {
   places_len = len ∙ indexed.auth_chains.places_len;
   reached_len = ap length reached ∙ indexed.auth_chains.reached_len;
   right = subst (λ ys. AreChains (met_in rows) (place_at after.places.items) (kept_at ys)) (sym reached)

@@ -14,3 +14,4 @@ pub mod ChainLemmas
 pub mod ChainDifferenceLemmas
 pub mod KeptChainLemmas
 pub mod SetLemmas
+pub mod DepthLemmas

@@ -16,7 +16,7 @@ use Rattle.mx_pdu.specs.Event.{prev_ids, auth_ids}
 use Rattle.mx_graph.specs.Adding.{is_known, most_rows}
 use Rattle.mx_graph.specs.Edges.{cited}
 use Rattle.mx_graph.specs.Graph.{CitesDown}
-use Rattle.mx_graph.specs.Inside.{IsIndexed, AreKeptFor}
+use Rattle.mx_graph.specs.Inside.{IsIndexed, AreKeptFor, AreBoundsOf}
 use Rattle.mx_graph.specs.declared.auth_chains.AuthChains.{AuthChains}
 use Rattle.mx_graph.specs.Record.{Row, no_row, row, event, place_of, is_in}
 use Rattle.mx_graph.specs.Redactions.{without_event}
@@ -97,7 +97,7 @@ module _ (rows : List Row) (r : Row) (ids : Event → List (List ℕ)) (none : i
     is_before p l y e =
         let lower : y < p = (down p y (subst (λ xs. is_in (filter_map (place_of (rows ++ r ∷ [])) xs) y ≡ true) (sym (ids-other p l)) e)).1 in omega arith
 
-    cites-before : (p : ℕ) → p < length rows → cites_longer p ≡ cites p
+    pub cites-before : (p : ℕ) → p < length rows → cites_longer p ≡ cites p
     cites-before p l = ap (filter_map (place_of (rows ++ r ∷ []))) (ids-other p l) ∙ places-before rows r (ids (event rows p)) (is_before p l)
 
     cites-beyond : (p : ℕ) → length rows ≤ p → cites p ≡ []
@@ -177,13 +177,14 @@ pub one_less : {A X : Type 0} (removed : Option A) (before after : Vec X Global)
 one_less None before after n h e = let none : vec_len before ≡ 0 = h.0 in absurd (omega (arith, before.ok.0))
 one_less (Some x) before after n h e = omega (arith, h, before.ok.0, after.ok.0)
 
-pub indexed-pop : (rows : List Row) (r : Row) (prev auth more_prev more_auth : List (Vec ℕ Global)) (numbers after : List (List ℕ × ℕ)) (naming naming_after : List ℕ → List ℕ) (chains chains_after : AuthChains) → IsIndexed (rows ++ r ∷ []) (prev ++ more_prev) (auth ++ more_auth) numbers naming chains
+pub indexed-pop : (rows : List Row) (r : Row) (prev auth more_prev more_auth : List (Vec ℕ Global)) (numbers after : List (List ℕ × ℕ)) (naming naming_after : List ℕ → List ℕ) (chains chains_after : AuthChains) (bounds bounds_after : List ℕ) → IsIndexed (rows ++ r ∷ []) (prev ++ more_prev) (auth ++ more_auth) numbers naming chains bounds
     → length prev ≡ length rows → length auth ≡ length rows
     → ((id : List ℕ) → lookup (λ k. is_eq (slice_cmp nat_cmp id k)) after ≡ cond (is_eq (slice_cmp nat_cmp r.id id)) None (lookup (λ k. is_eq (slice_cmp nat_cmp id k)) numbers))
     → ((id : List ℕ) → naming_after id ≡ without_event r.event id (naming id))
     → AreKeptFor rows chains_after
-    → IsIndexed rows prev auth after naming_after chains_after
-indexed-pop rows r prev auth more_prev more_auth numbers after naming naming_after chains chains_after indexed prev_len auth_len step named kept =
+    → AreBoundsOf rows bounds_after
+    → IsIndexed rows prev auth after naming_after chains_after bounds_after
+indexed-pop rows r prev auth more_prev more_auth numbers after naming naming_after chains chains_after bounds bounds_after indexed prev_len auth_len step named kept bound =
     record {
       few =
           let m : length (rows ++ r ∷ []) ≡ length rows + 1 = length-append rows (r ∷ []) in
@@ -200,4 +201,5 @@ indexed-pop rows r prev auth more_prev more_auth numbers after naming naming_aft
       numbered = numbered-pop rows r indexed.own_place (λ id. lookup (λ k. is_eq (slice_cmp nat_cmp id k)) numbers) (λ id. lookup (λ k. is_eq (slice_cmp nat_cmp id k)) after) indexed.numbered step;
       redactions = λ id. named id ∙ ap (without_event r.event id) (indexed.redactions id) ∙ redactions-pop rows r id;
       auth_chains = kept;
+      depth_bounds = bound;
     }

@@ -7,3 +7,4 @@ pub mod Inside
 pub mod Closing
 pub mod Redactions
 pub mod AuthChains
+pub mod Depths

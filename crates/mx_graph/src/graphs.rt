@@ -3,6 +3,7 @@ ghost use Rattle.std.specs.Prelude.{◌≡◌, ◌+◌, ◌<◌, ◌≤◌, ◌�
 ghost use Rattle.std.specs.List.{list_all};
 ghost use Rattle.std.specs.Result.{result_err};
 ghost use Rattle.mx_graph.specs.Adding.{add_error, is_known};
+ghost use Rattle.mx_graph.specs.Depths.{AreBounds, depth_bound};
 ghost use Rattle.mx_graph.specs.Edges.{Rises};
 ghost use Rattle.mx_graph.specs.Graph as closure;
 ghost use Rattle.mx_graph.specs.Record as definition;
@@ -12,6 +13,7 @@ ghost use Rattle.mx_graph.specs.declared.refusals.NotAdded.{NotAdded as Cause};
 use crate::auth_chains::{AuthChains, place_alone};
 use crate::closing::reached;
 use crate::closing_above::reached_above;
+use crate::depths::bound_behind;
 use crate::numbers::EventNo;
 use crate::redactions::RedactionIndex;
 use crate::refusals::{GraphError, NotAdded};
@@ -40,6 +42,8 @@ pub struct Graph {
     auth_chains: AuthChains,
     numbers: BTreeMap<EventId, EventNo>,
     redactions: RedactionIndex,
+    // For each row the greatest depth of it and of its ancestors.
+    depth_bounds: Vec<u64>,
 }
 
 impl Model for Graph {
@@ -57,7 +61,7 @@ impl Model for Graph {
     ghost view = { λ g. g.rows.items };
 
     ghost invariant = { λ g. IsIndexed g.rows.items g.prev_edges.items g.auth_edges.items g.numbers.entries
-        (naming g.redactions) g.auth_chains };
+        (naming g.redactions) g.auth_chains g.depth_bounds.items };
 }
 
 impl Graph {
@@ -73,6 +77,7 @@ impl Graph {
             auth_chains: AuthChains::new(alloc),
             numbers: BTreeMap::new(alloc),
             redactions: RedactionIndex::new(alloc),
+            depth_bounds: Vec::new(alloc),
         }
     }
 
@@ -171,6 +176,7 @@ impl Graph {
         self.rows.reserve(1)?;
         self.prev_edges.reserve(1)?;
         self.auth_edges.reserve(1)?;
+        self.depth_bounds.reserve(1)?;
         let reached = self
             .auth_chains
             .prepare(self.alloc, &self.rows, &self.auth_edges, &auth_events)?;
@@ -179,11 +185,13 @@ impl Graph {
             self.numbers.remove(&row.id);
             return Err(refused);
         }
+        let bound = bound_behind(&self.depth_bounds, row.event.depth(), &prev_events);
         self.rows.push(row).unwrap();
         self.prev_edges.push(prev_events).unwrap();
         self.auth_edges.push(auth_events).unwrap();
         self.auth_chains.places.push(place_alone(number)).unwrap();
         self.auth_chains.reached.push(reached).unwrap();
+        self.depth_bounds.push(bound).unwrap();
         Ok(number)
     }
 
@@ -197,6 +205,7 @@ impl Graph {
         self.auth_edges.pop();
         self.auth_chains.places.pop();
         self.auth_chains.reached.pop();
+        self.depth_bounds.pop();
         self.numbers.remove(&row.id);
         self.redactions.remove_last(&row.event);
         Some(row)
@@ -234,6 +243,17 @@ impl Graph {
         ensures lower { All (λ other. other < number) result.now }
     {
         &self.auth_edges[number.index()]
+    }
+
+    /// The greatest depth of an event and of its ancestors. It takes no memory.
+    ///
+    /// Source: own, for backfill and missing events (Matrix specification, Server-Server API, "Backfilling and
+    /// retrieving missing events").
+    pub fn depth_bound(&self, number: EventNo) -> u64
+        requires { number < length self.now }
+        ensures { result ≡ depth_bound self.now number }
+    {
+        self.depth_bounds[number.index()]
     }
 
     /// The redactions that name an event, rising, whether or not they were rejected. The event need not be there. It
@@ -331,6 +351,14 @@ pub fn graph_is_sound(graph: &Graph)
     ensures { closure.IsSound graph.now }
 {
     let _ = graph.len();
+}
+
+/// A law: no event and none of its ancestors is deeper than its bound, and the bounds of the events that it follows are
+/// not above its own.
+pub fn depth_bounds_hold(graph: &Graph)
+    ensures { AreBounds graph.now }
+{
+    graph_is_sound(graph);
 }
 
 /// A law: the ancestors and the auth chain of events are the least sets that have what these events cite and what

@@ -6,6 +6,7 @@ mod auth_chains;
 mod chain_differences;
 mod closing;
 mod closing_above;
+mod depths;
 mod event_sets;
 mod graphs;
 mod numbers;
@@ -15,7 +16,7 @@ mod refusals;
 mod rows;
 
 pub use event_sets::{rising, set_of};
-pub use graphs::{Graph, MOST_ROWS, closures_are_least, graph_is_sound};
+pub use graphs::{Graph, MOST_ROWS, closures_are_least, depth_bounds_hold, graph_is_sound};
 pub use numbers::{EventNo, least_of};
 pub use refusals::{GraphError, NotAdded};
 pub use rows::GraphRow;

@@ -1,5 +1,6 @@
 // Numbers of events.
-ghost use Rattle.std.specs.Prelude.{◌≡◌, ◌≤◌, ◌<◌, ◌^◌, All, ℕ};
+ghost use Rattle.std.specs.Prelude.{◌≡◌, ◌≤◌, ◌<◌, ◌^◌, ◌↔◌, All, IsTrue, [], length, min, ℕ};
+ghost use Rattle.mx_graph.specs.Record.{is_in};
 
 use std::marker::Model;
 
@@ -36,7 +37,9 @@ impl EventNo {
 
 /// The least of these numbers; of none, the first number of all.
 pub fn least_of(numbers: &[EventNo]) -> EventNo
-    ensures { All (λ number. result ≤ number) numbers.now }
+    ensures least { All (λ number. result ≤ number) numbers.now }
+    ensures one { IsTrue (is_in numbers.now result) ↔ (0 < length numbers.now) }
+    ensures none { numbers.now ≡ [] → result ≡ 0 }
 {
     let mut least = match numbers.first() {
         Some(number) => *number,
@@ -49,7 +52,7 @@ pub fn least_of(numbers: &[EventNo]) -> EventNo
 }
 
 fn lesser(a: EventNo, b: EventNo) -> EventNo
-    ensures { (result ≤ a) × (result ≤ b) }
+    ensures { result ≡ min a b }
 {
     if a.place <= b.place { a } else { b }
 }

@@ -15,4 +15,4 @@ returns c =
     chained : (p : ℕ) → In p c.args.events.now → is_in c.deref.result.now p ≡ is_in (auth_chain c.args.graph.now c.args.power.now) p
     chained p h =
         ap (λ ys. is_in ys p) c.deref.ensures.value ∙ c.in_ok-chain.ensures.set p
-        ∙ ap (λ b. b && is_in (auth_chain c.args.graph.now c.args.power.now) p) (le-leb c.least_of.result p (in-all (λ n. c.least_of.result ≤ n) c.args.events.now p c.least_of.ensures (is_in-from p c.args.events.now h)))
+        ∙ ap (λ b. b && is_in (auth_chain c.args.graph.now c.args.power.now) p) (le-leb c.least_of.result p (in-all (λ n. c.least_of.result ≤ n) c.args.events.now p c.least_of.ensures.least (is_in-from p c.args.events.now h)))
