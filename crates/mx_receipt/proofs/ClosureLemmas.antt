@@ -9,7 +9,7 @@ use Rattle.mx_graph.proofs.Closure.{in-all, is_in-from, reached-below, reached-b
 use Rattle.mx_graph.proofs.LongerRecordLemmas.{auth_chain-longer, longer-prefix, longer-push, where-longer}
 use Rattle.mx_graph.proofs.ReachedLemmas.{closures-least}
 use Rattle.mx_receipt.specs.Receipt.{Kept, is_rejected, rows_of}
-use Rattle.mx_receipt.proofs.GrowthLemmas.{ancestors-below, ancestors-longer}
+use Rattle.mx_receipt.proofs.GrowthLemmas.{ancestors-below, ancestors-longer, cites-old}
 
 module _ (rows : List Row) (r : Row) (sound : IsSound rows) (after : IsSound (rows ++ r ∷ [])) (starts : List ℕ) (below : (x : ℕ) → is_in starts x ≡ true → x < length rows) where
   abbrev cites_after : ℕ → List ℕ
@@ -34,6 +34,16 @@ pub auth_chain-before : (earlier : List Row) (next : Option Row) → IsSound (ea
 auth_chain-before earlier next sound starts known =
     auth_chain-longer earlier (earlier ++ option_to_list next) (longer-prefix earlier (option_to_list next) sound) starts
     (λ x m. in-all (λ p. p < length earlier) starts x known (is_in-from x starts m))
+
+-- ---- what an event follows
+
+pub prev_events-before : (earlier : List Row) (next : Option Row) → IsSound (earlier ++ option_to_list next) → (x : ℕ) → x < length earlier
+    → prev_events (earlier ++ option_to_list next) (event (earlier ++ option_to_list next) x) ≡ prev_events earlier (event earlier x)
+prev_events-before earlier None sound x l = ap (λ (rs : List Row). prev_events rs (event rs x)) (append-nil earlier)
+prev_events-before earlier (Some r) sound x l = cites-old earlier r (longer-prefix earlier (r ∷ []) sound).sound sound x l
+
+pub sound-earlier : (earlier : List Row) (next : Option Row) → IsSound (earlier ++ option_to_list next) → IsSound earlier
+sound-earlier earlier next sound = (longer-prefix earlier (option_to_list next) sound).sound
 
 -- ---- they are rows
 

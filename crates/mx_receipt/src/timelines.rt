@@ -3,6 +3,7 @@ ghost use Rattle.std.specs.Prelude.{◌≡◌, ◌<◌, ◌≤◌, ◌↔◌, �
 ghost use Rattle.std.specs.List.{list_any};
 ghost use Rattle.std.specs.Fn.{FnOnceReturnsAt};
 ghost use Rattle.std.specs.Result.{result_err};
+ghost use Rattle.mx_graph.specs.Depths.{AreBounds, depth_bound};
 ghost use Rattle.mx_graph.specs.Edges.{Rises};
 ghost use Rattle.mx_graph.specs.Graph as closure;
 ghost use Rattle.mx_graph.specs.Record as record_of;
@@ -170,6 +171,29 @@ impl Timeline {
         ensures { result.now ≡ row_at (definition.rows_of self.now.kept) number }
     {
         self.graph.row(number)
+    }
+
+    /// The prev events of the event with this number, in its order: each has a lower number. It takes no memory.
+    pub fn prev_events(&self, number: EventNo) -> &[EventNo]
+        requires { number < length self.now.kept }
+        ensures cited { result.now ≡ record_of.prev_events (definition.rows_of self.now.kept)
+            (record_of.event (definition.rows_of self.now.kept) number) }
+        ensures lower { All (λ other. other < number) result.now }
+    {
+        graph_is_sound(&self.graph);
+        self.graph.prev_events(number)
+    }
+
+    /// The greatest depth of the event with this number and of its ancestors. It takes no memory.
+    ///
+    /// Source: own, for backfill and missing events (Matrix specification, Server-Server API, "Backfilling and
+    /// retrieving missing events").
+    pub fn depth_bound(&self, number: EventNo) -> u64
+        requires { number < length self.now.kept }
+        ensures { result ≡ depth_bound (definition.rows_of self.now.kept) number }
+    {
+        graph_is_sound(&self.graph);
+        self.graph.depth_bound(number)
     }
 
     /// The event that is prepared, in the form in which it would be kept; none where none is prepared. It takes no
@@ -431,6 +455,15 @@ pub fn timeline_is_sound(timeline: &Timeline)
 pub fn timeline_ids_differ(timeline: &Timeline)
     ensures { (x y : ℕ) → x < length timeline.now.kept → y < length timeline.now.kept
         → (row_at (definition.rows_of timeline.now.kept) x).id ≡ (row_at (definition.rows_of timeline.now.kept) y).id → x ≡ y }
+{
+    graph_is_sound(&timeline.graph);
+}
+
+/// A law: in a timeline each id is there once, each event that an event cites came before it, and neither an event nor an
+/// ancestor of it is deeper than its bound.
+pub fn timeline_depths_hold(timeline: &Timeline)
+    ensures sound { closure.IsSound (definition.rows_of timeline.now.kept) }
+    ensures bounds { AreBounds (definition.rows_of timeline.now.kept) }
 {
     graph_is_sound(&timeline.graph);
 }
