@@ -3,3 +3,4 @@ pub mod JournalRows
 pub mod IndexLemmas
 pub mod StoredLemmas
 pub mod ReopenLemmas
+pub mod AgainLemmas

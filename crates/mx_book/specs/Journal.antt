@@ -91,6 +91,12 @@ entry_of row = Kept (record { origin = row.origin; txn = row.txn }) no_caller ro
 abbrev pub reopened : List BookRow → List BookEntry
 reopened rows = map entry_of rows
 
+-- what is known of a transaction when its book is opened again: a reply that was kept, and else nothing
+abbrev pub after_stop : Hold → Hold
+after_stop free = free
+after_stop (begun caller) = free
+after_stop (kept reply) = kept reply
+
 -- a book at this place can have these rows: each is of a server of the place, and no transaction has two
 abbrev pub can_reopen : PlaceView → List BookRow → Bool
 can_reopen place rows = list_all (λ row. is_at place row.origin) rows && is_legal (reopened rows)

@@ -2,7 +2,9 @@
 ghost use Rattle.std.specs.Prelude.{◌≡◌, ◌≢◌, ◌≤◌, ◌↔◌, ◌++◌, ◌∷◌, [], ◌⊎◌, Option, Some, None, List, ℕ, true, false, IfOk, OnOk, OnErr, IsErrOf, IsTrue, All};
 ghost use Rattle.mx_keeper.specs.Keeping.{Rose};
 ghost use Rattle.mx_keeper.specs.Places.{is_at};
-ghost use Rattle.mx_book.specs.Journal.{transaction_of, hold_of, begun, opening_of, begins, is_legal, stored, reopened, can_reopen, IsEnded};
+ghost use Rattle.mx_book.specs.Journal.{transaction_of, hold_of, begun, opening_of, begins, is_legal, stored, reopened, can_reopen, after_stop, IsEnded};
+ghost use Rattle.mx_book.specs.declared.entries.BookEntry.{BookEntry};
+ghost use Rattle.mx_book.specs.declared.transaction_keys.TransactionKey.{TransactionKey};
 ghost use Rattle.mx_keeper.specs.declared.rows.BookRow.{BookRow};
 
 use crate::entries::BookEntry;
@@ -67,6 +69,10 @@ impl<K: Keeper<Row = BookRow>> Book<K> {
         ensures taken { IfOk result (λ book. book.is_refused ≡ false) }
         ensures honest { IfOk result (λ book. K.is_honest book.keeper → K.is_honest keeper × (K.rows keeper ≡ Some (stored book.journal))) }
         ensures crash { IfOk result (λ book. K.is_honest book.keeper → (left : Option (List BookRow)) → K.may_leave book.keeper left → K.may_leave keeper left) }
+
+        // Of a legal journal whose rows the keeper had it knows the replies that were kept, and what was begun is free.
+        ensures again { IfOk result (λ book. K.is_honest book.keeper → (journal : List BookEntry) → K.rows keeper ≡ Some (stored journal) → IsTrue (is_legal journal)
+            → (key : TransactionKey) → hold_of book.journal key ≡ after_stop (hold_of journal key)) }
 
         // What became of the keeper tells why.
         ensures storage { result ≡ Err CallError.Storage → (after : K) × (K.is_honest after → K.is_honest keeper)

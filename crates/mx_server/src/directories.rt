@@ -6,11 +6,14 @@ use mx_keeper::{BookRow, Keeper, KeeperFault, MOST_PLACES, ShardRow, SqliteKeepe
 use mx_wire::ShardCount;
 use sqlite::{Alter, Connection, Error, ErrorCode, File, FileStore};
 use std::alloc::{AllocError, Global};
-use std::fs::{self, DirBuilder};
-use std::os::unix::fs::DirBuilderExt;
+use std::fs::{self, DirBuilder, OpenOptions};
+use std::os::unix::fs::{DirBuilderExt, OpenOptionsExt};
 
 // Who may look at a directory of rows: its owner, who may change it too.
 const OWNER_ALONE: u32 = 0o700;
+
+// Who may read and write a file of rows: its owner. SQLite's log beside it gets the same.
+const OWNER_READS_AND_WRITES: u32 = 0o600;
 
 /// Rows of one kind in a file.
 pub type FileRows<R> = SqliteKeeper<FileStore<File>, R>;
@@ -183,8 +186,19 @@ fn push<K: Drop>(keepers: &mut Vec<K>, keeper: K) -> Result<(), StartError>
     }
 }
 
+// Makes a file, where it is not there, for its owner alone. Where it can't be made, opening it tells why.
+fn make_file(host: &HostRuntime, path: &str) {
+    let mut maker = OpenOptions::new();
+    maker
+        .write(true)
+        .create_new(true)
+        .mode(OWNER_READS_AND_WRITES);
+    let _made = maker.open(host, path);
+}
+
 // The rows of a file.
 fn keeper_at<R: TableRow>(host: &HostRuntime, path: &str) -> Result<FileRows<R>, StartError> {
+    make_file(host, path);
     match Connection::open(host, path) {
         Ok(connection) => adopted(host, path, connection),
         Err(error) => Err(unopened(host, path, &error)),

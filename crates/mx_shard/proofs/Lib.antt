@@ -6,3 +6,4 @@ mod HolderLemmas
 pub mod ChangeLemmas
 mod IndexLemmas
 mod ReopenLemmas
+pub mod AgainLemmas

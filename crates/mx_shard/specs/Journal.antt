@@ -1,5 +1,5 @@
 -- What is kept of several rooms, in order (our own).
-use Rattle.std.specs.Prelude.{ℕ, nat_le, Bool, true, not, ◌&&◌, List, [], ◌∷◌, ◌++◌, codes, bytes_eq, length, map, filter, fold, is_none, All, IsTrue}
+use Rattle.std.specs.Prelude.{ℕ, ◌≡◌, nat_le, Bool, true, not, ◌&&◌, List, [], ◌∷◌, ◌++◌, codes, bytes_eq, length, map, filter, fold, is_none, All, IsTrue}
 use Rattle.std.specs.List.{list_any, list_all}
 use Rattle.mx_redact.specs.Hashes.{event_id}
 use Rattle.mx_pdu.specs.Event.{has_kind, prev_ids, auth_ids, room_of}
@@ -76,6 +76,10 @@ entry_of_row row = record { room = row.room; id = event_id row.event; event = ro
 -- the journal of the rows that were found
 abbrev pub reopened : List ShardRow → List Entry
 reopened rows = map entry_of_row rows
+
+-- the ids are those that are worked out of the events
+abbrev pub AreWorkedOut : List Entry → Type 0
+AreWorkedOut journal = All (λ e. e.id ≡ event_id e.event) journal
 
 -- a shard at this place can have these rows: each is of a room of the place, and they make a journal that can arise
 pub record CanReopen (place : PlaceView) (rows : List ShardRow) : Type 0 where

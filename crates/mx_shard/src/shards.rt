@@ -7,7 +7,7 @@ ghost use Rattle.mx_pdu.specs.Event.{room_of};
 ghost use Rattle.mx_shard.specs.LoneRoom.{to_host, to_offer, to_join, to_ask, sent_call, call_room, answer};
 ghost use Rattle.mx_shard.specs.Shown.{HasShown, IsAnswer};
 ghost use Rattle.mx_shard.specs.Told.{tells_hosted, tells_kept};
-ghost use Rattle.mx_shard.specs.Journal.{record_of, journal_after, stored, reopened, CanReopen, IsLegal};
+ghost use Rattle.mx_shard.specs.Journal.{Entry, record_of, journal_after, stored, reopened, AreWorkedOut, CanReopen, IsLegal};
 
 use crate::answers::Answer;
 use crate::asking::answer_among;
@@ -78,6 +78,9 @@ impl<K: Keeper<Row = ShardRow>> Shard<K> {
         ensures taken { IfOk result (λ shard. shard.is_refused ≡ false) }
         ensures honest { IfOk result (λ shard. K.is_honest shard.keeper → K.is_honest keeper × (K.rows keeper ≡ Some (stored shard.journal))) }
         ensures crash { IfOk result (λ shard. K.is_honest shard.keeper → (left : Option (List ShardRow)) → K.may_leave shard.keeper left → K.may_leave keeper left) }
+
+        // It has the journal whose rows the keeper had, where its ids are those that are worked out of its events.
+        ensures again { IfOk result (λ shard. K.is_honest shard.keeper → (journal : List Entry) → K.rows keeper ≡ Some (stored journal) → AreWorkedOut journal → shard.journal ≡ journal) }
 
         // What became of the keeper tells why.
         ensures storage { result ≡ Err CallError.Storage → (after : K) × (K.is_honest after → K.is_honest keeper)

@@ -15,3 +15,4 @@ pub mod StepRows
 mod UnfitLemmas
 pub mod ReopeningLemmas
 pub mod CrashLemmas
+pub mod StopLemmas

@@ -1,5 +1,5 @@
 -- Views that are opened again one after the other, each over the keeper with its number.
-use Rattle.std.proofs.Common.{◌≡◌, ◌⊎◌, ◌+◌, ℕ, ◌<◌, ◌≤◌, Bool, true, false, List, [], ◌∷◌, ◌++◌, length, get_or, map, reverse, Option, Some, inl, inr, refl, sym, ap, subst, ◌∙◌, arith}
+use Rattle.std.proofs.Common.{◌≡◌, ◌⊎◌, ◌+◌, ℕ, ◌<◌, ◌≤◌, Bool, true, false, List, [], ◌∷◌, ◌++◌, length, get_or, map, reverse, Option, Some, IsTrue, inl, inr, refl, sym, ap, subst, ◌∙◌, arith}
 use Rattle.std.specs.Prelude.{All, find, if◌then◌else◌, Result, Ok, Err, IfOk}
 use Rattle.std.proofs.lemmas.List.{length_push, get_or_push, get_or_append_left, map_push, reverse-append}
 use Rattle.std.proofs.lemmas.Bool.{false≢true}
@@ -9,12 +9,13 @@ use Rattle.mx_keeper.specs.Places.{PlaceView}
 use Rattle.mx_keeper.specs.declared.rows.BookRow.{BookRow}
 use Rattle.mx_keeper.specs.declared.rows.ShardRow.{ShardRow}
 use Rattle.mx_keeper.specs.declared.refusals.CallError.{CallError}
-use Rattle.mx_shard.specs.Journal.{stored as stored_events, reopened as reopened_events}
+use Rattle.mx_shard.specs.Journal.{Entry, stored as stored_events, reopened as reopened_events, AreWorkedOut}
 use Rattle.mx_shard.specs.View.{ShardView}
 use Rattle.mx_book.specs.Transactions.{same}
-use Rattle.mx_book.specs.Journal.{transaction_of, IsEnded, free, begun, kept, hold_after, entry_of, reopened, stored, can_reopen}
+use Rattle.mx_book.specs.Journal.{transaction_of, IsEnded, free, begun, kept, hold_after, hold_of, is_legal, entry_of, reopened, stored, can_reopen, after_stop}
 use Rattle.mx_book.specs.View.{BookView}
 use Rattle.mx_book.specs.declared.entries.BookEntry.{BookEntry}
+use Rattle.mx_book.specs.declared.transaction_keys.TransactionKey.{TransactionKey}
 use Rattle.mx_world.specs.Reopening.{AreOver, IsReopenedShard, IsReopenedBook, CannotReopen, CanReopenBook}
 
 -- ---- one more
@@ -85,14 +86,17 @@ pub shard-over : {K : Type 0} (honest : K → Type 0) (read : K → Option (List
     → IfOk r (λ shard. shard.journal ≡ reopened_events (stored_events shard.journal)) → IfOk r (λ shard. shard.is_refused ≡ false)
     → IfOk r (λ shard. honest shard.keeper → honest keeper × (read keeper ≡ Some (stored_events shard.journal)))
     → IfOk r (λ shard. honest shard.keeper → (left : Option (List ShardRow)) → may_leave shard.keeper left → may_leave keeper left)
+    → IfOk r (λ shard. honest shard.keeper → (journal : List Entry) → read keeper ≡ Some (stored_events journal) → AreWorkedOut journal → shard.journal ≡ journal)
     → IfOk r (IsReopenedShard honest read may_leave keeper)
-shard-over honest read may_leave keeper (Ok shard) journal taken rows crash = record { journal = journal; taken = taken; rows = rows; crash = crash }
-shard-over honest read may_leave keeper (Err error) journal taken rows crash = tt
+shard-over honest read may_leave keeper (Ok shard) journal taken rows crash again = record { journal = journal; taken = taken; rows = rows; crash = crash; again = again }
+shard-over honest read may_leave keeper (Err error) journal taken rows crash again = tt
 
 pub book-over : {L : Type 0} (honest : L → Type 0) (read : L → Option (List BookRow)) (may_leave : L → Option (List BookRow) → Type 0) (keeper : L) (r : Result (BookView L) CallError)
     → IfOk r (λ book. book.journal ≡ reopened (stored book.journal)) → IfOk r (λ book. book.is_refused ≡ false)
     → IfOk r (λ book. honest book.keeper → honest keeper × (read keeper ≡ Some (stored book.journal)))
     → IfOk r (λ book. honest book.keeper → (left : Option (List BookRow)) → may_leave book.keeper left → may_leave keeper left)
+    → IfOk r (λ book. honest book.keeper → (journal : List BookEntry) → read keeper ≡ Some (stored journal) → IsTrue (is_legal journal)
+        → (key : TransactionKey) → hold_of book.journal key ≡ after_stop (hold_of journal key))
     → IfOk r (IsReopenedBook honest read may_leave keeper)
-book-over honest read may_leave keeper (Ok book) journal taken rows crash = record { journal = journal; taken = taken; rows = rows; crash = crash }
-book-over honest read may_leave keeper (Err error) journal taken rows crash = tt
+book-over honest read may_leave keeper (Ok book) journal taken rows crash again = record { journal = journal; taken = taken; rows = rows; crash = crash; again = again }
+book-over honest read may_leave keeper (Err error) journal taken rows crash again = tt

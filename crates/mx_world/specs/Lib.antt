@@ -11,3 +11,4 @@ pub mod Storage
 pub use Rattle.mx_pdu.specs.Offers
 pub mod Reopening
 pub mod Crashes
+pub mod Stops

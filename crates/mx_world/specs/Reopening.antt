@@ -4,10 +4,12 @@ use Rattle.mx_keeper.specs.Keeping.{Rose}
 use Rattle.mx_keeper.specs.Places.{PlaceView}
 use Rattle.mx_keeper.specs.declared.rows.ShardRow.{ShardRow}
 use Rattle.mx_keeper.specs.declared.rows.BookRow.{BookRow}
-use Rattle.mx_shard.specs.Journal.{stored as stored_events, reopened as reopened_events}
+use Rattle.mx_shard.specs.Journal.{Entry, stored as stored_events, reopened as reopened_events, AreWorkedOut}
 use Rattle.mx_shard.specs.View.{ShardView}
-use Rattle.mx_book.specs.Journal.{can_reopen, stored as stored_replies, reopened as reopened_replies}
+use Rattle.mx_book.specs.Journal.{hold_of, is_legal, can_reopen, stored as stored_replies, reopened as reopened_replies, after_stop}
 use Rattle.mx_book.specs.View.{BookView}
+use Rattle.mx_book.specs.declared.entries.BookEntry.{BookEntry}
+use Rattle.mx_book.specs.declared.transaction_keys.TransactionKey.{TransactionKey}
 
 -- ---- what is opened, by what its keeper tells
 
@@ -17,6 +19,8 @@ pub record IsReopenedShard {K : Type 0} (honest : K → Type 0) (read : K → Op
   pub taken : shard.is_refused ≡ false
   pub rows : honest shard.keeper → honest keeper × (read keeper ≡ Some (stored_events shard.journal))
   pub crash : honest shard.keeper → (left : Option (List ShardRow)) → may_leave shard.keeper left → may_leave keeper left
+  -- it has the journal whose rows the keeper had, where its ids are those that are worked out of its events
+  pub again : honest shard.keeper → (journal : List Entry) → read keeper ≡ Some (stored_events journal) → AreWorkedOut journal → shard.journal ≡ journal
 
 -- the book has the entries of its rows, and these are the rows that its keeper had
 pub record IsReopenedBook {L : Type 0} (honest : L → Type 0) (read : L → Option (List BookRow)) (may_leave : L → Option (List BookRow) → Type 0) (keeper : L) (book : BookView L) : Type 0 where
@@ -24,6 +28,9 @@ pub record IsReopenedBook {L : Type 0} (honest : L → Type 0) (read : L → Opt
   pub taken : book.is_refused ≡ false
   pub rows : honest book.keeper → honest keeper × (read keeper ≡ Some (stored_replies book.journal))
   pub crash : honest book.keeper → (left : Option (List BookRow)) → may_leave book.keeper left → may_leave keeper left
+  -- of a legal journal whose rows the keeper had it knows the replies that were kept, and what was begun is free
+  pub again : honest book.keeper → (journal : List BookEntry) → read keeper ≡ Some (stored_replies journal) → IsTrue (is_legal journal)
+      → (key : TransactionKey) → hold_of book.journal key ≡ after_stop (hold_of journal key)
 
 -- each is, over the keeper with its number
 abbrev pub AreOver : {K V : Type 0} → (K → V → Type 0) → List K → List V → Type 0

@@ -11,6 +11,7 @@ mod reopening;
 mod rooms;
 mod runs;
 mod steps;
+mod stops;
 mod transacting;
 mod transactions;
 mod worlds;
@@ -26,4 +27,5 @@ pub use mx_room::{
 pub use mx_shard::Answer;
 pub use runs::{RunError, agreeing_runs_answer_alike, run};
 pub use steps::{Step, StepReply};
+pub use stops::{known_events_keep_their_verdicts, stops_leave_the_journals};
 pub use worlds::World;

@@ -152,6 +152,15 @@ impl<K: Keeper<Row = ShardRow>, L: Keeper<Row = BookRow>> World<K, L> {
         (self.shards, self.books)
     }
 
+    // What always holds of its shards and its books. This is a law: it changes nothing, and hands its facts to the caller.
+    pub(crate) fn soundness(&self)
+        ensures shards { All (IsSoundShard K.is_honest K.is_open K.rows) self.now.shards }
+        ensures books { All (IsSoundBook L.is_honest L.is_open L.rows) self.now.books }
+    {
+        parts_are_sound(&self.shards);
+        parts_are_sound(&self.books);
+    }
+
     /// Whether no transaction is open: each that was opened has its reply kept for good.
     pub fn none_open(&self) -> bool
         ensures { result ≡ none_open self.now }

@@ -1,7 +1,8 @@
 use Rattle.std.proofs.Common.{◌≡◌, Some, List, sym, ap, ◌∙◌, arith}
 use Rattle.mx_keeper.specs.declared.rows.BookRow.{BookRow}
-use Rattle.mx_book.specs.Journal.{stored, reopened}
+use Rattle.mx_book.specs.Journal.{hold_of, stored, reopened}
 use Rattle.mx_book.proofs.ReopenLemmas.{stored-reopened}
+use Rattle.mx_book.proofs.AgainLemmas.{known-again}
 use Rattle.mx_book.proofs.books.Book.reopen.Goals as goal
 
 pub invariant_of-result : goal.invariant_of-result
@@ -27,3 +28,11 @@ returns-in-Ok-clause-honest g c = λ honest. (
   c.in-Ok.ensures.honest honest,
   c.in-Ok.ensures.ok honest ∙ ap (λ (rs : List BookRow). Some rs) (sym (ap stored c.in_ok-made-in-Ok.ensures.journal ∙ stored-reopened c.in-Ok.rows.items)),
 )
+
+pub returns-in-Ok-clause-again : goal.returns-in-Ok-clause-again
+returns-in-Ok-clause-again g c = λ honest journal is legal key.
+    let rows : c.in-Ok.rows.items ≡ stored journal = some-is c.in-Ok.rows.items (stored journal) (sym (c.in-Ok.ensures.ok honest) ∙ is) in
+    ap (λ entries. hold_of entries key) (c.in_ok-made-in-Ok.ensures.journal ∙ ap reopened rows) ∙ known-again journal legal key
+  where
+    some-is : (xs ys : List BookRow) → Some xs ≡ Some ys → xs ≡ ys
+    some-is xs ys h = cc

@@ -1,6 +1,7 @@
 use Rattle.std.proofs.Common.{Some, List, sym, ap, ◌∙◌}
 use Rattle.mx_keeper.specs.declared.rows.ShardRow.{ShardRow}
 use Rattle.mx_shard.specs.Journal.{stored, reopened}
+use Rattle.mx_shard.proofs.AgainLemmas.{journal-again}
 use Rattle.mx_shard.proofs.ReopenLemmas.{stored-reopened, all-here}
 use Rattle.mx_shard.proofs.shards.Shard.reopen.Goals as goal
 
@@ -30,3 +31,11 @@ returns-in-Ok-clause-honest g c = λ honest. (
   c.in-Ok.ensures.honest honest,
   c.in-Ok.ensures.ok honest ∙ ap (λ (rs : List ShardRow). Some rs) (sym (ap stored c.in_ok-made-in-Ok.ensures.journal ∙ stored-reopened c.in-Ok.rows.items)),
 )
+
+pub returns-in-Ok-clause-again : goal.returns-in-Ok-clause-again
+returns-in-Ok-clause-again g c = λ honest journal is ids.
+    let rows : c.in-Ok.rows.items ≡ stored journal = some-is c.in-Ok.rows.items (stored journal) (sym (c.in-Ok.ensures.ok honest) ∙ is) in
+    c.in_ok-made-in-Ok.ensures.journal ∙ ap reopened rows ∙ journal-again journal ids
+  where
+    some-is : (xs ys : List ShardRow) → Some xs ≡ Some ys → xs ≡ ys
+    some-is xs ys h = cc
