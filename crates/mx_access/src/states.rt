@@ -100,16 +100,16 @@ impl<'t> StateInRoom<'t> {
         )
     }
 
-    /// Whether a user of the server has this membership. It goes through all keys of the room's states: no other
-    /// function does.
+    /// Whether a user of the server has this membership. The time is that of one look-up of the server, and of one in
+    /// the state for each user of that server who has a membership in any of the room's states.
     pub(crate) fn has_member(&self, membership: &str, server: &str) -> bool
         ensures { result ≡ has_member_in (rows_of self.now.0) self.now.1 membership.now server.now }
     {
-        self.state.has_entry_where(&MemberTest {
+        let test = MemberTest {
             timeline: self.timeline,
             membership,
-            server,
-        })
+        };
+        self.state.has_member_where(server, &test)
     }
 }
 

@@ -132,7 +132,9 @@ impl<'t, 's> Viewer<'t, 's> {
 
 /// Whether a server is in the room: a user of the server is joined in its current state. It takes no memory.
 ///
-/// The time is that of one walk over the keys of the room's states, with a look-up for each member of the server.
+/// The time is that of one look-up of the server, and of one in the current state for each user of that server who has a
+/// membership in any of the room's states.
+///
 /// Source: the Matrix specification, Server-Server API.
 #[tactic(auto, unfolding(crate::specs::Access::in_room))]
 pub fn in_room(timeline: &Timeline, server: &ServerName) -> bool

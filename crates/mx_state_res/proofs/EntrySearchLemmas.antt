@@ -1,5 +1,5 @@
--- A search among the entries of a state, through the numbers of all keys.
-use Rattle.std.proofs.Common.{◌≡◌, ◌+◌, ◌<◌, ◌≤◌, ℕ, Bool, true, false, cond, ◌&&◌, ◌||◌, List, [], ◌∷◌, length, drop, get_or, Option, Some, None, unwrap_or, refl, sym, ap, subst, ◌∙◌}
+-- A search among the entries of a state, through the numbers of their keys.
+use Rattle.std.proofs.Common.{◌≡◌, ◌+◌, ◌<◌, ◌≤◌, ℕ, zero, suc, Bool, true, false, cond, ◌&&◌, ◌||◌, List, [], ◌∷◌, length, drop, filter, get_or, Option, Some, None, unwrap_or, refl, sym, ap, subst, ◌∙◌, arith}
 use Rattle.std.specs.Option.{IfSome, option_and_then}
 use Rattle.std.specs.List.{All, list_any}
 use Rattle.std.specs.Ordering.{nat_cmp, eq_by_cmp}
@@ -10,8 +10,9 @@ use Rattle.mx_redact.specs.Fields.{is_some_and}
 use Rattle.mx_auth.specs.Rules.{Key}
 use Rattle.mx_auth.proofs.ListLemmas.{list_any-map}
 use Rattle.mx_orders.specs.StateMap.{State, key_cmp}
-use Rattle.mx_state_res.specs.KeyNumbers.{key_at, number_of, AllBelow, AreDistinct, AreInOrder, in_order, passes_at, shown}
+use Rattle.mx_state_res.specs.KeyNumbers.{key_at, number_of, numbered_from, numbers_where, AllBelow, AreDistinct, passes_at, shown}
 use Rattle.mx_state_res.proofs.EntryLemmas.{below-none}
+use Rattle.mx_state_res.proofs.KeyChangeLemmas.{found-below}
 use Rattle.mx_state_res.proofs.KeyLemmas.{Sorted, first, second}
 use Rattle.mx_state_res.proofs.KeyNumberLemmas.{eq-same}
 use Rattle.mx_state_res.proofs.KnownLemmas.{find-known}
@@ -66,41 +67,81 @@ module _ (test : Key × ℕ → Bool) where
 pub find-here : (keys : List Key) (m : List (ℕ × ℕ)) (n : ℕ) → AreDistinct keys → AllBelow (length keys) m → n < length keys → find key_cmp (key_at keys n) (shown keys m) ≡ find nat_cmp n m
 find-here keys m n d b l = find-shown keys m (key_at keys n) d b ∙ ap (option_and_then (λ j. find nat_cmp j m)) (d n l)
 
-pub known-here : (P : ℕ → Type 0) (keys : List Key) (m : List (ℕ × ℕ)) (n v : ℕ) → AreDistinct keys → AllBelow (length keys) m → n < length keys → find nat_cmp n m ≡ Some v
-    → All (λ e. P e.1) (shown keys m) → P v
-known-here P keys m n v d b l e h = subst (λ o. IfSome o P) (find-here keys m n d b l ∙ e) (find-known key_cmp P (key_at keys n) (shown keys m) h)
+-- what holds of each event of a state holds of the one at the key with a number
+pub known-here : (P : ℕ → Type 0) (keys : List Key) (m : List (ℕ × ℕ)) (n : ℕ) → AreDistinct keys → AllBelow (length keys) m → All (λ e. P e.1) (shown keys m) → IfSome (find nat_cmp n m) P
+known-here P keys m n d b h = by (find nat_cmp n m) refl
+  where
+    by : (r : Option ℕ) → find nat_cmp n m ≡ r → IfSome r P
+    by None e = tt
+    by (Some v) e = subst (λ o. IfSome o P) (find-here keys m n d b (found-below (length keys) n m v b e) ∙ e) (find-known key_cmp P (key_at keys n) (shown keys m) h)
+
+-- ---- the numbers of the keys that pass a test
+
+any-filter : {X : Type 0} (p q : X → Bool) (xs : List X) → list_any q (filter p xs) ≡ list_any (λ x. p x && q x) xs
+any-filter p q [] = refl
+any-filter p q (x ∷ xs) = by (p x) (any-filter p q xs)
+  where
+    by : (b : Bool) → list_any q (filter p xs) ≡ list_any (λ y. p y && q y) xs → list_any q (cond b (x ∷ filter p xs) (filter p xs)) ≡ ((b && q x) || list_any (λ y. p y && q y) xs)
+    by true h = ap (λ r. q x || r) h
+    by false h = h
+
+-- a key that passes a test with its number
+record HasNumber (test : Key × ℕ → Bool) (first : ℕ) (keys : List Key) : Type 0 where
+  place : ℕ
+  below : place < length keys
+  passes : test (get_or keys place ([], []), first + place) ≡ true
+
+any-number : (test : Key × ℕ → Bool) (first : ℕ) (keys : List Key) → list_any test (numbered_from first keys) ≡ true → HasNumber test first keys
+any-number test first [] h = absurd (cc h)
+any-number test first (k ∷ keys) h = by (test (k, first)) refl h (any-number test (first + 1) keys)
+  where
+    later : HasNumber test (first + 1) keys → HasNumber test first (k ∷ keys)
+    later w =
+        let same : (first + 1) + w.place ≡ first + suc w.place = omega arith in
+        record { place = suc w.place; below = omega (arith, w.below); passes = subst (λ n. test (get_or keys w.place ([], []), n) ≡ true) same w.passes }
+
+    by : (b : Bool) → test (k, first) ≡ b → (b || list_any test (numbered_from (first + 1) keys)) ≡ true → (list_any test (numbered_from (first + 1) keys) ≡ true → HasNumber test (first + 1) keys) → HasNumber test first (k ∷ keys)
+    by true e f rest =
+        let same : first ≡ first + 0 = omega arith in
+        record { place = zero; below = omega arith; passes = subst (λ n. test (k, n) ≡ true) same e }
+    by false e f rest = later (rest f)
 
 module _ (key_test : Key → Bool) (event_test : ℕ → Bool) (keys : List Key) (m : List (ℕ × ℕ)) where
   abbrev passes : Key × ℕ → Bool
   passes e = key_test e.0 && event_test e.1
 
   abbrev at : Key × ℕ → Bool
-  at e = key_test e.0 && is_some_and event_test (find nat_cmp e.1 m)
+  at e = key_test e.0 && passes_at event_test m e.1
 
-  -- the numbers of the keys are searched in place of the entries
-  pub numbers-searched : (numbers : List ℕ) → AreDistinct keys → AllBelow (length keys) m → AreInOrder keys numbers → list_any (passes_at key_test event_test keys m) numbers ≡ list_any passes (shown keys m)
-  numbers-searched numbers d b o = sym (list_any-map at (λ n. (key_at keys n, n)) numbers) ∙ one-answer _ _ there back
+  -- the numbers of the keys that pass a test are searched in place of the entries
+  pub numbers-searched : AreDistinct keys → AllBelow (length keys) m → list_any (passes_at event_test m) (numbers_where key_test keys) ≡ list_any passes (shown keys m)
+  numbers-searched d b =
+      list_any-map (passes_at event_test m) (λ (e : Key × ℕ). e.1) (filter (λ e. key_test e.0) (numbered_from 0 keys))
+      ∙ any-filter (λ e. key_test e.0) (λ e. passes_at event_test m e.1) (numbered_from 0 keys) ∙ one-answer _ _ there back
     where
-      there-at : (w : HasFound at (in_order keys numbers)) (r : Option ℕ) → find nat_cmp w.event m ≡ r → list_any passes (shown keys m) ≡ true
-      there-at w None e =
-          let wrong : false ≡ true = and-second (key_test w.key) false (ap (λ r. key_test w.key && is_some_and event_test r) (sym e) ∙ w.passes) in
+      there-at : (n : ℕ) → n < length keys → at (key_at keys n, n) ≡ true → (r : Option ℕ) → find nat_cmp n m ≡ r → list_any passes (shown keys m) ≡ true
+      there-at n l h None e =
+          let wrong : false ≡ true = and-second (key_test (key_at keys n)) false (ap (λ r. key_test (key_at keys n) && is_some_and event_test r) (sym e) ∙ h) in
           absurd (cc wrong)
-      there-at w (Some v) e =
-          found-any passes (shown keys m) w.key v (find-shown keys m w.key d b ∙ ap (option_and_then (λ n. find nat_cmp n m)) (sym (o.found w.key) ∙ w.found) ∙ e)
-          (ap (λ r. key_test w.key && is_some_and event_test r) (sym e) ∙ w.passes)
+      there-at n l h (Some v) e =
+          found-any passes (shown keys m) (key_at keys n) v (find-here keys m n d b l ∙ e)
+          (ap (λ r. key_test (key_at keys n) && is_some_and event_test r) (sym e) ∙ h)
 
-      there : list_any at (in_order keys numbers) ≡ true → list_any passes (shown keys m) ≡ true
-      there h = (let w = any-found at (in_order keys numbers) o.sorted h in there-at w (find nat_cmp w.event m) refl)
+      there : list_any at (numbered_from 0 keys) ≡ true → list_any passes (shown keys m) ≡ true
+      there h =
+          let w = any-number at 0 keys h in
+          let same : 0 + w.place ≡ w.place = omega arith in
+          there-at w.place w.below (subst (λ n. at (key_at keys w.place, n) ≡ true) same w.passes) (find nat_cmp w.place m) refl
 
-      back-at : (w : HasFound passes (shown keys m)) (r : Option ℕ) → number_of keys w.key ≡ r → list_any at (in_order keys numbers) ≡ true
+      back-at : (w : HasFound passes (shown keys m)) (r : Option ℕ) → number_of keys w.key ≡ r → list_any at (numbered_from 0 keys) ≡ true
       back-at w None e =
           let wrong : None ≡ Some w.event = ap (option_and_then (λ n. find nat_cmp n m)) (sym e) ∙ sym (find-shown keys m w.key d b) ∙ w.found in
           absurd (cc wrong)
       back-at w (Some n) e =
           let g : find nat_cmp n m ≡ Some w.event = ap (option_and_then (λ n. find nat_cmp n m)) (sym e) ∙ sym (find-shown keys m w.key d b) ∙ w.found in
-          found-any at (in_order keys numbers) w.key n (o.found w.key ∙ e) (ap (λ r. key_test w.key && is_some_and event_test r) g ∙ w.passes)
+          found-any at (numbered_from 0 keys) w.key n e (ap (λ r. key_test w.key && is_some_and event_test r) g ∙ w.passes)
 
-      back : list_any passes (shown keys m) ≡ true → list_any at (in_order keys numbers) ≡ true
+      back : list_any passes (shown keys m) ≡ true → list_any at (numbered_from 0 keys) ≡ true
       back h = (let w = any-found passes (shown keys m) (sorted-shown keys m) h in back-at w (number_of keys w.key) refl)
 
 -- ---- one number after another

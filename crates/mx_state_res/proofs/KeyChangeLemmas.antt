@@ -160,7 +160,7 @@ shown-changed keys cs m puts taken d bc bm order h =
 
 -- ---- the keys at which two numbered states differ
 
-found-below : {X : Type 0} (bound n : ℕ) (es : List (ℕ × X)) (v : X) → AllBelow bound es → find nat_cmp n es ≡ Some v → n < bound
+pub found-below : {X : Type 0} (bound n : ℕ) (es : List (ℕ × X)) (v : X) → AllBelow bound es → find nat_cmp n es ≡ Some v → n < bound
 found-below bound n [] v h e = absurd (cc e)
 found-below {X} bound n (x ∷ es) v h e = by (eq_by_cmp nat_cmp n x.0) refl e (found-below bound n es v h.1)
   where

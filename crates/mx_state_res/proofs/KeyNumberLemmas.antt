@@ -1,5 +1,5 @@
 -- The numbers of keys, and a search in the order of the keys.
-use Rattle.std.proofs.Common.{◌≡◌, ℕ, zero, suc, ◌+◌, ◌<◌, ◌≤◌, Bool, true, false, cond, length, get_or, map, ◌++◌, List, [], ◌∷◌, Some, None, Result, Ok, Err, IfOk, IfErr, refl, sym, ap, subst, ◌∙◌, ◌⊎◌, inl, inr, arith}
+use Rattle.std.proofs.Common.{◌≡◌, ℕ, zero, suc, ◌+◌, ◌<◌, ◌≤◌, Bool, true, false, cond, filter, length, get_or, map, ◌++◌, List, [], ◌∷◌, Some, None, Result, Ok, Err, IfOk, IfErr, refl, sym, ap, subst, ◌∙◌, ◌⊎◌, inl, inr, arith}
 use Rattle.std.specs.Prelude.{Option, OnOk, All, is_some, unwrap_or}
 use Rattle.std.specs.List.{insert}
 use Rattle.std.specs.List.Sorted.{IsSearchInRange, IsBinarySearchResult, IsNonDecreasingBy}
@@ -8,10 +8,13 @@ use Rattle.std.specs.declared.cmp.Ordering.TheVariants.{Less, Equal, Greater}
 use Rattle.std.specs.Ordering.{ordering_index, is_eq, eq_by_cmp}
 use Rattle.std.specs.FinMap.Entries.{find, put, find-append, find-put}
 use Rattle.std.proofs.Math.Nat.{eq-or-lt_of_le}
-use Rattle.std.proofs.lemmas.List.{get_or-map, length-map}
+use Rattle.std.proofs.lemmas.List.{append-nil, get_or-map, length-map, map-append}
+use Rattle.std.proofs.lemmas.List.Elements.{filter-append}
 use Rattle.mx_auth.specs.Rules.{Key}
 use Rattle.mx_orders.specs.StateMap.{State, key_cmp}
-use Rattle.mx_state_res.specs.KeyNumbers.{key_at, numbered_from, number_of, with_key, AreDistinct, order_at, in_order, AreInOrder, AreGrown}
+use Rattle.mx_state_res.specs.KeyNumbers.{key_at, numbered_from, number_of, numbers_where, with_key, AreDistinct, AreIndexed, order_at, in_order, AreInOrder, AreGrown}
+use Rattle.mx_state_res.specs.MemberKeys.{is_member_key}
+use Rattle.mx_state_res.specs.MemberLists.{with_number}
 use Rattle.mx_state_res.specs.Places.{IsAt, IsGapFor}
 use Rattle.mx_state_res.proofs.KeyLemmas.{key_cmp-total, key_cmp-same, key_cmp-itself, Sorted}
 use Rattle.mx_state_res.proofs.PlaceLemmas.{searched, find-at, find-gap, put-gap, sorted-put}
@@ -216,7 +219,7 @@ in_order-grown keys key (n ∷ numbers) h =
     ∙ ap (λ s. (key_at keys n, n) ∷ s) (in_order-grown keys key numbers (all-tail (λ n. n < length keys) n numbers h))
 
 -- the order with a key more, which stands in its gap
-pub in_order-added : (keys : List Key) (numbers : List ℕ) (key : Key) (place : ℕ) → AreInOrder keys numbers → IsGapFor key (in_order keys numbers) place
+in_order-added : (keys : List Key) (numbers : List ℕ) (key : Key) (place : ℕ) → AreInOrder keys numbers → IsGapFor key (in_order keys numbers) place
     → AreInOrder (keys ++ key ∷ []) (insert numbers place (length keys))
 in_order-added keys numbers key place h gap = record {
   below = all-insert (λ n. n < length (keys ++ key ∷ [])) numbers place (length keys) in_range (λ k d l. omega (arith, h.below k d l, longer)) (omega (arith, longer));
@@ -240,6 +243,27 @@ in_order-added keys numbers key place h gap = record {
         ∙ ap (λ k. insert (in_order grown numbers) place (k, length keys)) (at_last keys key ([], []) (length keys) refl)
         ∙ ap (λ s. insert s place (key, length keys)) (in_order-grown keys key numbers h.below)
         ∙ put-gap (in_order keys numbers) key (length keys) place gap
+
+-- the numbers of the keys that pass a test, with a key more
+numbers-push : (test : Key → Bool) (keys : List Key) (key : Key) → numbers_where test (keys ++ key ∷ []) ≡ with_number (test key) (length keys) (numbers_where test keys)
+numbers-push test keys key =
+    ap (λ s. map (λ (e : Key × ℕ). e.1) (filter (λ e. test e.0) s)) (numbered-push 0 keys key)
+    ∙ ap (map (λ (e : Key × ℕ). e.1)) (filter-append (λ e. test e.0) (numbered_from 0 keys) ((key, 0 + length keys) ∷ []))
+    ∙ map-append (λ (e : Key × ℕ). e.1) (filter (λ e. test e.0) (numbered_from 0 keys)) (cond (test key) ((key, 0 + length keys) ∷ []) [])
+    ∙ by (test key) (0 + length keys) (omega arith)
+  where
+    by : (b : Bool) (n : ℕ) → n ≡ length keys → numbers_where test keys ++ map (λ (e : Key × ℕ). e.1) (cond b ((key, n) ∷ []) []) ≡ with_number b (length keys) (numbers_where test keys)
+    by true n e = ap (λ i. numbers_where test keys ++ i ∷ []) e
+    by false n e = append-nil (numbers_where test keys)
+
+-- ---- what is kept beside the keys
+
+pub indexed-added : (keys : List Key) (numbers : List ℕ) (listed after : List ℕ → List ℕ) (key : Key) (place : ℕ) → AreIndexed keys numbers listed → IsGapFor key (in_order keys numbers) place
+    → ((server : List ℕ) → after server ≡ with_number (is_member_key server key) (length keys) (listed server)) → AreIndexed (keys ++ key ∷ []) (insert numbers place (length keys)) after
+indexed-added keys numbers listed after key place h gap step = record {
+  ordered = in_order-added keys numbers key place h.ordered gap;
+  members = λ server. step server ∙ ap (with_number (is_member_key server key) (length keys)) (h.members server) ∙ sym (numbers-push (is_member_key server) keys key);
+}
 
 -- ---- what adding a key answers
 

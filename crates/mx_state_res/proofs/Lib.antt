@@ -33,6 +33,7 @@ pub mod NumberedConflictLemmas
 pub mod KeyChangeLemmas
 pub mod LongerRecordLemmas
 pub mod SameMembersLemmas
+pub mod MemberLemmas
 pub mod EntrySearchLemmas
 pub mod StateSetLemmas
 pub mod RowWalkLemmas

@@ -1,6 +1,6 @@
 -- For proofs and private clauses alone.
 -- The numbers of a room's keys, and states by these numbers.
-use Rattle.std.specs.Prelude.{◌≡◌, ℕ, ◌+◌, ◌<◌, ◌≤◌, ◌&&◌, Bool, T, cond, List, [], ◌∷◌, ◌++◌, Option, Some, All, is_some, length, map, option_map, slice_get, slice_index_or, unwrap_or}
+use Rattle.std.specs.Prelude.{◌≡◌, ℕ, ◌+◌, ◌<◌, ◌≤◌, Bool, T, cond, List, [], ◌∷◌, ◌++◌, Option, Some, All, filter, is_some, length, map, option_map, slice_get, slice_index_or, unwrap_or}
 use Rattle.std.specs.declared.cmp.Ordering.{Ordering}
 use Rattle.std.specs.declared.cmp.Ordering.TheVariants.{Less}
 use Rattle.std.specs.Option.{option_and_then, option_or}
@@ -10,6 +10,7 @@ use Rattle.std.specs.FinMap.Entries.{find, is_sorted, put}
 use Rattle.mx_redact.specs.Fields.{is_some_and}
 use Rattle.mx_auth.specs.Rules.{Key}
 use Rattle.mx_orders.specs.StateMap.{State, entry, key_cmp}
+use Rattle.mx_state_res.specs.MemberKeys.{is_member_key}
 
 -- the key with this number
 abbrev pub key_at : List Key → ℕ → Key
@@ -51,15 +52,23 @@ pub record AreInOrder (keys : List Key) (numbers : List ℕ) : Type 0 where
   pub sorted : T (is_sorted key_cmp (in_order keys numbers))
   pub found : (key : Key) → find key_cmp key (in_order keys numbers) ≡ number_of keys key
 
+-- the numbers of the keys that pass a test, rising
+abbrev pub numbers_where : (Key → Bool) → List Key → List ℕ
+numbers_where test keys = map (λ e. e.1) (filter (λ e. test e.0) (numbered_from 0 keys))
+
+-- the numbers of all keys are in the order of the keys, and those of members' keys are listed by the members' servers
+pub record AreIndexed (keys : List Key) (numbers : List ℕ) (listed : List ℕ → List ℕ) : Type 0 where
+  pub ordered : AreInOrder keys numbers
+  pub members : (server : List ℕ) → listed server ≡ numbers_where (is_member_key server) keys
+
 -- the state whose entries, by the numbers of their keys, are these; of two with one number it has the first
 abbrev pub shown : List Key → List (ℕ × ℕ) → State
 shown keys [] = []
 shown keys (e ∷ entries) = put key_cmp (key_at keys e.0) e.1 (shown keys entries)
 
--- the key with this number passes a test, and the event there another
-abbrev pub passes_at : (Key → Bool) → (ℕ → Bool) → List Key → List (ℕ × ℕ) → ℕ → Bool
-passes_at key_test event_test keys entries number =
-    key_test (key_at keys number) && is_some_and event_test (find nat_cmp number entries)
+-- an event stands at the key with this number, and passes a test
+abbrev pub passes_at : (ℕ → Bool) → List (ℕ × ℕ) → ℕ → Bool
+passes_at event_test entries number = is_some_and event_test (find nat_cmp number entries)
 
 -- the numbers of keys in entries or changes are below a bound
 abbrev pub AllBelow : {X : Type 0} → ℕ → List (ℕ × X) → Type 0

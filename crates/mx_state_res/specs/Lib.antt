@@ -7,5 +7,7 @@ pub mod ChainDifference
 pub mod Numbered
 pub mod SnapshotEntries
 pub mod SnapshotChains
+pub mod MemberKeys
+pub mod MemberLists
 pub mod KeyNumbers
 pub mod RowSets

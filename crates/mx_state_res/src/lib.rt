@@ -23,6 +23,6 @@ pub use numbered_resolution::resolve_numbered;
 pub use resolving::resolve;
 pub use state_maps::StateMap;
 pub use states::States;
-pub use states::entry_tests::EntryTest;
+pub use states::event_tests::EventTest;
 pub use states::state_numbers::StateNo;
 pub use states::state_refs::StateRef;

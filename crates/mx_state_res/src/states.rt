@@ -6,12 +6,14 @@ ghost use Rattle.mx_auth.specs.Rules.{Key};
 ghost use Rattle.mx_graph.specs.Record.{is_in};
 ghost use Rattle.mx_orders.specs.StateMap.{entry, events_of, key_cmp};
 ghost use Rattle.mx_state_res.specs.Agreed.{has_missed};
+ghost use Rattle.mx_state_res.specs.MemberKeys.{is_member_key};
 ghost use Rattle.mx_state_res.specs.Numbered.{AllAlike, state_at, without};
 ghost use Rattle.mx_state_res.specs.Resolution.{overwritten};
 
-mod entry_search;
-pub(crate) mod entry_tests;
+pub(crate) mod event_tests;
 pub(crate) mod key_numbers;
+pub(crate) mod member_lists;
+mod member_search;
 pub(crate) mod number_sets;
 mod numbered_entries;
 mod shared_events;
@@ -22,8 +24,8 @@ pub(crate) mod state_refs;
 
 use crate::snapshots::Snapshots;
 use crate::state_maps::StateMap;
-use crate::states::entry_search::has_match;
-use crate::states::entry_tests::EntryTest;
+use crate::states::event_tests::EventTest;
+use crate::states::member_search::has_passing_member;
 use crate::states::numbered_entries::{changes_of, entries_of, map_of, put_differing};
 use crate::states::shared_events::events_at_other_keys;
 use crate::states::state_keys::Keys;
@@ -145,14 +147,19 @@ impl States {
         }
     }
 
-    // Whether an entry of a state passes a test. It takes no memory.
-    pub(crate) fn has_entry_where<E: EntryTest>(&self, number: StateNo, test: &E) -> bool
+    // Whether in a state the membership of a user of a server passes a test. It takes no memory.
+    pub(crate) fn has_member_where<T: EventTest>(
+        &self,
+        number: StateNo,
+        server: &str,
+        test: &T,
+    ) -> bool
         requires number { number < length self.now }
-        requires known { All (λ e. e.1 < E.event_count test.now) (state_at self.now number) }
+        requires known { All (λ e. e.1 < T.event_count test.now) (state_at self.now number) }
         ensures { result
-            ≡ list_any (λ e. E.key_test test.now e.0 && E.event_test test.now e.1) (state_at self.now number) }
+            ≡ list_any (λ e. is_member_key server.now e.0 && T.event_test test.now e.1) (state_at self.now number) }
     {
-        has_match(&self.keys, &self.snapshots, number, test)
+        has_passing_member(&self.keys, &self.snapshots, number, server, test)
     }
 
     // A state as a map of its own.

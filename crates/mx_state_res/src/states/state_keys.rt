@@ -1,10 +1,13 @@
 // The keys of a room's states, by number.
 ghost use Rattle.std.specs.Prelude.{◌≡◌, ◌<◌, ◌++◌, ◌∷◌, [], IfErr, IfOk, OnErr, OnOk, length};
 ghost use Rattle.mx_orders.specs.StateMap.{key_cmp};
-ghost use Rattle.mx_state_res.specs.KeyNumbers.{AreInOrder, in_order, key_at, number_of, order_at, with_key};
+ghost use Rattle.mx_state_res.specs.KeyNumbers.{AreIndexed, AreInOrder, in_order, key_at, number_of, numbers_where, order_at, with_key};
+ghost use Rattle.mx_state_res.specs.MemberKeys.{is_member_key};
+ghost use Rattle.mx_state_res.specs.MemberLists.{listed};
 ghost use Rattle.mx_state_res.specs.Places.{IsAt, IsGapFor};
 
 use crate::states::key_numbers::KeyNo;
+use crate::states::member_lists::MemberLists;
 use std::alloc::{AllocError, Global};
 use std::cmp::Ordering;
 use std::marker::Model;
@@ -65,18 +68,21 @@ pub(crate) struct Keys {
     keys: Vec<StateKey>,
     // Their numbers in the order of the keys.
     order: Vec<KeyNo>,
+    // Those of members' keys, by the servers.
+    members: MemberLists,
 }
 
 impl Model for Keys {
     ghost use Rattle.std.specs.Prelude.{List};
     ghost use Rattle.mx_auth.specs.Rules.{Key};
-    ghost use Rattle.mx_state_res.specs.KeyNumbers.{AreInOrder};
+    ghost use Rattle.mx_state_res.specs.KeyNumbers.{AreIndexed};
+    ghost use Rattle.mx_state_res.specs.MemberLists.{listed};
 
     ghost Value = { List Key };
 
     ghost view = { λ keys. keys.keys.items };
 
-    ghost invariant = { λ keys. AreInOrder keys.keys.items keys.order.items };
+    ghost invariant = { λ keys. AreIndexed keys.keys.items keys.order.items (listed keys.members) };
 }
 
 // There are at most so many keys, as their numbers are `u32`.
@@ -91,6 +97,7 @@ impl Keys {
             alloc,
             keys: Vec::new(alloc),
             order: Vec::new(alloc),
+            members: MemberLists::new(alloc),
         }
     }
 
@@ -116,6 +123,14 @@ impl Keys {
         &self.order
     }
 
+    // The numbers of the keys of a server's members, rising. It takes no memory, and the time is logarithmic in the
+    // servers of all members.
+    pub(crate) fn members_of(&self, server: &str) -> &[KeyNo]
+        ensures { result.now ≡ numbers_where (is_member_key server.now) self.now }
+    {
+        self.members.get(server)
+    }
+
     // The number of a key. It takes no memory, and the time is logarithmic in the keys.
     pub(crate) fn number_of(&self, kind: &str, state_key: &str) -> Option<KeyNo>
         ensures { result ≡ number_of self.now (kind.now, state_key.now) }
@@ -138,6 +153,7 @@ impl Keys {
                 self.alloc,
                 &mut self.keys,
                 &mut self.order,
+                &mut self.members,
                 place,
                 kind,
                 state_key,
@@ -170,15 +186,16 @@ fn add_key(
     alloc: Global,
     keys: &mut Vec<StateKey>,
     order: &mut Vec<KeyNo>,
+    members: &mut MemberLists,
     place: usize,
     kind: &str,
     state_key: &str,
 ) -> Result<KeyNo, AllocError>
-    requires ordered { AreInOrder keys.old.items order.old.items }
+    requires indexed { AreIndexed keys.old.items order.old.items (listed members.old) }
     requires gap { IsGapFor (kind.now, state_key.now) (in_order keys.old.items order.old.items) place }
     ensures number { IfOk result (λ number. number ≡ length keys.old.items) }
     ensures added { OnOk result (keys.new.items ≡ keys.old.items ++ (kind.now, state_key.now) ∷ []) }
-    ensures ordered { AreInOrder keys.new.items order.new.items }
+    ensures indexed { AreIndexed keys.new.items order.new.items (listed members.new) }
     ensures err { OnErr result (keys.new.items ≡ keys.old.items) }
 {
     if keys.len() > MOST_KEYS {
@@ -188,7 +205,9 @@ fn add_key(
     let key = StateKey::new(alloc, kind, state_key)?;
     // What can fail goes first, so that an error leaves the keys as they were.
     keys.reserve(1)?;
-    order.insert(place, number)?;
+    order.reserve(1)?;
+    members.add(alloc, kind, state_key, number)?;
+    order.insert(place, number).unwrap();
     keys.push(key).unwrap();
     Ok(number)
 }

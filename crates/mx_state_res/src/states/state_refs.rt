@@ -2,12 +2,13 @@
 ghost use Rattle.std.specs.Prelude.{◌≡◌, ◌<◌, ◌&&◌, ℕ, All, IfOk, length};
 ghost use Rattle.std.specs.List.{list_any};
 ghost use Rattle.mx_orders.specs.StateMap.{entry, events_of as events_in};
+ghost use Rattle.mx_state_res.specs.MemberKeys.{is_member_key};
 ghost use Rattle.mx_state_res.specs.Numbered.{state_at};
 
 use crate::conflicts::events_of;
 use crate::state_maps::StateMap;
 use crate::states::States;
-use crate::states::entry_tests::EntryTest;
+use crate::states::event_tests::EventTest;
 use crate::states::state_numbers::StateNo;
 use mx_graph::EventNo;
 use std::alloc::{AllocError, Global};
@@ -53,14 +54,15 @@ impl<'s> StateRef<'s> {
         self.states.get(self.number, kind, state_key)
     }
 
-    /// Whether an entry passes a test. It takes no memory.
+    /// Whether the membership of a user of a server passes a test. It takes no memory.
     ///
-    /// The key is tested of each key that any of the room's states has; the event is looked up where the key passes.
-    pub fn has_entry_where<E: EntryTest>(&self, test: &E) -> bool
-        requires { All (λ e. e.1 < E.event_count test.now) self.now }
-        ensures { result ≡ list_any (λ e. E.key_test test.now e.0 && E.event_test test.now e.1) self.now }
+    /// The time is that of one look-up of the server, which is logarithmic in the servers of the room's members, and of
+    /// one in the state for each user of that server who has a membership in any of the room's states.
+    pub fn has_member_where<T: EventTest>(&self, server: &str, test: &T) -> bool
+        requires { All (λ e. e.1 < T.event_count test.now) self.now }
+        ensures { result ≡ list_any (λ e. is_member_key server.now e.0 && T.event_test test.now e.1) self.now }
     {
-        self.states.has_entry_where(self.number, test)
+        self.states.has_member_where(self.number, server, test)
     }
 
     /// The state as a map of its own, whose entries are in the order of their keys.

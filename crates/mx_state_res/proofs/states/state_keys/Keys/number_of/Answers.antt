@@ -9,11 +9,11 @@ pub returns-in-Ok : goal.returns-in-Ok
 returns-in-Ok c =
     let key : Key = (c.args.kind.now, c.args.state_key.now) in
     let at : IsAt key (in_order c.self.inside.keys.items c.self.inside.order.items) c.in-Ok.place = rw (← c.deref.ensures.value, ← c.deref-2.ensures.value) c.in-Ok.ensures.found in
-    ap Some c.index.ensures ∙ sym (number-at c.self.inside.keys.items c.self.inside.order.items key c.in-Ok.place c.index.result.now c.self.invariant at)
+    ap Some c.index.ensures ∙ sym (number-at c.self.inside.keys.items c.self.inside.order.items key c.in-Ok.place c.index.result.now c.self.invariant.ordered at)
     ∙ ap (λ ks. number_of ks key) c.self.view_is
 
 pub returns-in-Err : goal.returns-in-Err
 returns-in-Err c =
     let key : Key = (c.args.kind.now, c.args.state_key.now) in
     let gap : IsGapFor key (in_order c.self.inside.keys.items c.self.inside.order.items) c.in-Err.field-0 = rw (← c.deref.ensures.value, ← c.deref-2.ensures.value) c.in-Err.ensures.absent in
-    sym (number-none c.self.inside.keys.items c.self.inside.order.items key c.in-Err.field-0 c.self.invariant gap) ∙ ap (λ ks. number_of ks key) c.self.view_is
+    sym (number-none c.self.inside.keys.items c.self.inside.order.items key c.in-Err.field-0 c.self.invariant.ordered gap) ∙ ap (λ ks. number_of ks key) c.self.view_is
