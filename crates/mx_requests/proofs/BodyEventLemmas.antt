@@ -1,14 +1,21 @@
 -- The events that a body's texts are JSON for.
-use Rattle.std.proofs.Common.{◌≡◌, ◌≤◌, ℕ, Bool, true, false, ◌&&◌, if◌then◌else◌, List, [], ◌∷◌, length, map, filter, refl, ap, ap₂, ◌∙◌}
+use Rattle.std.proofs.Common.{◌≡◌, ◌≤◌, ℕ, Bool, true, false, ◌&&◌, if◌then◌else◌, List, [], ◌∷◌, length, map, filter, is_none, refl, sym, ap, ap₂, ◌∙◌}
 use Rattle.std.proofs.lemmas.Bool.{le-leb, ltb-false}
 use Rattle.std.specs.List.{cons_option}
 use Rattle.std.specs.Prelude.{Option, Some, None, option_map, option_and_then}
 use Rattle.serde_json.specs.Data.{Data}
-use Rattle.mx_canon.specs.Canonical.{canonical_text}
+use Rattle.serde_json.specs.Written.{compact_text, has_float}
+use Rattle.mx_canon.specs.Canonical.{canonical_error, canonical_text}
+use Rattle.mx_canon.specs.KeyOrder.{KeysRise}
+use Rattle.mx_canon.specs.declared.checking.NotCanonical.{NotCanonical}
+use Rattle.mx_canon.proofs.FaultLemmas.{has_float-is_canonical}
+use Rattle.mx_canon.proofs.TextLemmas.{canon_same}
 use Rattle.mx_redact.specs.Fields.{Event}
 use Rattle.mx_pdu.specs.Format.{is_well_formed}
 use Rattle.mx_pdu.specs.declared.offering.Offered.{Offered}
+use Rattle.mx_pdu.proofs.CanonicalLemmas.{is_none-canonical_error}
 use Rattle.mx_pdu.proofs.FormatLemmas.{formed}
+use Rattle.mx_pdu.proofs.TextLemmas.{no-error}
 use Rattle.mx_body.specs.Bodies.{has_text_within, text_within}
 use Rattle.mx_requests.specs.BodyEvents.{offered_if_formed, offered_in}
 use Rattle.mx_requests.specs.Requests.{json_of}
@@ -31,6 +38,19 @@ no_text-by offer d false is e = refl
 -- what has no such text is no event
 pub no_text : (offer : Event → Offered) (d : Data) → None ≡ text_within longest d → None ≡ offered_if_formed offer d
 no_text offer d e = no_text-by offer d (is_well_formed d) refl e
+
+no_event-by : (d : Data) (cause : NotCanonical) (b : Bool) → canonical_error d ≡ Some cause → is_well_formed d ≡ b → b ≡ false
+no_event-by d cause true e is = let none : canonical_error d ≡ None = no-error d (formed d is).canonical in absurd (cc)
+no_event-by d cause false e is = refl
+
+-- what has no canonical text is no event
+pub no_event : (d : Data) (cause : NotCanonical) → canonical_error d ≡ Some cause → is_well_formed d ≡ false
+no_event d cause e = no_event-by d cause (is_well_formed d) e refl
+
+-- the text of a value that has canonical JSON is that
+pub canonical_written : (d : Data) (text : List ℕ) → canonical_error d ≡ None → KeysRise d → (has_float d ≡ false → text ≡ compact_text d) → text ≡ canonical_text d
+unfolding canonical_text
+canonical_written d text none keys written = written (has_float-is_canonical d (sym (is_none-canonical_error d) ∙ ap is_none none)) ∙ sym (canon_same d keys)
 
 -- ---- in a list
 

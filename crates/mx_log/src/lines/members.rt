@@ -9,6 +9,9 @@ ghost use Rattle.mx_log.specs.TextMembers.{object_shown};
 use crate::lines::keys::is_among;
 use json::{Reader, Scratch, Token};
 
+// The most bytes of a line that is read here. A longer one, as lines with events are, is read once, by its JSON value.
+const LONGEST_LINE: usize = 512;
+
 /// A member of an object whose value is a text.
 #[derive(Clone, Copy)]
 pub(crate) struct TextMember<'l> {
@@ -53,11 +56,14 @@ impl<'l> ThreeMembers<'l> {
     }
 }
 
-/// The object that a line is, where it has three members whose values are texts. None for another line, and where no
-/// memory is left for the scratch, which is kept from line to line.
+/// The object that a line is, where it has three members whose values are texts. None for another line, for one of more
+/// than 512 bytes, and where no memory is left for the scratch, which is kept from line to line.
 pub(crate) fn members_in<'l>(scratch: &'l mut Scratch, line: &'l [u8]) -> Option<ThreeMembers<'l>>
     ensures { IfSome result (λ members. json_of line.now ≡ Some (object_shown members)) }
 {
+    if line.len() > LONGEST_LINE {
+        return None;
+    }
     let text = str::from_utf8(line).ok()?;
     let mut reader = Reader::new(text, scratch).ok()?;
     let Some(Token::BeginObject) = reader.next() else {

@@ -10,6 +10,7 @@ ghost use Rattle.mx_pdu.specs.Offers.{offer_by};
 
 use crate::faults::Fault;
 use mx_body::{BodyError, MOST_EVENTS, event_text, transaction_texts};
+use mx_canon::check;
 use mx_pdu::{Offered, PduError, TextError, Verifier};
 use serde_json::Value;
 use std::alloc::{AllocError, Global};
@@ -163,6 +164,8 @@ fn well_formed_among<V: Verifier>(
 }
 
 /// The event that a value is, as it is offered; none where it is malformed. `AllocError` where no memory is left for it.
+///
+/// Its canonical text is written once, and not counted before.
 pub fn well_formed<V: Verifier>(
     alloc: Global,
     value: Value,
@@ -171,7 +174,11 @@ pub fn well_formed<V: Verifier>(
     ensures { IfOk result (λ event.
         event ≡ (if is_well_formed (view value) then Some (offer_by (V.judges verifier.now) (view value)) else None)) }
 {
-    match Offered::from_value(alloc, value, verifier) {
+    let Ok(()) = check(&value) else {
+        return Ok(None);
+    };
+    let text = value.to_string(alloc)?;
+    match Offered::from_canonical(alloc, value, text, verifier) {
         Ok(event) => Ok(Some(event)),
         Err(PduError::Memory) => Err(AllocError),
         Err(PduError::NotAnEvent(_)) => Ok(None),
