@@ -1,5 +1,5 @@
 -- A book that is opened again over the rows of a journal.
-use Rattle.std.proofs.Common.{◌≡◌, Bool, true, false, IsTrue, List, [], ◌∷◌, ◌++◌, Option, Some, refl, sym, ◌∙◌, ap, subst, append_assoc, append-nil}
+use Rattle.std.proofs.Common.{◌≡◌, ℕ, Bool, true, false, IsTrue, List, [], ◌∷◌, ◌++◌, Option, Some, refl, sym, ◌∙◌, ap, subst, append_assoc, append-nil}
 use Rattle.std.specs.Prelude.{◌&&◌}
 use Rattle.std.proofs.lemmas.Bool.{false≢true, and_parts}
 use Rattle.std.proofs.lemmas.List.{map-append}
@@ -13,7 +13,7 @@ use Rattle.mx_book.proofs.JournalLemmas.{same-eq, hold_of-here, hold_of-there, s
 use Rattle.mx_book.proofs.StoredLemmas.{stored-begun, stored-given_up}
 
 -- each transaction is known again as it was
-IsKnown : List BookEntry → Type 0
+abbrev IsKnown : List BookEntry → Type 0
 IsKnown journal = (key : TransactionKey) → hold_of (reopened (stored journal)) key ≡ after_stop (hold_of journal key)
 
 -- ---- what an entry may follow
