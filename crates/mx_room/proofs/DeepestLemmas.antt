@@ -115,7 +115,7 @@ module _ {A : Type 0} (cmp : A → A → Ordering) where
 
 -- ---- events by depth
 
-filter-all : (test : ℕ → Bool) (xs : List ℕ) → All (λ x. IsTrue (test x)) xs → filter test xs ≡ xs
+pub filter-all : (test : ℕ → Bool) (xs : List ℕ) → All (λ x. IsTrue (test x)) xs → filter test xs ≡ xs
 filter-all test [] h = refl
 filter-all test (x ∷ xs) h =
     ap (λ b. cond b (x ∷ filter test xs) (filter test xs)) (All-head (λ y. IsTrue (test y)) x xs h)
@@ -142,9 +142,13 @@ module _ (rows : List Row) (depth : ℕ) where
       let high : depth ≤ depth_of (event rows y) = leb-true depth (depth_of (event rows y)) b in
       ap (λ r. ordering_then r (slice_cmp nat_cmp (row rows x).id (row rows y).id)) (sym (nat_cmp_is (depth_of (event rows y)) (depth_of (event rows x)) Greater (omega (arith, high, low))))
 
+  -- where enough are so deep, the others are not looked at
+  pub enough-deep : (most : ℕ) (xs : List ℕ) → most ≤ length (filter (is_as_deep rows depth) xs) → take most (sorted (depth_falling rows) (filter (is_as_deep rows depth) xs)) ≡ take most (sorted (depth_falling rows) xs)
+  enough-deep = first-sorted (depth_falling rows) (is_as_deep rows depth) deeper less_deep
+
   pub deepest-is : (most : ℕ) (xs : List ℕ) (n : ℕ) → n + most ≡ length xs → All (λ x. IsTrue (is_as_deep rows depth x)) (drop n xs)
       → take most (sorted (depth_falling rows) (filter (is_as_deep rows depth) xs)) ≡ take most (sorted (depth_falling rows) xs)
-  deepest-is most xs n e h = first-sorted (depth_falling rows) (is_as_deep rows depth) deeper less_deep most xs (enough-pass (is_as_deep rows depth) most xs n e h)
+  deepest-is most xs n e h = enough-deep most xs (enough-pass (is_as_deep rows depth) most xs n e h)
 
 -- few events are all taken
 pub few-taken : (rows : List Row) (most : ℕ) (xs : List ℕ) → length xs ≤ most → sorted (depth_falling rows) xs ≡ take most (sorted (depth_falling rows) xs)

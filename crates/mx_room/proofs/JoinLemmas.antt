@@ -16,6 +16,7 @@ use Rattle.mx_auth.specs.Rules.{all_are, needed_keys, rules, where_so}
 use Rattle.mx_auth.specs.Versions.{version_text}
 use Rattle.mx_auth.specs.declared.versions.RoomVersion.{RoomVersion}
 use Rattle.mx_auth.specs.declared.refusals.Rule.{Rule}
+use Rattle.mx_graph.specs.Depths.{greatest_depth}
 use Rattle.mx_graph.specs.Edges.{Rises}
 use Rattle.mx_graph.specs.Record.{Row, row, event}
 use Rattle.mx_graph.proofs.Closure.{is_in-from}
@@ -28,7 +29,7 @@ use Rattle.mx_orders.proofs.SortedLaws.{sorted-permutes}
 use Rattle.mx_receipt.specs.Receipt.{Kept, current_state, rows_of, forward_extremities}
 use Rattle.mx_receipt.proofs.ExtremityLemmas.{extremities-below, extremities-rise}
 use Rattle.mx_room.specs.Answers.{join_answer, join_keys}
-use Rattle.mx_room.specs.Queries.{Answered, current_view, depth_falling, greatest_depth, ids_of, join_auth_events, join_event, join_prev_events, join_template, room_version, string_items, template_by, unless}
+use Rattle.mx_room.specs.Queries.{Answered, current_view, depth_falling, ids_of, join_auth_events, join_event, join_prev_events, join_template, room_version, string_items, template_by, unless}
 use Rattle.mx_room.specs.declared.queries.Denied.TheVariants.{OtherServer, WrongVersion}
 use Rattle.mx_room.specs.declared.queries.Denied.TheVariants as denied
 use Rattle.mx_room.specs.declared.queries.QueryReply.TheVariants as gives

@@ -8,3 +8,7 @@ pub mod HistoryRows
 pub mod JoinRows
 pub mod DeepestLemmas
 pub mod JoinLemmas
+pub mod HistoryWalkLemmas
+pub mod HistoryOrderLemmas
+pub mod HistoryFoundLemmas
+pub mod HistoryQueryLemmas

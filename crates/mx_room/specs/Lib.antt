@@ -6,3 +6,4 @@ pub mod RoomView
 pub mod Refusals
 pub mod Answers
 pub mod EventOrders
+pub mod HistoryWalks

@@ -1,6 +1,6 @@
 -- The queries of a room and their answers (Matrix specification, Server-Server API, retrieving events, backfilling and
 -- retrieving missing events, and joining rooms).
-use Rattle.std.specs.Prelude.{ℕ, ◌+◌, nat_le, min, max, ◌==◌, Bool, not, ◌&&◌, ◌||◌, if◌then◌else◌, List, [], ◌∷◌, length, map, filter_map, fold, take, codes, bytes_eq, Option, None, Some, option_map, option_and_then, Result, Ok, Err}
+use Rattle.std.specs.Prelude.{ℕ, ◌+◌, nat_le, min, ◌==◌, Bool, not, ◌&&◌, ◌||◌, if◌then◌else◌, List, [], ◌∷◌, length, map, filter_map, take, codes, bytes_eq, Option, None, Some, option_map, option_and_then, Result, Ok, Err}
 use Rattle.std.specs.declared.cmp.Ordering.{Ordering}
 use Rattle.std.specs.Ordering.{then_cmp, flip_args, on, nat_cmp}
 use Rattle.std.specs.Cmp.Lexicographic.{slice_cmp}
@@ -15,6 +15,7 @@ use Rattle.mx_auth.specs.StateView.{StateView}
 use Rattle.mx_auth.specs.Versions.{version_text}
 use Rattle.mx_auth.specs.declared.versions.RoomVersion.{RoomVersion}
 use Rattle.mx_auth.specs.declared.refusals.Rule.{Rule}
+use Rattle.mx_graph.specs.Depths.{greatest_depth}
 use Rattle.mx_graph.specs.Record.{Row, row, event, place_of, events_where, is_in}
 use Rattle.mx_graph.specs.Graph.{ancestors, auth_chain}
 use Rattle.mx_orders.specs.Mainline.{sorted}
@@ -101,10 +102,6 @@ join_event auth prev depth now room user =
     (member (codes "room_id") (string room)
     (member (codes "sender") (string user)
     (member (codes "state_key") (string user) (member (codes "type") (string (codes "m.room.member")) no_members)))))))))
-
--- the greatest depth of these events
-abbrev pub greatest_depth : List Row → List ℕ → ℕ
-greatest_depth rows ps = fold (λ d p. max d (depth_of (event rows p))) 0 ps
 
 -- the events on which a join is to follow: the deepest forward extremities, at most 20
 abbrev pub join_prev_events : List Kept → List ℕ

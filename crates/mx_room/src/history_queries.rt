@@ -1,26 +1,28 @@
 // Queries for events and those before them.
-ghost use Rattle.std.specs.Prelude.{◌≡◌, ◌<◌, All, IfOk, IsTrue, OnErr, is_ok, is_some, length};
+ghost use Rattle.std.specs.Prelude.{◌≡◌, ◌<◌, All, IfOk, IsTrue, OnErr, flat_map, is_ok, is_some, length};
 ghost use Rattle.std.specs.List.{list_any};
-ghost use Rattle.mx_graph.specs.Record.{place_of};
+ghost use Rattle.mx_graph.specs.Record.{event, place_of, prev_events};
 ghost use Rattle.mx_receipt.specs.Receipt.{rows_of};
 ghost use Rattle.mx_room.specs.Answers as answers;
 ghost use Rattle.mx_room.specs.Queries as definition;
 
-use crate::event_marks::{EventMarks, taken};
 use crate::event_orders::{deepest, deepest_last};
 use crate::given_events::all_shown;
+use crate::history_walks::{Sought, deepest_behind};
+use crate::plain_history;
 use crate::queries::{Denied, QueryReply};
 use mx_access::Viewer;
-use mx_graph::EventNo;
+use mx_graph::{EventNo, set_of};
 use mx_ident::EventId;
-use mx_receipt::Timeline;
+use mx_receipt::{Timeline, timeline_depths_hold};
 use std::alloc::{AllocError, Global};
+use std::collections::BTreeSet;
 
 // The greatest limits. Source: the Matrix specification, Server-Server API, "Backfilling and retrieving missing events"
 // (the numbers are our own).
-const MOST_BACKFILLED: u64 = 100;
+pub(crate) const MOST_BACKFILLED: u64 = 100;
 
-const MOST_MISSING: u64 = 20;
+pub(crate) const MOST_MISSING: u64 = 20;
 
 /// Events and those before them, as the server is shown them.
 ///
@@ -67,6 +69,7 @@ pub(crate) fn missing_answer(
     Ok(Ok(QueryReply::Events(shown)))
 }
 
+// The walk is bounded by the events of the room; where it has not ended by then, the plain body answers.
 #[tactic(auto, unfolding(crate::specs::Queries::backfill))]
 fn backfill(
     alloc: Global,
@@ -78,12 +81,17 @@ fn backfill(
     ensures below { IfOk result (λ events. All (λ event. event < length timeline.now.kept) events.items) }
 {
     let starts = held(alloc, timeline, from)?;
-    let before = timeline.ancestors(alloc, &starts)?;
-    let mut marks = EventMarks::none(alloc, timeline.len())?;
-    marks.mark(&starts);
-    marks.mark(&before);
-    let found = taken(alloc, timeline, &marks, 0)?;
     let most = limit.min(MOST_BACKFILLED) as usize;
+    let sought = Sought {
+        skipped: BTreeSet::new(alloc),
+        min_depth: 0,
+    };
+    timeline_depths_hold(timeline);
+    let found = deepest_behind(alloc, timeline, &starts, &[], &sought, most)?;
+    let Some(found) = found else {
+        let events = plain_history::backfill(alloc, timeline, from, limit)?;
+        return Ok(events);
+    };
     let events = deepest(alloc, timeline, &found, most)?;
     Ok(events)
 }
@@ -101,36 +109,41 @@ fn missing_events(
         ≡ definition.missing_events (rows_of timeline.now.kept) earliest.now latest.now limit min_depth) }
     ensures below { IfOk result (λ events. All (λ event. event < length timeline.now.kept) events.items) }
 {
-    let found = behind(alloc, timeline, earliest, latest, min_depth)?;
+    let ends = held(alloc, timeline, latest)?;
+    let known = held(alloc, timeline, earliest)?;
+    let starts = followed(alloc, timeline, &ends)?;
     let most = limit.min(MOST_MISSING) as usize;
+    let skipped = set_of(alloc, &ends)?;
+    let sought = Sought { skipped, min_depth };
+    timeline_depths_hold(timeline);
+    let found = deepest_behind(alloc, timeline, &starts, &known, &sought, most)?;
+    let Some(found) = found else {
+        let events = plain_history::missing_events(
+            alloc, timeline, earliest, latest, limit, min_depth,
+        )?;
+        return Ok(events);
+    };
     let deep = deepest(alloc, timeline, &found, most)?;
     let events = deepest_last(alloc, timeline, &deep)?;
     Ok(events)
 }
 
-// The events behind the latest ones that are not behind the earliest ones, at least so deep and not rejected, rising.
-fn behind(
+// What these events follow, in one list.
+fn followed(
     alloc: Global,
     timeline: &Timeline,
-    earliest: &[EventId],
-    latest: &[EventId],
-    min_depth: u64,
+    events: &[EventNo],
 ) -> Result<Vec<EventNo>, AllocError>
-    ensures events { IfOk result (λ events. events.items
-        ≡ answers.behind (rows_of timeline.now.kept) earliest.now latest.now min_depth) }
-    ensures below { IfOk result (λ events. All (λ event. event < length timeline.now.kept) events.items) }
+    requires { All (λ event. event < length timeline.now.kept) events.now }
+    ensures events { IfOk result (λ prev. prev.items
+        ≡ flat_map (λ p. prev_events (rows_of timeline.now.kept) (event (rows_of timeline.now.kept) p)) events.now) }
+    ensures below { IfOk result (λ prev. All (λ event. event < length timeline.now.kept) prev.items) }
 {
-    let ends = held(alloc, timeline, latest)?;
-    let known = held(alloc, timeline, earliest)?;
-    let before = timeline.ancestors(alloc, &ends)?;
-    let before_known = timeline.ancestors(alloc, &known)?;
-    let mut marks = EventMarks::none(alloc, timeline.len())?;
-    marks.mark(&before);
-    marks.unmark(&ends);
-    marks.unmark(&known);
-    marks.unmark(&before_known);
-    let events = taken(alloc, timeline, &marks, min_depth)?;
-    Ok(events)
+    let mut prev = Vec::new(alloc);
+    for event in events {
+        prev.extend_from_slice(timeline.prev_events(*event))?;
+    }
+    Ok(prev)
 }
 
 // Whether an event with one of these ids is held.
@@ -141,7 +154,11 @@ fn holds_any(timeline: &Timeline, ids: &[EventId]) -> bool
 }
 
 // The numbers of the events with these ids that are held.
-fn held(alloc: Global, timeline: &Timeline, ids: &[EventId]) -> Result<Vec<EventNo>, AllocError>
+pub(crate) fn held(
+    alloc: Global,
+    timeline: &Timeline,
+    ids: &[EventId],
+) -> Result<Vec<EventNo>, AllocError>
     ensures numbers { IfOk result (λ numbers. numbers.items ≡ definition.held (rows_of timeline.now.kept) ids.now) }
     ensures below { IfOk result (λ numbers. All (λ number. number < length timeline.now.kept) numbers.items) }
 {

@@ -3,6 +3,7 @@ ghost use Rattle.std.specs.Prelude.{◌≡◌, ◌+◌, ◌++◌, ◌∷◌, ◌
 ghost use Rattle.serde_json.specs.Data.{array, object, put as with_member, string};
 ghost use Rattle.serde_json.specs.View.{members_view, view};
 ghost use Rattle.mx_canon.specs.Canonical.{largest};
+ghost use Rattle.mx_graph.specs.Depths as depths;
 ghost use Rattle.mx_orders.specs.StateMap.{entry};
 ghost use Rattle.mx_receipt.specs.Receipt.{current_state, rows_of};
 ghost use Rattle.mx_room.specs.Answers.{join_keys};
@@ -182,14 +183,14 @@ fn push_entry(
 // The depth of an event that follows these.
 fn depth_after(timeline: &Timeline, events: &[EventNo]) -> u64
     requires { All (λ event. event < length timeline.now.kept) events.now }
-    ensures { result ≡ min (definition.greatest_depth (rows_of timeline.now.kept) events.now + 1) largest }
+    ensures { result ≡ min (depths.greatest_depth (rows_of timeline.now.kept) events.now + 1) largest }
 {
     greatest_depth(timeline, events).min(GREATEST_DEPTH - 1) + 1
 }
 
 fn greatest_depth(timeline: &Timeline, events: &[EventNo]) -> u64
     requires { All (λ event. event < length timeline.now.kept) events.now }
-    ensures { result ≡ definition.greatest_depth (rows_of timeline.now.kept) events.now }
+    ensures { result ≡ depths.greatest_depth (rows_of timeline.now.kept) events.now }
 {
     let mut greatest = 0;
     for event in events {

@@ -1,21 +1,21 @@
-use Rattle.std.proofs.Common.{length, refl, sym, ap, ◌∙◌, take}
-use Rattle.mx_graph.specs.Graph.{ancestors}
+use Rattle.std.proofs.Common.{◌≡◌, ℕ, List, [], Option, Vec, refl, subst, ◌∙◌, take}
+use Rattle.std.specs.Prelude.{IfSome}
+use Rattle.std.specs.declared.alloc.Global.{Global}
 use Rattle.mx_orders.specs.Mainline.{sorted}
 use Rattle.mx_receipt.specs.Receipt.{rows_of}
+use Rattle.mx_room.specs.HistoryWalks.{sought_between}
 use Rattle.mx_room.specs.Queries.{depth_falling}
-use Rattle.mx_room.proofs.AnswerLemmas.{backfill-is, marked-after_two}
+use Rattle.mx_room.specs.declared.history_walks.Sought.{Sought}
+use Rattle.mx_room.proofs.HistoryQueryLemmas.{backfill-walked}
 use Rattle.mx_room.proofs.history_queries.backfill.Goals as goal
 
 pub returns-clause-events : goal.returns-clause-events
 returns-clause-events c =
-    let kept = c.args.timeline.now.kept in
-    let found = c.deref-4.result.now in
-    let order = sorted (depth_falling (rows_of kept)) in
-    c.in_ok-events.ensures.order ∙ (λ i. take (c.min-most.ensures i) (order found))
-    ∙ backfill-is kept c.args.from.now c.args.limit c.mark-2.new.self c.deref-2.result.now c.deref-3.result.now found (order found)
-    (c.deref-2.ensures.value ∙ c.in_ok-starts.ensures.numbers)
-    (c.deref-3.ensures.value ∙ c.in_ok-before.ensures.set ∙ ap (ancestors (rows_of kept)) (c.deref.ensures.value ∙ sym c.deref-2.ensures.value))
-    (marked-after_two (length kept) c.in_ok-marks.marks c.mark.new.self c.mark-2.new.self c.deref-2.result.now c.deref-3.result.now
-    (c.in_ok-marks.ensures.len ∙ c.len.ensures) c.mark.ensures.len c.in_ok-marks.ensures.none c.mark.ensures.marked c.mark-2.ensures.marked)
-    (c.deref-4.ensures.value ∙ c.in_ok-found.ensures.events)
-    refl
+    let rows = rows_of c.args.timeline.now.kept in
+    let most = c.min-most.result in
+    let sought : Sought = record { skipped = c.new.result; min_depth = 0 } in
+    let deepest = λ (events : List ℕ). take most (sorted (depth_falling rows) events) in
+    c.in_ok-events-2.ensures.order ∙ (λ i. take most (sorted (depth_falling rows) (c.deref-2.ensures.value i)))
+    ∙ backfill-walked rows c.timeline_depths_hold.ensures.sound c.args.from.now c.args.limit most c.deref.result.now [] c.in-Some.found.items sought
+    (c.deref.ensures.value ∙ c.in_ok-starts.ensures.numbers) refl c.min-most.ensures c.new.ensures.empty refl
+    (subst (λ (found : Option (Vec ℕ Global)). IfSome found (λ events. deepest events.items ≡ deepest (sought_between rows c.deref.result.now [] sought))) c.in-Some.is c.in_ok-found.ensures.deepest)

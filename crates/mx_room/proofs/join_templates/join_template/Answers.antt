@@ -1,11 +1,12 @@
 use Rattle.std.proofs.Common.{◌≡◌, ◌+◌, ℕ, List, ap, ◌∙◌, filter_map, take}
 use Rattle.std.specs.Prelude.{min}
 use Rattle.mx_canon.specs.Canonical.{largest}
+use Rattle.mx_graph.specs.Depths.{greatest_depth}
 use Rattle.mx_orders.specs.Mainline.{sorted}
 use Rattle.mx_orders.specs.StateMap.{entry}
 use Rattle.mx_receipt.specs.Receipt.{current_state, rows_of}
 use Rattle.mx_room.specs.Answers.{join_keys}
-use Rattle.mx_room.specs.Queries.{depth_falling, greatest_depth, ids_of, join_event, join_prev_events}
+use Rattle.mx_room.specs.Queries.{depth_falling, ids_of, join_event, join_prev_events}
 use Rattle.mx_room.proofs.JoinLemmas.{template-is}
 use Rattle.mx_room.proofs.join_templates.join_template.Goals as goal
 

@@ -2,7 +2,7 @@ use Rattle.std.proofs.Common.{length, sym, ap, ◌∙◌}
 use Rattle.mx_graph.specs.Graph.{ancestors}
 use Rattle.mx_receipt.specs.Receipt.{rows_of}
 use Rattle.mx_room.proofs.AnswerLemmas.{marked-missing, marked-after_four}
-use Rattle.mx_room.proofs.history_queries.behind.Goals as goal
+use Rattle.mx_room.proofs.plain_history.behind.Goals as goal
 
 pub returns-clause-events : goal.returns-clause-events
 returns-clause-events c =
