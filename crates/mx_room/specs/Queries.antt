@@ -41,7 +41,7 @@ room_named (ask.Backfill room from limit) = Some room
 room_named (ask.Missing room earliest latest limit min_depth) = Some room
 room_named (ask.MakeJoin room user versions) = Some room
 
--- ---- sets of events, in an order
+-- ---- sets of events, in an order; the orders are our own
 
 abbrev pub ids_of : List Row → List ℕ → List (List ℕ)
 ids_of rows ps = map (λ p. (row rows p).id) ps
@@ -64,7 +64,8 @@ held rows ids = filter_map (place_of rows) ids
 abbrev pub chain_by_id : List Row → List ℕ → List ℕ
 chain_by_id rows ps = sorted (id_rising rows) (auth_chain rows ps)
 
--- Server-Server API, backfill: these events and their ancestors, without the rejected ones; a limit over 100 is 100
+-- Server-Server API, backfill: these events and their ancestors, without the rejected ones, the deepest first; a limit over
+-- 100 is 100 (the limit is our own)
 unfoldable pub backfill : List Row → List (List ℕ) → ℕ → List ℕ
 backfill rows from limit =
     let starts = held rows from in
@@ -72,7 +73,8 @@ backfill rows from limit =
     let found = events_where rows (λ p. (is_in starts p || is_in before p) && not (row rows p).rejected) in
     take (min limit 100) (sorted (depth_falling rows) found)
 
--- Server-Server API, get_missing_events: what lies behind the latest, and not behind the earliest; a limit over 20 is 20
+-- Server-Server API, get_missing_events: what lies behind the latest, and not behind the earliest, the deepest of it, listed
+-- by rising depth; a limit over 20 is 20 (the limit, and which are given where there are more, are our own)
 unfoldable pub missing_events : List Row → List (List ℕ) → List (List ℕ) → ℕ → ℕ → List ℕ
 missing_events rows earliest latest limit min_depth =
     let ends = held rows latest in
@@ -103,7 +105,7 @@ join_event auth prev depth now room user =
     (member (codes "sender") (string user)
     (member (codes "state_key") (string user) (member (codes "type") (string (codes "m.room.member")) no_members)))))))))
 
--- the events on which a join is to follow: the deepest forward extremities, at most 20
+-- the events on which a join is to follow: the deepest forward extremities, at most 20 (which of them is our own)
 abbrev pub join_prev_events : List Kept → List ℕ
 join_prev_events kept = take 20 (sorted (depth_falling (rows_of kept)) (forward_extremities kept))
 
@@ -123,7 +125,7 @@ join_template kept now room user =
     let prev = join_prev_events kept in
     join_event (ids_of rows auth) (ids_of rows prev) (min (greatest_depth rows prev + 1) largest) now room user
 
--- ---- the answer to a query, refused by the first of its checks
+-- ---- the answer to a query, refused by the first of its checks; which checks a query has, and their order, are our own
 
 abbrev pub Answered : Type 0
 Answered = Result QueryReply Denied
@@ -140,7 +142,7 @@ abbrev pub to_members : List Kept → List ℕ → Answered → Answered
 to_members kept origin rest =
     unless (not (acl_allows kept origin)) AccessList (unless (not (in_room kept origin)) NotInRoom rest)
 
--- the place of an event that is held and was not rejected
+-- the place of an event that is held and was not rejected; a rejected one is as one that is not held (our own)
 abbrev pub standing : List Row → List ℕ → Option ℕ
 standing rows id = option_and_then (λ p. if (row rows p).rejected then None else Some p) (place_of rows id)
 
