@@ -96,7 +96,7 @@ pub book-over : {L : Type 0} (honest : L → Type 0) (read : L → Option (List 
     → IfOk r (λ book. honest book.keeper → honest keeper × (read keeper ≡ Some (stored book.journal)))
     → IfOk r (λ book. honest book.keeper → (left : Option (List BookRow)) → may_leave book.keeper left → may_leave keeper left)
     → IfOk r (λ book. honest book.keeper → (journal : List BookEntry) → read keeper ≡ Some (stored journal) → IsTrue (is_legal journal)
-        → (key : TransactionKey) → hold_of book.journal key ≡ after_stop (hold_of journal key))
+    → (key : TransactionKey) → hold_of book.journal key ≡ after_stop (hold_of journal key))
     → IfOk r (IsReopenedBook honest read may_leave keeper)
 book-over honest read may_leave keeper (Ok book) journal taken rows crash again = record { journal = journal; taken = taken; rows = rows; crash = crash; again = again }
 book-over honest read may_leave keeper (Err error) journal taken rows crash again = tt

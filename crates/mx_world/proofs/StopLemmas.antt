@@ -39,9 +39,9 @@ position-longer t xs ys d i h =
     let at = position-Some t xs i d h in
     let long : length (xs ++ ys) ≡ length xs + length ys = length-append xs ys in
     let same : position_or_len t (xs ++ ys) ≡ i =
-        position_or_len_is t (xs ++ ys) i d (omega (arith, at.0))
-        (λ k l. ap t (get_or_append_left xs ys d k (omega (arith, at.0))) ∙ at.2 k l)
-        (λ _. ap t (get_or_append_left xs ys d i at.0) ∙ at.1) in
+    position_or_len_is t (xs ++ ys) i d (omega (arith, at.0))
+    (λ k l. ap t (get_or_append_left xs ys d k (omega (arith, at.0))) ∙ at.2 k l)
+    (λ _. ap t (get_or_append_left xs ys d i at.0) ∙ at.1) in
     ap (λ n. cond (nat_lt n (length (xs ++ ys))) (Some n) None) same
     ∙ ap (λ b. cond b (Some i) None) (lt-ltb i (length (xs ++ ys)) (omega (arith, at.0)))
 

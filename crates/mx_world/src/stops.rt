@@ -17,7 +17,9 @@ use mx_keeper::{BookRow, Keeper, ShardRow};
 ///
 /// So what was answered as kept is there: an answer tells what the journal has ([`run`](crate::run)). What is left makes
 /// the server again ([`World::reopen`]).
-pub fn stops_leave_the_journals<K: Keeper<Row = ShardRow>, L: Keeper<Row = BookRow>>(world: &World<K, L>)
+pub fn stops_leave_the_journals<K: Keeper<Row = ShardRow>, L: Keeper<Row = BookRow>>(
+    world: &World<K, L>,
+)
     ensures shards { (status : TransactionKey → Status) (refused : Option step.Step) (new : WorldView K L)
         → CrashLeaves K.is_honest K.may_leave L.is_honest L.may_leave status refused world.now new
         → (n : ℕ) (d : ShardView K) → n < length world.now.shards
