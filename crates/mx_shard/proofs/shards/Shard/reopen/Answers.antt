@@ -1,4 +1,4 @@
-use Rattle.std.proofs.Common.{Some, List, sym, ap, ◌∙◌}
+use Rattle.std.proofs.Common.{◌≡◌, Some, List, sym, ap, ◌∙◌}
 use Rattle.mx_keeper.specs.declared.rows.ShardRow.{ShardRow}
 use Rattle.mx_shard.specs.Journal.{stored, reopened}
 use Rattle.mx_shard.proofs.AgainLemmas.{journal-again}
