@@ -12,8 +12,9 @@ ghost use Rattle.mx_world.specs.declared.steps.Step as step;
 use crate::worlds::World;
 use mx_keeper::{BookRow, Keeper, ShardRow};
 
-/// A law: where a server is stopped in a run or after it, a crash leaves of each shard and of each book that was refused
-/// for nothing when the run began the rows of its journal, or these with the row that a refused step tried to add.
+/// A law: after a run, whether or not a step of it was refused, a crash leaves of each shard and of each book that was
+/// refused for nothing when the run began the rows of its journal, or these with the row that the refused step tried to
+/// add.
 ///
 /// So what was answered as kept is there: an answer tells what the journal has ([`run`](crate::run)). What is left makes
 /// the server again ([`World::reopen`]).
