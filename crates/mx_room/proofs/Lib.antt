@@ -12,3 +12,4 @@ pub mod HistoryWalkLemmas
 pub mod HistoryOrderLemmas
 pub mod HistoryFoundLemmas
 pub mod HistoryQueryLemmas
+pub mod HeldLemmas

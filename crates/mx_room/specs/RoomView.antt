@@ -1,5 +1,6 @@
 -- A room, as contracts see it (our own).
-use Rattle.std.specs.Prelude.{ℕ, ◌<◌, List, [], ◌∷◌, length, Option, refl}
+use Rattle.std.specs.Prelude.{ℕ, ◌<◌, Bool, List, [], ◌∷◌, bytes_eq, length, Option, refl}
+use Rattle.std.specs.List.{list_any}
 use Rattle.std.specs.Coded.{Coded, code_by, coded×, coded_ℕ, coded_list, coded_option}
 use Rattle.mx_receipt.specs.Receipt.{Kept}
 use Rattle.mx_receipt.specs.KeptCode.{kept_code, record_code}
@@ -23,3 +24,7 @@ IsHosted kept = 0 < length kept
 abbrev pub create_id : List Kept → List ℕ
 create_id [] = []
 create_id (k ∷ ks) = k.id
+
+-- an event with this id is kept
+abbrev pub has_event : List Kept → List ℕ → Bool
+has_event kept id = list_any (λ k. bytes_eq k.id id) kept

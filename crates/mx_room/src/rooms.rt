@@ -9,7 +9,7 @@ ghost use Rattle.mx_access.specs.Acl as access;
 ghost use Rattle.mx_room.specs.Joins.{join_reply, row_by_join, takes_memory};
 ghost use Rattle.mx_room.specs.Offer.{allowed_outcome, is_kept, offer_outcome, refusal_by, refusal_error, row_by};
 ghost use Rattle.mx_room.specs.Queries.{query_answer};
-ghost use Rattle.mx_room.specs.RoomView.{IsHosted, create_id};
+ghost use Rattle.mx_room.specs.RoomView.{IsHosted, create_id, has_event};
 ghost use Rattle.mx_room.specs.declared.hosting.NotARoom.{NotARoom as Cause};
 ghost use Rattle.mx_receipt.specs.declared.refusals.NotReceived.{NotReceived as WhyNot};
 
@@ -249,6 +249,14 @@ impl Room {
         ensures hosted { IsHosted self.now.kept }
     {
         &self.timeline.row(EventNo::at(0)).id
+    }
+
+    /// Whether it has an event with this id. One that is prepared does not count. It takes no memory, and the time is
+    /// that of a look-up among the events.
+    pub fn holds(&self, id: &EventId) -> bool
+        ensures { result ≡ has_event self.now.kept id.now }
+    {
+        self.timeline.find(id).is_some()
     }
 
     /// The answer to a server's query, at a moment. `AllocError` where it gives something and no memory is left for it:
