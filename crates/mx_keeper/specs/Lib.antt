@@ -9,3 +9,4 @@ pub mod Placed
 pub mod Connections
 pub mod Refusals
 pub mod SqliteKeepers
+pub mod FaultKeepers
