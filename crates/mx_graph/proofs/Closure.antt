@@ -157,7 +157,7 @@ filter-members rows test = same_tests test (is_in (filter test (places rows))) (
     (λ e. is_in-from p (filter test (places rows)) (in_filter test p (places rows) k e))
     (λ e. (in_filter-parts test p (places rows) (is_in-to p (filter test (places rows)) e)).1))
 
-reached-members : (rows : List Row) (cites : ℕ → List ℕ) (starts : List ℕ) (n : ℕ) → reached_within rows cites starts n ≡ events_where rows (is_in (reached_within rows cites starts n))
+pub reached-members : (rows : List Row) (cites : ℕ → List ℕ) (starts : List ℕ) (n : ℕ) → reached_within rows cites starts n ≡ events_where rows (is_in (reached_within rows cites starts n))
 reached-members rows cites starts zero = sym (none (places rows))
   where
     none : (xs : List ℕ) → filter (is_in []) xs ≡ []

@@ -4,8 +4,8 @@ use Rattle.std.proofs.lemmas.Bool.{cases_lt}
 use Rattle.std.proofs.lemmas.Bool.Decides.{nat_tests}
 use Rattle.std.specs.List.{All, list_any, list_all}
 use Rattle.std.specs.declared.alloc.Global.{Global}
-use Rattle.mx_graph.specs.AuthChains.{all_have, alone, any_has, cited_has, differs, has_row, kept_at, place_at, rows_of, some_has, AreChains, AreEnds, AreKept, AreMet, AreReached}
-use Rattle.mx_graph.specs.Graph.{CitesDown, IsClosed, IsSound, auth_chain, is_in_difference, reached}
+use Rattle.mx_graph.specs.AuthChains.{all_have, alone, any_has, cited_has, differs, has_row, kept_at, place_at, rows_of, some_cited_has, some_has, AreChains, AreDistinct, AreEnds, AreKept, AreMet, AreReached}
+use Rattle.mx_graph.specs.Graph.{CitesDown, IsClosed, IsSound, auth_chain, is_in_difference, most_chains, reached}
 use Rattle.mx_graph.specs.Edges.{cited}
 use Rattle.mx_graph.specs.Inside.{met_in, AreKeptFor, IsIndexed}
 use Rattle.mx_graph.specs.declared.auth_chains.AuthChains.{AuthChains}
@@ -16,6 +16,7 @@ use Rattle.mx_graph.proofs.ChainLemmas.{any-in, any-same, end-of, ends-same, no-
 use Rattle.mx_graph.proofs.Closure.{one_answer, or_cases, or_left, or_right, reached-each, reached-is_least, same_closed}
 use Rattle.mx_graph.proofs.LongerRecordLemmas.{AreEvents, auth_chain-longer, longer-push, sound-before}
 use Rattle.mx_graph.proofs.MarkLemmas.{any-to}
+use Rattle.mx_graph.proofs.ShortChainLemmas.{distinct-none}
 
 -- ---- the auth chain of a row, by what it cites
 
@@ -87,7 +88,7 @@ met-rows rows down = met-reached rows (λ p. auth_events rows (event rows p)) do
 -- ---- what is kept tells of the rows
 
 module _ (rows : List Row) (down : CitesDown rows (λ p. auth_events rows (event rows p))) (at : ℕ → ChainPlace) (kept : ℕ → Option (Vec Reached Global)) (chains : AreChains (met_in rows) at kept) where
-  each-chain : (starts : List ℕ) (p : ℕ) → is_in (auth_chain rows starts) p ≡ list_any (λ s. met_in rows s p) starts
+  pub each-chain : (starts : List ℕ) (p : ℕ) → is_in (auth_chain rows starts) p ≡ list_any (λ s. met_in rows s p) starts
   unfolding auth_chain
   each-chain starts p = reached-each rows (λ p. auth_events rows (event rows p)) down starts p
 
@@ -126,28 +127,18 @@ module _ (rows : List Row) (down : CitesDown rows (λ p. auth_events rows (event
 
 -- ---- one row more
 
-module _ (meets longer : ℕ → ℕ → Bool) (cites : ℕ → List ℕ) (met : AreMet cites longer) (at : ℕ → ChainPlace) (kept after : ℕ → Option (Vec Reached Global)) (n : ℕ)
-    (chains : AreChains meets at kept) (same : (r p : ℕ) → r < n → longer r p ≡ meets r p) (beyond : (p : ℕ) → n ≤ p → at p ≡ alone p) (kept_before : (r : ℕ) → r < n → after r ≡ kept r) (kept_beyond : (r : ℕ) → n < r → after r ≡ None)
-    (told : (found : Vec Reached Global) → after n ≡ Some found → AreReached at kept (cites n) found.items) where
+module _ (meets longer : ℕ → ℕ → Bool) (cites : ℕ → List ℕ) (met : AreMet cites longer) (at : ℕ → ChainPlace) (kept : ℕ → Option (Vec Reached Global)) (n : ℕ) (chains : AreChains meets at kept) (same : (r p : ℕ) → r < n → longer r p ≡ meets r p) where
   cited-lower : (q : ℕ) → is_in (cites n) q ≡ true → q < n
   cited-lower q e = met.down n q (met.step n q ∙ any-in (λ x. (x == q) || longer x q) (cites n) q e (or_left (q == q) (longer q q) (eq-eqb q q refl)))
 
-  kept-cases : (r : ℕ) → is_some (after r) ≡ true → (r < n) ⊎ (r ≡ n)
-  kept-cases r k = by (cases_lt r n) (cases_lt n r)
-    where
-      by : (r < n) ⊎ (n ≤ r) → (n < r) ⊎ (r ≤ n) → (r < n) ⊎ (r ≡ n)
-      by (inl l) m = inl l
-      by (inr l) (inl m) = absurd (cc (sym k ∙ ap is_some (kept_beyond r m)))
-      by (inr l) (inr m) = inr (omega arith)
-
-  module _ (found : Vec Reached Global) (is : after n ≡ Some found) (reach : AreReached at kept (cites n) found.items) where
+  module _ (each : AreKept kept (cites n)) where
     cited-same : (p q : ℕ) → is_in (cites n) q ≡ true → ((q == p) || longer q p) ≡ cited_has at kept q (at p).chain p
     cited-same p q m =
         one_answer ((q == p) || longer q p) (cited_has at kept q (at p).chain p) (λ e. to (or_cases (q == p) (longer q p) e))
         (λ e. from (or_cases ((at q).chain == (at p).chain && nat_le p q) (has_row (rows_of (kept q)) (at p).chain p) e))
       where
         exact_at : longer q p ≡ has_row (rows_of (kept q)) (at p).chain p
-        exact_at = same q p (cited-lower q m) ∙ chains.exact q (reach.kept_each q m) p
+        exact_at = same q p (cited-lower q m) ∙ chains.exact q (each q m) p
 
         to : ((q == p) ≡ true) ⊎ (longer q p ≡ true) → cited_has at kept q (at p).chain p ≡ true
         to (inl e) =
@@ -169,9 +160,25 @@ module _ (meets longer : ℕ → ℕ → Bool) (cites : ℕ → List ℕ) (met :
         from (inl e) = parts ((at q).chain == (at p).chain) (nat_le p q) refl refl e
         from (inr e) = or_right (q == p) (longer q p) (exact_at ∙ e)
 
+    -- its auth chain, by what is kept for those that it cites
+    pub met-cited : (p : ℕ) → longer n p ≡ some_cited_has at kept (cites n) (at p).chain p
+    met-cited p = met.step n p ∙ any-same (λ q. (q == p) || longer q p) (λ q. cited_has at kept q (at p).chain p) (cites n) (λ q m. cited-same p q m)
+
+module _ (meets longer : ℕ → ℕ → Bool) (cites : ℕ → List ℕ) (met : AreMet cites longer) (at : ℕ → ChainPlace) (kept after : ℕ → Option (Vec Reached Global)) (n : ℕ)
+    (chains : AreChains meets at kept) (same : (r p : ℕ) → r < n → longer r p ≡ meets r p) (beyond : (p : ℕ) → n ≤ p → at p ≡ alone p) (kept_before : (r : ℕ) → r < n → after r ≡ kept r) (kept_beyond : (r : ℕ) → n < r → after r ≡ None)
+    (told : (found : Vec Reached Global) → after n ≡ Some found → AreReached at kept (cites n) found.items) where
+  kept-cases : (r : ℕ) → is_some (after r) ≡ true → (r < n) ⊎ (r ≡ n)
+  kept-cases r k = by (cases_lt r n) (cases_lt n r)
+    where
+      by : (r < n) ⊎ (n ≤ r) → (n < r) ⊎ (r ≤ n) → (r < n) ⊎ (r ≡ n)
+      by (inl l) m = inl l
+      by (inr l) (inl m) = absurd (cc (sym k ∙ ap is_some (kept_beyond r m)))
+      by (inr l) (inr m) = inr (omega arith)
+
+  module _ (found : Vec Reached Global) (is : after n ≡ Some found) (reach : AreReached at kept (cites n) found.items) where
     exact-new : (p : ℕ) → longer n p ≡ has_row (rows_of (after n)) (at p).chain p
     exact-new p =
-        met.step n p ∙ any-same (λ q. (q == p) || longer q p) (λ q. cited_has at kept q (at p).chain p) (cites n) (λ q m. cited-same p q m) ∙ sym (reach.rows (at p).chain p)
+        met-cited meets longer cites met at kept n chains same reach.kept_each p ∙ sym (reach.rows (at p).chain p)
         ∙ ap (λ o. has_row (rows_of o) (at p).chain p) (sym is)
 
     unmet-new : (q : ℕ) → (at q).is_cited ≡ false → longer n q ≡ false
@@ -179,7 +186,7 @@ module _ (meets longer : ℕ → ℕ → Bool) (cites : ℕ → List ℕ) (met :
       where
         by : (x : ℕ) → is_in (cites n) x ≡ true → ((x == q) ≡ true) ⊎ (longer x q ≡ true) → ⊥
         by x m (inl k) = not-both (at x).is_cited (reach.cited x m) (ap (λ z. (at z).is_cited) (eqb-true x q k) ∙ e)
-        by x m (inr k) = not-both (longer x q) k (same x q (cited-lower x m) ∙ chains.unmet q e x (reach.kept_each x m))
+        by x m (inr k) = not-both (longer x q) k (same x q (cited-lower meets longer cites met at kept n chains same x m) ∙ chains.unmet q e x (reach.kept_each x m))
 
     ends-new : AreEnds at (rows_of (after n))
     ends-new = subst (λ o. AreEnds at (rows_of o)) (sym is) (reach.ends chains.ends)
@@ -460,12 +467,15 @@ no-chains meets = record {
 
 -- ---- the rows with one more, and with one less
 
-met-longer : (rows : List Row) (r : Row) → IsSound rows → IsSound (rows ++ r ∷ []) → (q p : ℕ) → q < length rows → met_in (rows ++ r ∷ []) q p ≡ met_in rows q p
-met-longer rows r sound after q p l = ap (λ xs. is_in xs p) (auth_chain-longer rows (rows ++ r ∷ []) (longer-push rows r sound after) (q ∷ []) known)
+pub chain-longer : (rows : List Row) (r : Row) → IsSound rows → IsSound (rows ++ r ∷ []) → (q : ℕ) → q < length rows → auth_chain (rows ++ r ∷ []) (q ∷ []) ≡ auth_chain rows (q ∷ [])
+chain-longer rows r sound after q l = auth_chain-longer rows (rows ++ r ∷ []) (longer-push rows r sound after) (q ∷ []) known
   where
     known : AreEvents rows (q ∷ [])
     known x (inl e) = subst (λ z. z < length rows) (sym e) l
     known x (inr e) = absurd e
+
+pub met-longer : (rows : List Row) (r : Row) → IsSound rows → IsSound (rows ++ r ∷ []) → (q p : ℕ) → q < length rows → met_in (rows ++ r ∷ []) q p ≡ met_in rows q p
+met-longer rows r sound after q p l = ap (λ xs. is_in xs p) (chain-longer rows r sound after q l)
 
 pub chains-push : (rows : List Row) (r : Row) (places : List ChainPlace) (reached : List (Option (Vec Reached Global))) (found : Option (Vec Reached Global)) (n : ℕ) → n ≡ length rows → IsSound rows → IsSound (rows ++ r ∷ []) → length places ≡ length rows → length reached ≡ length rows
     → AreChains (met_in rows) (place_at places) (kept_at reached) → (events : List ℕ) → auth_events (rows ++ r ∷ []) (event (rows ++ r ∷ []) (length rows)) ≡ events → IfSome found (λ own. AreReached (place_at places) (kept_at reached) events own.items)
@@ -499,6 +509,8 @@ kept-none chains places reached = record {
   places_len = ap length places;
   reached_len = ap length reached;
   right = subst (λ xs. AreChains (met_in []) (place_at xs) (kept_at chains.reached.items)) (sym places) (subst (λ ys. AreChains (met_in []) (place_at []) (kept_at ys)) (sym reached) (no-chains (met_in [])));
+  distinct = λ r. subst (λ ys. AreDistinct (rows_of (kept_at ys r))) (sym reached) distinct-none;
+  short = λ r l. absurd (omega arith);
 }
 
 -- rows that are cited have got their places
@@ -511,20 +523,47 @@ kept-cited rows prev auth numbers naming chains after bounds indexed len reached
   reached_len = ap length reached ∙ indexed.auth_chains.reached_len;
   right = subst (λ ys. AreChains (met_in rows) (place_at after.places.items) (kept_at ys)) (sym reached)
       (step (met_in rows) (subst (λ f. AreMet f (met_in rows)) (λ i p. sym (indexed.auth_edges p) i) (met-rows rows indexed.auth_down)) indexed.auth_chains.right);
+  distinct = λ r. subst (λ ys. AreDistinct (rows_of (kept_at ys r))) (sym reached) (indexed.auth_chains.distinct r);
+  short = λ r l few. subst (λ ys. is_some (kept_at ys r) ≡ true) (sym reached) (indexed.auth_chains.short r l few);
 }
+
+-- what is kept with one more
+distinct-at-push : (xs : List (Option (Vec Reached Global))) (found : Option (Vec Reached Global)) → IfSome found (λ own. AreDistinct own.items) → ((r : ℕ) → AreDistinct (rows_of (kept_at xs r))) → (r : ℕ) → AreDistinct (rows_of (kept_at (xs ++ found ∷ []) r))
+distinct-at-push [] None own all zero = distinct-none
+distinct-at-push [] (Some v) own all zero = own
+distinct-at-push [] found own all (suc r) = distinct-none
+distinct-at-push (x ∷ xs) found own all zero = all zero
+distinct-at-push (x ∷ xs) found own all (suc r) = distinct-at-push xs found own (λ q. all (suc q)) r
 
 pub kept-push : (rows : List Row) (r : Row) (chains after : AuthChains) (n : ℕ) (found : Option (Vec Reached Global)) (events : List ℕ) → n ≡ length rows → IsSound (rows ++ r ∷ []) → AreKeptFor rows chains
     → auth_events (rows ++ r ∷ []) (event (rows ++ r ∷ []) (length rows)) ≡ events → IfSome found (λ own. AreReached (place_at chains.places.items) (kept_at chains.reached.items) events own.items)
+    → IfSome found (λ own. AreDistinct own.items) → (length (auth_chain (rows ++ r ∷ []) (length rows ∷ [])) ≤ most_chains → is_some found ≡ true)
     → after.places.items ≡ chains.places.items ++ alone n ∷ [] → after.reached.items ≡ chains.reached.items ++ found ∷ [] → AreKeptFor (rows ++ r ∷ []) after
-kept-push rows r chains after n found events number sound kept cited told places reached = record {
+kept-push rows r chains after n found events number sound kept cited told distinct short places reached = record {
   places_len = ap length places ∙ one_more chains.places.items (alone n) kept.places_len;
   reached_len = ap length reached ∙ one_more chains.reached.items found kept.reached_len;
   right =
       subst (λ xs. AreChains (met_in (rows ++ r ∷ [])) (place_at xs) (kept_at after.reached.items)) (sym places)
       (subst (λ ys. AreChains (met_in (rows ++ r ∷ [])) (place_at (chains.places.items ++ alone n ∷ [])) (kept_at ys)) (sym reached)
       (chains-push rows r chains.places.items chains.reached.items found n number (sound-before rows r sound) sound kept.places_len kept.reached_len kept.right events cited told));
+  distinct = λ q. subst (λ ys. AreDistinct (rows_of (kept_at ys q))) (sym reached) (distinct-at-push chains.reached.items found distinct kept.distinct q);
+  short = λ q l few. by q l few (cases_lt q (length rows));
 }
   where
+    long : length chains.reached.items ≡ length rows
+    long = kept.reached_len
+
+    by : (q : ℕ) → q < length (rows ++ r ∷ []) → length (auth_chain (rows ++ r ∷ []) (q ∷ [])) ≤ most_chains → (q < length rows) ⊎ (length rows ≤ q) → is_some (kept_at after.reached.items q) ≡ true
+    by q l few (inl k) =
+        ap (λ ys. is_some (kept_at ys q)) reached ∙ ap is_some (lists-apart chains.reached.items found None q (let a = long in omega arith))
+        ∙ kept.short q k (subst (λ xs. length xs ≤ most_chains) (chain-longer rows r (sound-before rows r sound) sound q k) few)
+    by q l few (inr k) =
+        let one : length (rows ++ r ∷ []) ≡ length rows + 1 = length-append rows (r ∷ []) in
+        let e : q ≡ length rows = omega arith in
+        let f : q ≡ length chains.reached.items = e ∙ sym long in
+        ap (λ ys. is_some (kept_at ys q)) reached ∙ ap (λ z. is_some (kept_at (chains.reached.items ++ found ∷ []) z)) f ∙ ap is_some (lists-last chains.reached.items found None)
+        ∙ short (subst (λ z. length (auth_chain (rows ++ r ∷ []) (z ∷ [])) ≤ most_chains) e few)
+
     one_more : {A : Type 0} (xs : List A) (x : A) → length xs ≡ length rows → length (xs ++ x ∷ []) ≡ length (rows ++ r ∷ [])
     one_more xs x e = length-append xs (x ∷ []) ∙ ap (λ k. k + 1) e ∙ sym (length-append rows (r ∷ []))
 
@@ -537,4 +576,15 @@ kept-pop rows r chains after more later sound kept places reached places_len rea
       chains-pop rows r after.places.items more after.reached.items later (sound-before rows r sound) sound places_len reached_len
       (subst (λ xs. AreChains (met_in (rows ++ r ∷ [])) (place_at xs) (kept_at (after.reached.items ++ later))) places
       (subst (λ ys. AreChains (met_in (rows ++ r ∷ [])) (place_at chains.places.items) (kept_at ys)) reached kept.right));
+  distinct = λ q. distinct-at q (cases_lt q (length after.reached.items));
+  short = λ q l few.
+      ap is_some (sym (lists-begin after.reached.items later None q (let a = reached_len in omega arith)))
+      ∙ ap (λ ys. is_some (kept_at ys q)) (sym reached)
+      ∙ kept.short q (let one : length (rows ++ r ∷ []) ≡ length rows + 1 = length-append rows (r ∷ []) in omega arith)
+      (subst (λ xs. length xs ≤ most_chains) (sym (chain-longer rows r (sound-before rows r sound) sound q l)) few);
 }
+  where
+    distinct-at : (q : ℕ) → (q < length after.reached.items) ⊎ (length after.reached.items ≤ q) → AreDistinct (rows_of (kept_at after.reached.items q))
+    distinct-at q (inl l) =
+        subst (λ o. AreDistinct (rows_of o)) (ap (λ ys. kept_at ys q) reached ∙ lists-begin after.reached.items later None q l) (kept.distinct q)
+    distinct-at q (inr l) = subst (λ o. AreDistinct (rows_of o)) (sym (beyond-all after.reached.items None q l)) distinct-none

@@ -12,6 +12,8 @@ pub mod RedactionLemmas
 pub mod ReachedRowLemmas
 pub mod ChainLemmas
 pub mod ChainDifferenceLemmas
+pub mod ShortChainLemmas
 pub mod KeptChainLemmas
+pub mod ShortKeptLemmas
 pub mod SetLemmas
 pub mod DepthLemmas

@@ -1,8 +1,9 @@
 -- For proofs and private clauses alone.
 -- An index of auth chains: chains of rows, in which each row is in the auth chains of the later ones, and how far up each chain the auth chain of a row goes.
-use Rattle.std.specs.Prelude.{◌≡◌, ◌==◌, ◌&&◌, ◌||◌, ℕ, ◌<◌, ◌≤◌, nat_le, nat_lt, Bool, true, false, cond, not, List, [], slice_index_or, Option, None, Some, is_some, Vec, All}
-use Rattle.std.specs.List.{list_any, list_all}
+use Rattle.std.specs.Prelude.{◌≡◌, ◌==◌, nat_eq, ◌&&◌, ◌||◌, ℕ, ◌<◌, ◌≤◌, nat_le, nat_lt, Bool, true, false, cond, not, List, [], slice_index_or, Option, None, Some, is_some, Vec, All, map, length}
+use Rattle.std.specs.List.{list_any, list_all, IsDistinct}
 use Rattle.std.specs.declared.alloc.Global.{Global}
+use Rattle.mx_graph.specs.Graph.{most_chains}
 use Rattle.mx_graph.specs.Record.{is_in}
 use Rattle.mx_graph.specs.declared.auth_chains.ChainPlace.{ChainPlace}
 use Rattle.mx_graph.specs.declared.reached_rows.Reached.{Reached}
@@ -36,6 +37,14 @@ any_has kept apart chain p = list_any (λ others. some_has kept others.items cha
 -- something is kept for each of these events
 abbrev pub AreKept : (ℕ → Option (Vec Reached Global)) → List ℕ → Type 0
 AreKept kept events = (q : ℕ) → is_in events q ≡ true → is_some (kept q) ≡ true
+
+-- the chains that they are of
+abbrev pub chains_of : List Reached → List ℕ
+chains_of reached = map (λ e. e.chain) reached
+
+-- no two of them are of one chain
+abbrev pub AreDistinct : List Reached → Type 0
+AreDistinct reached = IsDistinct nat_eq (chains_of reached)
 
 -- ---- places in chains
 
@@ -94,6 +103,10 @@ pub record AreChains (meets : ℕ → ℕ → Bool) (at : ℕ → ChainPlace) (k
 abbrev pub cited_has : (ℕ → ChainPlace) → (ℕ → Option (Vec Reached Global)) → ℕ → ℕ → ℕ → Bool
 cited_has at kept q chain p = ((at q).chain == chain && nat_le p q) || has_row (rows_of (kept q)) chain p
 
+-- the same of one of some cited events
+abbrev pub some_cited_has : (ℕ → ChainPlace) → (ℕ → Option (Vec Reached Global)) → List ℕ → ℕ → ℕ → Bool
+some_cited_has at kept events chain p = list_any (λ q. cited_has at kept q chain p) events
+
 pub record AreAdded (at : ℕ → ChainPlace) (kept : ℕ → Option (Vec Reached Global)) (event : ℕ) (old new : List Reached) : Type 0 where
   pub kept_here : is_some (kept event) ≡ true
   pub cited : (at event).is_cited ≡ true
@@ -105,6 +118,12 @@ pub record AreReached (at : ℕ → ChainPlace) (kept : ℕ → Option (Vec Reac
   pub cited : (q : ℕ) → is_in events q ≡ true → (at q).is_cited ≡ true
   pub rows : (chain p : ℕ) → has_row found chain p ≡ list_any (λ q. cited_has at kept q chain p) events
   pub ends : ((r : ℕ) → AreEnds at (rows_of (kept r))) → AreEnds at found
+
+-- the rows of chains that pass a test are among at most 64 events
+pub record AreFew (at : ℕ → ChainPlace) (has : ℕ → ℕ → Bool) : Type 0 where
+  pub members : List ℕ
+  pub among : (p : ℕ) → has (at p).chain p ≡ true → is_in members p ≡ true
+  pub few : length members ≤ most_chains
 
 -- ---- what is found for some lists of events
 

@@ -1,5 +1,5 @@
 -- Which events can be reached from others by prev events, and by auth events.
-use Rattle.std.specs.Prelude.{ℕ, zero, suc, Bool, not, ◌&&◌, ◌||◌, map, List, [], ◌++◌, length, flat_map, IsTrue, ◌<◌, ◌≡◌}
+use Rattle.std.specs.Prelude.{ℕ, zero, suc, Bool, not, ◌&&◌, ◌||◌, map, List, [], ◌∷◌, ◌++◌, length, flat_map, IsTrue, ◌<◌, ◌≤◌, ◌≡◌}
 use Rattle.std.specs.List.{list_any, list_all}
 use Rattle.mx_graph.specs.Record.{Row, events_where, is_in, row, event, prev_events, auth_events}
 
@@ -28,6 +28,20 @@ abbrev pub is_in_difference : List Row → List ℕ → List (List ℕ) → ℕ 
 is_in_difference rows shared apart p =
     let chains = map (auth_chain rows) apart in
     (list_any (λ chain. is_in chain p) chains && not (list_all (λ chain. is_in chain p) chains)) && not (is_in (auth_chain rows shared) p)
+
+-- ---- short auth chains
+
+-- the most chains of rows that are kept for a row, where each row of a chain is in the auth chains of the later ones: an auth chain meets no more of them than it has events
+abbrev pub most_chains : ℕ
+most_chains = 64
+
+-- each is an event of the record, and its auth chain has at most 64 events
+abbrev pub HaveShortChains : List Row → List ℕ → Type 0
+HaveShortChains rows events = (s : ℕ) → IsTrue (is_in events s) → (s < length rows) × (length (auth_chain rows (s ∷ [])) ≤ most_chains)
+
+-- each is an event of the record, and the auth chain of all of them together has at most 64 events
+abbrev pub HaveShortJointChain : List Row → List ℕ → Type 0
+HaveShortJointChain rows events = ((s : ℕ) → IsTrue (is_in events s) → s < length rows) × (length (auth_chain rows events) ≤ most_chains)
 
 -- ---- what these sets are
 

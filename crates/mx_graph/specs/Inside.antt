@@ -1,6 +1,6 @@
 -- For proofs and private clauses alone.
 -- What the parts of a `Graph` are.
-use Rattle.std.specs.Prelude.{◌≡◌, ℕ, ◌<◌, ◌≤◌, Bool, List, [], ◌∷◌, length, slice_index, true, Some, Vec}
+use Rattle.std.specs.Prelude.{◌≡◌, ℕ, ◌<◌, ◌≤◌, Bool, List, [], ◌∷◌, length, slice_index, true, Some, is_some, Vec}
 use Rattle.std.specs.List.{list_all}
 use Rattle.std.specs.Ordering.{nat_cmp, is_eq}
 use Rattle.std.specs.Cmp.Lexicographic.{slice_cmp}
@@ -9,9 +9,9 @@ use Rattle.std.specs.declared.alloc.Global.{Global}
 use Rattle.mx_pdu.specs.Event.{prev_ids, auth_ids}
 use Rattle.mx_graph.specs.Adding.{is_known, most_rows}
 use Rattle.mx_graph.specs.Edges.{cited}
-use Rattle.mx_graph.specs.AuthChains.{kept_at, place_at, AreChains}
+use Rattle.mx_graph.specs.AuthChains.{kept_at, place_at, rows_of, AreChains, AreDistinct}
 use Rattle.mx_graph.specs.Depths.{depth_bound}
-use Rattle.mx_graph.specs.Graph.{CitesDown, auth_chain}
+use Rattle.mx_graph.specs.Graph.{CitesDown, auth_chain, most_chains}
 use Rattle.mx_graph.specs.declared.auth_chains.AuthChains.{AuthChains}
 use Rattle.mx_graph.specs.Record.{Row, row, event, place_of, prev_events, auth_events, events_where, is_in, names_in_redaction}
 
@@ -24,6 +24,8 @@ pub record AreKeptFor (rows : List Row) (chains : AuthChains) : Type 0 where
   pub places_len : length chains.places.items ≡ length rows
   pub reached_len : length chains.reached.items ≡ length rows
   pub right : AreChains (met_in rows) (place_at chains.places.items) (kept_at chains.reached.items)
+  pub distinct : (r : ℕ) → AreDistinct (rows_of (kept_at chains.reached.items r))
+  pub short : (r : ℕ) → r < length rows → length (auth_chain rows (r ∷ [])) ≤ most_chains → is_some (kept_at chains.reached.items r) ≡ true
 
 -- the bounds that are kept are those of these rows
 pub record AreBoundsOf (rows : List Row) (bounds : List ℕ) : Type 0 where

@@ -1,7 +1,8 @@
 // An index of auth chains.
-ghost use Rattle.std.specs.Prelude.{◌≡◌, ◌<◌, ℕ, Bool, IfOk, IfSome, IsTrue, OnOk, [], is_some, length, true, vec_capacity, vec_len};
-ghost use Rattle.mx_graph.specs.AuthChains.{alone, begun, following, kept_at, place_at, rows_of, AreAdded, AreChains, AreMet, AreReached, IsLast};
+ghost use Rattle.std.specs.Prelude.{◌≡◌, ◌<◌, ◌≤◌, ℕ, Bool, IfOk, IfSome, IsSome, IsTrue, OnOk, [], is_some, length, true, vec_capacity, vec_len};
+ghost use Rattle.mx_graph.specs.AuthChains.{alone, begun, following, kept_at, place_at, rows_of, some_cited_has, AreAdded, AreChains, AreDistinct, AreEnds, AreFew, AreKept, AreMet, AreReached, IsLast};
 ghost use Rattle.mx_graph.specs.Edges.{cited};
+ghost use Rattle.mx_graph.specs.Graph.{most_chains};
 ghost use Rattle.mx_graph.specs.Record.{is_in};
 
 use crate::numbers::EventNo;
@@ -61,8 +62,8 @@ impl AuthChains {
 
     // What is kept for a row, if anything is.
     pub fn kept(&self, event: EventNo) -> Option<&[Reached]>
-        ensures { IfSome result (λ found. (is_some (kept_at self.now.reached.items event) ≡ true)
-            × (found.now ≡ rows_of (kept_at self.now.reached.items event))) }
+        ensures rows { IfSome result (λ found. found.now ≡ rows_of (kept_at self.now.reached.items event)) }
+        ensures there { is_some result ≡ is_some (kept_at self.now.reached.items event) }
     {
         match self.reached.get(event.index())? {
             Some(found) => Some(found),
@@ -88,6 +89,13 @@ impl AuthChains {
         ensures reached_room { OnOk result (vec_len self.new.reached < vec_capacity self.new.reached) }
         ensures found { IfOk result (λ found. IfSome found (λ own.
             AreReached (place_at self.new.places.items) (kept_at self.new.reached.items) events.now own.items)) }
+        ensures distinct { IfOk result (λ found. IfSome found (λ own. AreDistinct own.items)) }
+        ensures answers { IfOk result (λ found. ((q : ℕ) → is_in events.now q ≡ true → q < length self.new.places.items)
+            → AreKept (kept_at self.new.reached.items) events.now
+            → ((r : ℕ) → AreEnds (place_at self.new.places.items) (rows_of (kept_at self.new.reached.items r)))
+            → AreFew (place_at self.new.places.items)
+            (some_cited_has (place_at self.new.places.items) (kept_at self.new.reached.items) events.now)
+            → IsSome found) }
     {
         self.cite(rows, edges, events);
         self.places.reserve(1)?;
@@ -103,6 +111,8 @@ impl AuthChains {
         ensures chains { (meets : ℕ → ℕ → Bool) → AreMet (cited edges.now) meets
             → AreChains meets (place_at self.old.places.items) (kept_at self.old.reached.items)
             → AreChains meets (place_at self.new.places.items) (kept_at self.old.reached.items) }
+        ensures cited { (q : ℕ) → is_in events.now q ≡ true → q < length self.old.places.items
+            → (place_at self.new.places.items q).is_cited ≡ true }
     {
         for event in events {
             self.cite_one(rows, edges, *event);
@@ -115,6 +125,9 @@ impl AuthChains {
         ensures chains { (meets : ℕ → ℕ → Bool) → AreMet (cited edges.now) meets
             → AreChains meets (place_at self.old.places.items) (kept_at self.old.reached.items)
             → AreChains meets (place_at self.new.places.items) (kept_at self.old.reached.items) }
+        ensures cited { event < length self.old.places.items → (place_at self.new.places.items event).is_cited ≡ true }
+        ensures stays { (q : ℕ) → (place_at self.old.places.items q).is_cited ≡ true
+            → (place_at self.new.places.items q).is_cited ≡ true }
     {
         if event.index() >= self.places.len() || self.places[event.index()].is_cited {
             return;
@@ -211,8 +224,16 @@ impl AuthChains {
         alloc: Global,
         events: &[EventNo],
     ) -> Result<Option<Vec<Reached>>, AllocError>
-        ensures { IfOk result (λ found. IfSome found (λ rows.
+        ensures found { IfOk result (λ found. IfSome found (λ rows.
             AreReached (place_at self.now.places.items) (kept_at self.now.reached.items) events.now rows.items)) }
+        ensures distinct { IfOk result (λ found. IfSome found (λ rows. AreDistinct rows.items)) }
+        ensures answers { IfOk result (λ found.
+            ((q : ℕ) → is_in events.now q ≡ true → (place_at self.now.places.items q).is_cited ≡ true)
+            → AreKept (kept_at self.now.reached.items) events.now
+            → ((r : ℕ) → AreEnds (place_at self.now.places.items) (rows_of (kept_at self.now.reached.items r)))
+            → AreFew (place_at self.now.places.items)
+            (some_cited_has (place_at self.now.places.items) (kept_at self.now.reached.items) events.now)
+            → IsSome found) }
     {
         let mut found = Vec::new(alloc);
         for event in events {
@@ -225,8 +246,12 @@ impl AuthChains {
 
     // Adds a row that is cited, and those of its auth chain; false where that can't be told.
     fn add_cited(&self, found: &mut Vec<Reached>, event: EventNo) -> Result<bool, AllocError>
-        ensures { IfOk result (λ done. IsTrue done → AreAdded (place_at self.now.places.items)
+        ensures added { IfOk result (λ done. IsTrue done → AreAdded (place_at self.now.places.items)
             (kept_at self.now.reached.items) event found.old.items found.new.items) }
+        ensures distinct { OnOk result (AreDistinct found.old.items → AreDistinct found.new.items) }
+        ensures answers { IfOk result (λ done. (place_at self.now.places.items event).is_cited ≡ true
+            → is_some (kept_at self.now.reached.items event) ≡ true → length found.old.items ≤ most_chains
+            → IsTrue done) }
     {
         let place = self.place(event);
         let Some(others) = self.kept(event) else {

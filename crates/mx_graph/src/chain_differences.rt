@@ -1,7 +1,7 @@
 // Where auth chains differ, by the index of auth chains.
-ghost use Rattle.std.specs.Prelude.{◌≡◌, ◌&&◌, ◌||◌, ℕ, All, IfOk, IfSome, IsTrue, OnOk, nat_le, nat_lt};
+ghost use Rattle.std.specs.Prelude.{◌≡◌, ◌&&◌, ◌||◌, ℕ, All, IfOk, IfSome, IsSome, IsTrue, OnOk, nat_le, nat_lt};
 ghost use Rattle.std.specs.List.{list_any};
-ghost use Rattle.mx_graph.specs.AuthChains.{all_have, differs, is_apart, is_between, is_partly_met, kept_at, place_at, rows_of, some_has, AreEnds, AreKept, AreLinked, AreMetBySome, AreMetToo, IsNextBelow};
+ghost use Rattle.mx_graph.specs.AuthChains.{all_have, any_has, differs, has_row, is_apart, is_between, is_partly_met, kept_at, place_at, rows_of, some_has, AreDistinct, AreEnds, AreFew, AreKept, AreLinked, AreMetBySome, AreMetToo, IsNextBelow};
 ghost use Rattle.mx_graph.specs.Record.{is_in};
 
 use crate::auth_chains::{AuthChains, MOST_CHAINS};
@@ -15,6 +15,7 @@ impl AuthChains {
         ensures kept { IfSome result (λ _. AreKept (kept_at self.now.reached.items) starts.now) }
         ensures is { IfSome result (λ is_there. is_there ≡ some_has (kept_at self.now.reached.items) starts.now
             (place_at self.now.places.items event).chain event) }
+        ensures answers { AreKept (kept_at self.now.reached.items) starts.now → IsSome result }
     {
         let end = self.end_of(starts, self.place(event).chain)?;
         Some(event.index() < end)
@@ -25,6 +26,7 @@ impl AuthChains {
         ensures kept { IfSome result (λ _. AreKept (kept_at self.now.reached.items) events.now) }
         ensures rows { IfSome result (λ end. (p : ℕ)
             → nat_lt p end ≡ some_has (kept_at self.now.reached.items) events.now chain p) }
+        ensures answers { AreKept (kept_at self.now.reached.items) events.now → IsSome result }
     {
         let mut end = 0;
         for event in events {
@@ -36,8 +38,10 @@ impl AuthChains {
 
     // The end of the rows of a chain, before this one, in the auth chains of each of some sets of events.
     fn least_end(&self, apart: &[Vec<EventNo>], chain: EventNo, end: usize) -> Option<usize>
-        ensures { IfSome result (λ least. (p : ℕ)
+        ensures least { IfSome result (λ least. (p : ℕ)
             → nat_lt p least ≡ (nat_lt p end && all_have (kept_at self.now.reached.items) apart.now chain p)) }
+        ensures answers { All (λ others. AreKept (kept_at self.now.reached.items) others.items) apart.now
+            → IsSome result }
     {
         let mut least = end;
         for others in apart {
@@ -64,6 +68,11 @@ impl AuthChains {
             ((r : ℕ) → AreEnds (place_at self.now.places.items) (rows_of (kept_at self.now.reached.items r)))
             → (p : ℕ) → is_in events.items p ≡ differs (place_at self.now.places.items)
             (kept_at self.now.reached.items) shared.now apart.now p)) }
+        ensures answers { IfOk result (λ found. AreKept (kept_at self.now.reached.items) shared.now
+            → All (λ others. AreKept (kept_at self.now.reached.items) others.items) apart.now
+            → ((r : ℕ) → AreEnds (place_at self.now.places.items) (rows_of (kept_at self.now.reached.items r)))
+            → AreFew (place_at self.now.places.items) (any_has (kept_at self.now.reached.items) apart.now)
+            → IsSome found) }
     {
         if !self.are_kept(shared) {
             return Ok(None);
@@ -77,7 +86,8 @@ impl AuthChains {
 
     // Whether something is kept for each of these events.
     fn are_kept(&self, events: &[EventNo]) -> bool
-        ensures { IsTrue result → AreKept (kept_at self.now.reached.items) events.now }
+        ensures kept { IsTrue result → AreKept (kept_at self.now.reached.items) events.now }
+        ensures answers { AreKept (kept_at self.now.reached.items) events.now → IsTrue result }
     {
         for event in events {
             if self.kept(*event).is_none() {
@@ -93,8 +103,13 @@ impl AuthChains {
         alloc: Global,
         apart: &[Vec<EventNo>],
     ) -> Result<Option<Vec<Reached>>, AllocError>
-        ensures { IfOk result (λ found. IfSome found (λ rows.
+        ensures found { IfOk result (λ found. IfSome found (λ rows.
             AreMetBySome (place_at self.now.places.items) (kept_at self.now.reached.items) apart.now rows.items)) }
+        ensures answers { IfOk result (λ found.
+            All (λ others. AreKept (kept_at self.now.reached.items) others.items) apart.now
+            → ((r : ℕ) → AreEnds (place_at self.now.places.items) (rows_of (kept_at self.now.reached.items r)))
+            → AreFew (place_at self.now.places.items) (any_has (kept_at self.now.reached.items) apart.now)
+            → IsSome found) }
     {
         let mut met = Vec::new(alloc);
         for others in apart {
@@ -107,8 +122,15 @@ impl AuthChains {
 
     // Adds the rows in the auth chains of some events; false where they are of too many chains.
     fn add_met(&self, met: &mut Vec<Reached>, events: &[EventNo]) -> Result<bool, AllocError>
-        ensures { IfOk result (λ done. IsTrue done → AreMetToo (place_at self.now.places.items)
+        ensures met { IfOk result (λ done. IsTrue done → AreMetToo (place_at self.now.places.items)
             (kept_at self.now.reached.items) events.now met.old.items met.new.items) }
+        ensures distinct { OnOk result (AreDistinct met.old.items → AreDistinct met.new.items) }
+        ensures answers { IfOk result (λ done. AreKept (kept_at self.now.reached.items) events.now
+            → ((r : ℕ) → AreEnds (place_at self.now.places.items) (rows_of (kept_at self.now.reached.items r)))
+            → AreEnds (place_at self.now.places.items) met.old.items → AreDistinct met.old.items
+            → AreFew (place_at self.now.places.items)
+            (λ chain p. has_row met.old.items chain p || some_has (kept_at self.now.reached.items) events.now chain p)
+            → IsTrue done) }
     {
         for event in events {
             let Some(rows) = self.kept(*event) else {
@@ -131,9 +153,11 @@ impl AuthChains {
         met: &[Reached],
     ) -> Result<Option<Vec<EventNo>>, AllocError>
         requires { AreLinked (place_at self.now.places.items) }
-        ensures { IfOk result (λ found. IfSome found (λ events.
+        ensures set { IfOk result (λ found. IfSome found (λ events.
             (p : ℕ) → is_in events.items p ≡ list_any (λ e. is_partly_met (place_at self.now.places.items)
             (kept_at self.now.reached.items) shared.now apart.now e p) met.now)) }
+        ensures answers { IfOk result (λ found. AreKept (kept_at self.now.reached.items) shared.now
+            → All (λ others. AreKept (kept_at self.now.reached.items) others.items) apart.now → IsSome found) }
     {
         let mut found = Vec::new(alloc);
         for row in met {
@@ -148,8 +172,10 @@ impl AuthChains {
     // From which number on the rows of a chain, up to a last one, are not in the auth chains of all sets, nor in that of the
     // shared events.
     fn first_apart(&self, shared: &[EventNo], apart: &[Vec<EventNo>], row: Reached) -> Option<usize>
-        ensures { IfSome result (λ first. (p : ℕ) → (nat_le first p && nat_le p row.last)
+        ensures first { IfSome result (λ first. (p : ℕ) → (nat_le first p && nat_le p row.last)
             ≡ (nat_le p row.last && is_apart (kept_at self.now.reached.items) shared.now apart.now row.chain p)) }
+        ensures answers { AreKept (kept_at self.now.reached.items) shared.now
+            → All (λ others. AreKept (kept_at self.now.reached.items) others.items) apart.now → IsSome result }
     {
         let end = row.last.index() + 1;
         let least = self.least_end(apart, row.chain, end)?;

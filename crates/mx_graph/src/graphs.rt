@@ -1,5 +1,5 @@
 // The graph of a room.
-ghost use Rattle.std.specs.Prelude.{◌≡◌, ◌+◌, ◌<◌, ◌≤◌, ◌↔◌, All, IfOk, IfSome, IsErrOf, IsTrue, MatchOption, None, OnErr, OnOk, Some, [], ◌∷◌, ◌++◌, ◌&&◌, ℕ, filter_map, length, map, nat_le};
+ghost use Rattle.std.specs.Prelude.{◌≡◌, ◌+◌, ◌<◌, ◌≤◌, ◌↔◌, All, IfOk, IfSome, IsErrOf, IsSome, IsTrue, MatchOption, None, OnErr, OnOk, Some, [], ◌∷◌, ◌++◌, ◌&&◌, ℕ, filter_map, flat_map, length, map, nat_le};
 ghost use Rattle.std.specs.List.{list_all};
 ghost use Rattle.std.specs.Result.{result_err};
 ghost use Rattle.mx_graph.specs.Adding.{add_error, is_known};
@@ -316,19 +316,21 @@ impl Graph {
     }
 
     /// Whether an event is in the auth chain of some others, from what is kept of auth chains: no event is visited. `None`
-    /// where that does not tell it, since an auth chain meets too many chains of rows that replace each other.
+    /// only where one of the others is not in the graph, or has more than 64 events in its auth chain.
     ///
     /// It takes no memory, and the time is that of the given events. Source: the Matrix specification, Room Version 2,
     /// "State resolution", auth chain.
     pub fn is_in_auth_chain(&self, event: EventNo, starts: &[EventNo]) -> Option<bool>
-        ensures { IfSome result (λ is_there. is_there ≡ is_in (closure.auth_chain self.now starts.now) event) }
+        ensures is { IfSome result (λ is_there. is_there ≡ is_in (closure.auth_chain self.now starts.now) event) }
+        ensures answers { closure.HaveShortChains self.now starts.now → IsSome result }
     {
         self.auth_chains.has_in_chain(event, starts)
     }
 
     /// The events in the auth chains of some of these sets, and not of all, and not in the auth chain of what all sets
-    /// share, in no order, from what is kept of auth chains: no other event is visited. `None` where that does not tell
-    /// it, since the auth chains meet too many chains of rows that replace each other.
+    /// share, in no order, from what is kept of auth chains: no other event is visited. `None` only where a given event is
+    /// not in the graph, or there are more than 64 events in the auth chain of a shared one, or in that of all others
+    /// together.
     ///
     /// The time is that of all given events, for each of these chains, and of what is found. Source: the Matrix
     /// specification, Room Version 2, "State resolution", auth difference.
@@ -338,8 +340,10 @@ impl Graph {
         shared: &[EventNo],
         apart: &[Vec<EventNo>],
     ) -> Result<Option<Vec<EventNo>>, AllocError>
-        ensures { IfOk result (λ found. IfSome found (λ events. (p : ℕ) → is_in events.items p
+        ensures set { IfOk result (λ found. IfSome found (λ events. (p : ℕ) → is_in events.items p
             ≡ closure.is_in_difference self.now shared.now (map (λ others. others.items) apart.now) p)) }
+        ensures answers { IfOk result (λ found. closure.HaveShortChains self.now shared.now
+            → closure.HaveShortJointChain self.now (flat_map (λ others. others.items) apart.now) → IsSome found) }
     {
         let found = self.auth_chains.difference(alloc, shared, apart)?;
         Ok(found)

@@ -1,6 +1,6 @@
 // How far up chains of rows an auth chain goes.
-ghost use Rattle.std.specs.Prelude.{◌≡◌, ◌==◌, ◌<◌, ◌≤◌, ◌&&◌, ◌||◌, ℕ, IfSome, OnOk, length, nat_le, nat_lt, slice_index_or};
-ghost use Rattle.mx_graph.specs.AuthChains.{has_row, AreEnds};
+ghost use Rattle.std.specs.Prelude.{◌≡◌, ◌==◌, ◌<◌, ◌≤◌, ◌&&◌, ◌||◌, ℕ, All, IfSome, None, OnOk, false, length, nat_le, nat_lt, slice_index_or};
+ghost use Rattle.mx_graph.specs.AuthChains.{has_row, AreDistinct, AreEnds};
 ghost use Rattle.mx_graph.specs.declared.auth_chains.ChainPlace.{ChainPlace};
 ghost use Rattle.mx_graph.specs.declared.reached_rows.Reached as reached_row;
 
@@ -21,6 +21,7 @@ pub(crate) fn add_row(reached: &mut Vec<Reached>, row: Reached) -> Result<(), Al
         ≡ (has_row reached.old.items chain p || ((row.chain == chain) && nat_le p row.last))) }
     ensures ends { OnOk result ((at : ℕ → ChainPlace) → AreEnds at reached.old.items
         → (at row.last).chain ≡ row.chain → AreEnds at reached.new.items) }
+    ensures distinct { OnOk result (AreDistinct reached.old.items → AreDistinct reached.new.items) }
 {
     let Some(index) = index_of(reached, row.chain) else {
         reached.push(row)?;
@@ -34,8 +35,9 @@ pub(crate) fn add_row(reached: &mut Vec<Reached>, row: Reached) -> Result<(), Al
 
 // Where a list has rows of a chain.
 fn index_of(reached: &[Reached], chain: EventNo) -> Option<usize>
-    ensures { IfSome result (λ i. (i < length reached.now)
+    ensures there { IfSome result (λ i. (i < length reached.now)
         × ((d : reached_row.Reached) → (slice_index_or reached.now i d).chain ≡ chain)) }
+    ensures none { result ≡ None → All (λ e. (e.chain == chain) ≡ false) reached.now }
 {
     reached.iter().position(|own| own.chain == chain)
 }
@@ -46,6 +48,7 @@ pub(crate) fn add_rows(reached: &mut Vec<Reached>, others: &[Reached]) -> Result
         ≡ (has_row reached.old.items chain p || has_row others.now chain p)) }
     ensures ends { OnOk result ((at : ℕ → ChainPlace) → AreEnds at reached.old.items
         → AreEnds at others.now → AreEnds at reached.new.items) }
+    ensures distinct { OnOk result (AreDistinct reached.old.items → AreDistinct reached.new.items) }
 {
     for other in others {
         add_row(reached, *other)?;

@@ -15,6 +15,9 @@ const OWNER_ALONE: u32 = 0o700;
 // Who may read and write a file of rows: its owner. SQLite's log beside it gets the same.
 const OWNER_READS_AND_WRITES: u32 = 0o600;
 
+// A log of so many bytes at most has nothing: it is cut to so many once it is copied.
+const LENGTH_OF_EMPTY_LOG: u64 = 41;
+
 /// Rows of one kind in a file.
 pub type FileRows<R> = SqliteKeeper<FileStore<File>, R>;
 
@@ -196,11 +199,41 @@ fn make_file(host: &HostRuntime, path: &str) {
     let _made = maker.open(host, path);
 }
 
-// The rows of a file.
+// The rows of a file. What SQLite's log beside it has is copied into it first, so that it is whole alone.
 fn keeper_at<R: TableRow>(host: &HostRuntime, path: &str) -> Result<FileRows<R>, StartError> {
     make_file(host, path);
-    match Connection::open(host, path) {
-        Ok(connection) => adopted(host, path, connection),
+    copy_log(host, path)?;
+    let connection = connection_at(host, path)?;
+    adopted(host, path, connection)
+}
+
+// Copies what SQLite's log beside a file has into the file.
+fn copy_log(host: &HostRuntime, path: &str) -> Result<(), StartError> {
+    if !has_log(host, path)? {
+        return Ok(());
+    }
+    match connection_at(host, path)?.close() {
+        Ok(()) => Ok(()),
+        Err(error) => Err(unopened(host, path, &error)),
+    }
+}
+
+// Whether SQLite's log beside a file may have something.
+fn has_log(host: &HostRuntime, path: &str) -> Result<bool, StartError> {
+    let log = format!(in host.alloc(); "{path}-wal")?;
+    match fs::metadata(host, log.as_str()) {
+        Ok(about) => Ok(about.len() > LENGTH_OF_EMPTY_LOG),
+        Err(_error) => Ok(false),
+    }
+}
+
+// The database in a file. One that is new ends each page in a sum, by which it is told when a bit has changed.
+fn connection_at(
+    host: &HostRuntime,
+    path: &str,
+) -> Result<Connection<FileStore<File>>, StartError> {
+    match Connection::open_with_sums(host, path) {
+        Ok(connection) => Ok(connection),
         Err(error) => Err(unopened(host, path, &error)),
     }
 }

@@ -15,6 +15,7 @@ loop-other-preserved c = record {
       (ap (λ r. has_row (take c.loop-other.other-index c.args.others.now) chain p || test chain p r) c.other-item.is ∙ sym (list_any_more (test chain p) c.args.others.now c.loop-other.other-index c.other-item.result c.loop-other-test.true));
   ends = λ at old others. c.in_ok-add_row.ensures.ends at (c.loop-other.invariant.ends at old others)
       (ap (λ (r : Reached). (at r.last).chain) c.other-item.is ∙ others c.loop-other.other-index c.other-item.result c.loop-other-test.true ∙ ap (λ (r : Reached). r.chain) (sym c.other-item.is));
+  distinct = λ old. c.in_ok-add_row.ensures.distinct (c.loop-other.invariant.distinct old);
 }
   where
     test : ℕ → ℕ → Reached → Bool

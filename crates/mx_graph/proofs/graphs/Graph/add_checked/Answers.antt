@@ -12,6 +12,7 @@ use Rattle.mx_graph.specs.Redactions.{naming, with_event}
 use Rattle.mx_graph.proofs.DepthLemmas.{bounds-push, greatest}
 use Rattle.mx_graph.proofs.IndexLemmas.{IsFree, free, indexed-again, indexed-push, numbered-back}
 use Rattle.mx_graph.proofs.KeptChainLemmas.{kept-cited, kept-push}
+use Rattle.mx_graph.proofs.ShortKeptLemmas.{short-new}
 use Rattle.mx_graph.proofs.Closure.{all-in}
 use Rattle.mx_graph.proofs.RowLemmas.{places-below}
 use Rattle.mx_graph.proofs.graphs.Graph.add_checked.Goals as goal
@@ -64,7 +65,8 @@ invariant_of-self-2 c =
     (λ id. c.in_ok-insert.ensures.updates.0 id ∙ (λ i. cond (is_eq (slice_cmp nat_cmp (same_id i) id)) (Some (same_number i)) (lookup (λ k. is_eq (slice_cmp nat_cmp id k)) c.self.inside.numbers.entries)))
     (λ id. c.in_default.ensures.ok id ∙ ap (λ n. with_event c.args.row.event n id (naming c.self.inside.redactions id)) same_number)
     (λ sound cites. kept-push c.self.inside.rows.items c.args.row c.prepare.new.self (record { places = c.push-4.new.self; reached = c.push-5.new.self }) c.at-number.result c.in_ok-reached.reached c.deref-3.result.now same_number sound kept
-    (cites ∙ sym c.deref-3.ensures.value) c.in_ok-reached.ensures.found
+    (cites ∙ sym c.deref-3.ensures.value) c.in_ok-reached.ensures.found c.in_ok-reached.ensures.distinct
+    (λ short. short-new c.self.inside.rows.items c.args.row c.prepare.new.self sound kept short c.deref-3.result.now c.in_ok-reached.reached (cites ∙ sym c.deref-3.ensures.value) c.in_ok-reached.ensures.answers)
     (rw (c.push-4.ensures.items, c.unwrap-4.ensures) (ap (λ s. c.prepare.new.self.places.items ++ s ∷ []) c.place_alone.ensures)) (rw (c.push-5.ensures.items, c.unwrap-5.ensures) refl))
     (λ sound. bounds-push c.self.inside.rows.items c.args.row c.self.inside.depth_bounds.items c.bound_behind-bound.result c.deref-5.result.now sound c.self.invariant.depth_bounds
     (c.deref-5.ensures.value ∙ rw (← c.self.view_is) at c.requires.prev)

@@ -1,0 +1,134 @@
+/* Loaded before the C library, it makes one call on a file or on a connection fail, or ends the program at it: the call
+   whose number, from 1, is in FAIL_CALL. FAIL_CALL_ON says which calls count: `file`, those that change a regular file or
+   bring it to the disk, or `socket`, those that read or write a connection. FAIL_CALL_HOW says what becomes of the call:
+   `stop` ends the program before it, `torn` once half of its bytes are written, `done` once it is done, each as a kill
+   does; `error` makes it fail. At SIGUSR1 it writes how many calls there were into the file that FAIL_CALL_COUNT names,
+   and counts anew; the number is then in the file that FAIL_CALL_NUMBER names. */
+#define _GNU_SOURCE
+#include <dlfcn.h>
+#include <errno.h>
+#include <fcntl.h>
+#include <signal.h>
+#include <stdio.h>
+#include <stdlib.h>
+#include <string.h>
+#include <sys/socket.h>
+#include <sys/stat.h>
+#include <sys/uio.h>
+#include <unistd.h>
+
+static long calls, wanted = -1;
+
+static const char *said(const char *name) {
+    const char *text = getenv(name);
+    return text ? text : "";
+}
+
+#define IS_ON_FILES (!strcmp(said("FAIL_CALL_ON"), "file"))
+
+/* Whether a call on this file or connection is the one, which is counted. */
+static int is_it(int file) {
+    struct stat about;
+    if (wanted < 0) wanted = atol(said("FAIL_CALL"));
+    if (fstat(file, &about) || !(IS_ON_FILES ? S_ISREG(about.st_mode) : S_ISSOCK(about.st_mode))) return 0;
+    return __sync_add_and_fetch(&calls, 1) == wanted;
+}
+
+static void end(void) {
+    kill(getpid(), SIGKILL);
+    for (;;) pause();
+}
+
+#define REAL(name) ((__typeof__(&name))dlsym(RTLD_NEXT, #name))
+#define IS(how) (!strcmp(said("FAIL_CALL_HOW"), how))
+
+/* Whether a call that is the one fails. */
+static int fails(void) {
+    if (IS("stop")) end();
+    errno = IS_ON_FILES ? EIO : ECONNRESET;
+    return IS("error");
+}
+
+/* A call on a file or a connection: what it does, and what it does to half of its bytes. */
+#define CALL(file, whole, half)                       \
+    do {                                              \
+        if (!is_it(file)) return whole;               \
+        if (fails()) return -1;                       \
+        long done = IS("torn") ? (half) : (whole);    \
+        (void)done;                                   \
+        end();                                        \
+        return -1;                                    \
+    } while (0)
+
+/* A file was brought to the disk: as it is now a loss of power leaves it. Where FAIL_CALL_SYNCED is set a copy of it is made
+   beside it, under its name and `.synced`. */
+static int brought(int file, int answer) {
+    char link[64], path[4096] = {0}, bytes[65536];
+    ssize_t length;
+    off_t at = 0;
+    if (answer || !getenv("FAIL_CALL_SYNCED")) return answer;
+    snprintf(link, sizeof link, "/proc/self/fd/%d", file);
+    length = readlink(link, path, sizeof path - 8);
+    if (length < 0) _Exit(5);
+    strcpy(path + length, ".synced");
+    int copy = open(path, O_CREAT | O_WRONLY | O_TRUNC, 0600);
+    while ((length = pread(file, bytes, sizeof bytes, at)) > 0) {
+        if (REAL(write)(copy, bytes, length) != length) _Exit(5);
+        at += length;
+    }
+    close(copy);
+    return answer;
+}
+
+ssize_t write(int file, const void *bytes, size_t size) {
+    CALL(file, REAL(write)(file, bytes, size), REAL(write)(file, bytes, size / 2));
+}
+
+ssize_t pwrite(int file, const void *bytes, size_t size, off_t at) {
+    CALL(file, REAL(pwrite)(file, bytes, size, at), REAL(pwrite)(file, bytes, size / 2, at));
+}
+
+ssize_t pwrite64(int file, const void *bytes, size_t size, off64_t at) {
+    CALL(file, REAL(pwrite64)(file, bytes, size, at), REAL(pwrite64)(file, bytes, size / 2, at));
+}
+
+ssize_t writev(int file, const struct iovec *parts, int count) {
+    CALL(file, REAL(writev)(file, parts, count), REAL(writev)(file, parts, count / 2));
+}
+
+int ftruncate(int file, off_t size) { CALL(file, REAL(ftruncate)(file, size), 0); }
+int ftruncate64(int file, off64_t size) { CALL(file, REAL(ftruncate64)(file, size), 0); }
+int fsync(int file) { CALL(file, brought(file, REAL(fsync)(file)), 0); }
+int fdatasync(int file) { CALL(file, brought(file, REAL(fdatasync)(file)), 0); }
+
+#define ON_CONNECTION(file, whole)                    \
+    do {                                              \
+        if (IS_ON_FILES) return whole;                \
+        CALL(file, whole, 0);                         \
+    } while (0)
+
+ssize_t read(int file, void *bytes, size_t size) { ON_CONNECTION(file, REAL(read)(file, bytes, size)); }
+ssize_t recv(int file, void *bytes, size_t size, int how) { ON_CONNECTION(file, REAL(recv)(file, bytes, size, how)); }
+ssize_t send(int file, const void *bytes, size_t size, int how) { ON_CONNECTION(file, REAL(send)(file, bytes, size, how)); }
+ssize_t readv(int file, const struct iovec *parts, int count) { ON_CONNECTION(file, REAL(readv)(file, parts, count)); }
+ssize_t recvmsg(int file, struct msghdr *message, int how) { ON_CONNECTION(file, REAL(recvmsg)(file, message, how)); }
+ssize_t sendmsg(int file, const struct msghdr *message, int how) { ON_CONNECTION(file, REAL(sendmsg)(file, message, how)); }
+
+static void count_anew(int signal) {
+    (void)signal;
+    char text[32] = {0};
+    int length = snprintf(text, sizeof text, "%ld", calls);
+    int file = open(said("FAIL_CALL_COUNT"), O_CREAT | O_WRONLY | O_TRUNC, 0600);
+    if (REAL(write)(file, text, length) != length) _Exit(3);
+    close(file);
+    memset(text, 0, sizeof text);
+    file = open(said("FAIL_CALL_NUMBER"), O_RDONLY);
+    if (file < 0 || REAL(read)(file, text, sizeof text - 1) < 0) _Exit(4);
+    close(file);
+    calls = 0;
+    wanted = atol(text);
+}
+
+__attribute__((constructor)) static void begin(void) {
+    if (getenv("FAIL_CALL_NUMBER")) signal(SIGUSR1, count_anew);
+}
