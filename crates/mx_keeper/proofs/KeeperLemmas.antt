@@ -1,5 +1,5 @@
 -- Why a keeper over SQLite refused a call.
-use Rattle.std.proofs.Common.{◌≡◌, ◌⊎◌, ◌≤◌, ℕ, List, Option, None, Some, IsSome, IsTrue, inl, inr, refl, ap, subst, sym, ◌∙◌, arith}
+use Rattle.std.proofs.Common.{◌≡◌, ◌⊎◌, ◌≤◌, ℕ, List, Option, Some, IsSome, IsTrue, inl, inr, refl, subst, sym, ◌∙◌, arith}
 use Rattle.std.proofs.lemmas.Bool.{cases_Bool}
 use Rattle.sqlite.specs.Order.{Row}
 use Rattle.sqlite.specs.Schema.{Schema}
@@ -11,7 +11,7 @@ use Rattle.mx_keeper.specs.Keeping.{Rose}
 use Rattle.mx_keeper.specs.Refusals.{MayRefuseCall, RefusesRow}
 
 -- what is refused after a call that failed may have been so before it
-refuses_after : (old mid new : State) → (IsTrue old.is_open → IsTrue mid.is_open ⊎ Rose old.faults mid.faults) → old.faults ≤ mid.faults → mid.faults ≤ new.faults → mid.step_limit ≡ old.step_limit → MayRefuse mid new → MayRefuse old new
+pub refuses_after : (old mid new : State) → (IsTrue old.is_open → IsTrue mid.is_open ⊎ Rose old.faults mid.faults) → old.faults ≤ mid.faults → mid.faults ≤ new.faults → mid.step_limit ≡ old.step_limit → MayRefuse mid new → MayRefuse old new
 refuses_after old mid new closes first later limit (inl shut) = elim (cases_Bool old.is_open) [
   | inl live ↦ elim (closes live) [ inl still ↦ absurd (let both = sym still ∙ shut in cc) | inr rose ↦ inr (inl (omega (arith, rose, later))) ]
   | inr closed ↦ inl closed

@@ -1,5 +1,5 @@
 -- Why SQLite refuses a statement, a row, or a call of a keeper (our own).
-use Rattle.std.specs.Prelude.{◌≡◌, ◌⊎◌, ◌≤◌, ◌-◌, ◌^◌, ℕ, List, Option, None, Some, Err}
+use Rattle.std.specs.Prelude.{◌⊎◌, ◌≤◌, ◌-◌, ◌^◌, ℕ, List, Option, None, Some, Err}
 use Rattle.sqlite.specs.Order.{Row}
 use Rattle.sqlite.specs.Schema.{Schema}
 use Rattle.sqlite.specs.State.{IsStatement, State, mode_of, text_of}

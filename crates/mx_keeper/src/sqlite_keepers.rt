@@ -4,6 +4,7 @@ ghost use Rattle.sqlite.specs.Held.{state};
 ghost use Rattle.sqlite.specs.State.{HasCleanDisk, Survives};
 ghost use Rattle.sqlite.specs.Tree.{Trees};
 ghost use Rattle.mx_keeper.specs.Connections.{Finds, HasRows, HasSchema, HasTable, IsIdle, MayRefuse};
+ghost use Rattle.mx_keeper.specs.Refusals.{IsRefused};
 ghost use Rattle.mx_keeper.specs.Schemas.{no_schema};
 ghost use Rattle.mx_keeper.specs.TableRows.{read_rows};
 
@@ -95,9 +96,9 @@ impl<S: Alter + Drop, R: TableRow> SqliteKeeper<S, R> {
         // The table is refused only where it is not to be found.
         ensures table { IfErr result (λ refused. HasCleanDisk (state S.Store refused.connection) → refused.fault ≡ KeeperFault.Table
             → (rows : List R) → ¬ Finds R.schema (read_rows R.shown) (state S.Store connection) rows) }
-        // Only a transaction, the making of the table, or what SQLite refuses of a query is told as `Store`.
+        // Only a transaction, or what SQLite refuses of the making of the table or of a query is told as `Store`.
         ensures store { IfErr result (λ refused. HasCleanDisk (state S.Store refused.connection) → refused.fault ≡ KeeperFault.Store → IsTrue (state S.Store connection).in_transaction
-            ⊎ (((state S.Store connection).now.schema ≡ no_schema) ⊎ MayRefuse (state S.Store connection) (state S.Store refused.connection))) }
+            ⊎ ((((state S.Store connection).now.schema ≡ no_schema) × IsRefused R.create_text [] (state S.Store connection)) ⊎ MayRefuse (state S.Store connection) (state S.Store refused.connection))) }
         ensures begun { IsTrue (state S.Store connection).in_transaction → IsErrAnd result (λ refused. refused.fault ≡ KeeperFault.Store) }
     {
         let mut connection = connection;
@@ -159,7 +160,7 @@ fn found_all<S: Alter, R: TableRow>(
     ensures table { HasCleanDisk (state S.Store connection.new) → result ≡ Err KeeperFault.Table → (rows : List R) → ¬ Finds R.schema (read_rows R.shown) (state S.Store connection.old) rows }
     ensures left { HasCleanDisk (state S.Store connection.new) → OnOk result ((db : Trees) → (state S.Store connection.new).may_leave db → HasSchema R.schema db) }
     ensures store { HasCleanDisk (state S.Store connection.new) → result ≡ Err KeeperFault.Store → IsTrue (state S.Store connection.old).in_transaction
-        ⊎ (((state S.Store connection.old).now.schema ≡ no_schema) ⊎ MayRefuse (state S.Store connection.old) (state S.Store connection.new)) }
+        ⊎ ((((state S.Store connection.old).now.schema ≡ no_schema) × IsRefused R.create_text [] (state S.Store connection.old)) ⊎ MayRefuse (state S.Store connection.old) (state S.Store connection.new)) }
     ensures begun { IsTrue (state S.Store connection.old).in_transaction → result ≡ Err KeeperFault.Store }
     ensures survives { Survives (state S.Store connection.old) (state S.Store connection.new) (λ db. HasSchema R.schema db × (db 0 ≡ [])) }
 {
@@ -180,7 +181,7 @@ fn found_rows<S: Alter, R: TableRow>(
     ensures table { HasCleanDisk (state S.Store connection.new) → result ≡ Err KeeperFault.Table → (rows : List R) → ¬ Finds R.schema (read_rows R.shown) (state S.Store connection.old) rows }
     ensures left { HasCleanDisk (state S.Store connection.new) → OnOk result ((db : Trees) → (state S.Store connection.new).may_leave db → HasSchema R.schema db) }
     ensures store { HasCleanDisk (state S.Store connection.new) → result ≡ Err KeeperFault.Store → IsTrue (state S.Store connection.old).in_transaction
-        ⊎ (((state S.Store connection.old).now.schema ≡ no_schema) ⊎ MayRefuse (state S.Store connection.old) (state S.Store connection.new)) }
+        ⊎ ((((state S.Store connection.old).now.schema ≡ no_schema) × IsRefused R.create_text [] (state S.Store connection.old)) ⊎ MayRefuse (state S.Store connection.old) (state S.Store connection.new)) }
     ensures begun { IsTrue (state S.Store connection.old).in_transaction → result ≡ Err KeeperFault.Store }
     ensures survives { Survives (state S.Store connection.old) (state S.Store connection.new) (λ db. HasSchema R.schema db × (db 0 ≡ [])) }
 {
@@ -196,7 +197,8 @@ fn ensure_table<S: Alter, R: TableRow>(connection: &mut Connection<S>) -> Result
     requires { IsTrue (state S.Store connection.old).is_open → IsIdle (state S.Store connection.old) }
     ensures ok { HasCleanDisk (state S.Store connection.new) → OnOk result (IsTrue (state S.Store connection.new).is_open → HasTable R.schema (state S.Store connection.old) (state S.Store connection.new)) }
     ensures table { result ≡ Err KeeperFault.Table → (¬ ((state S.Store connection.old).now.schema ≡ R.schema)) × (¬ ((state S.Store connection.old).now.schema ≡ no_schema)) }
-    ensures store { result ≡ Err KeeperFault.Store → (state S.Store connection.old).now.schema ≡ no_schema }
+    ensures store { HasCleanDisk (state S.Store connection.new) → result ≡ Err KeeperFault.Store
+        → (((state S.Store connection.old).now.schema ≡ no_schema) × IsRefused R.create_text [] (state S.Store connection.old)) ⊎ MayRefuse (state S.Store connection.old) (state S.Store connection.new) }
     ensures same { OnOk result (((state S.Store connection.old).now.schema ≡ no_schema) ⊎ (connection.new ≡ connection.old)) }
     ensures survives { Survives (state S.Store connection.old) (state S.Store connection.new) (λ db. HasSchema R.schema db × (db 0 ≡ [])) }
 {

@@ -1,7 +1,6 @@
-use Rattle.std.proofs.Common.{arith, [], ap, Err, subst}
-use Rattle.std.proofs.lemmas.Result.{err_from_is_err_and}
+use Rattle.std.proofs.Common.{arith}
 use Rattle.sqlite.specs.Held.{state}
-use Rattle.sqlite.specs.State.{HasCleanDisk, Executes}
+use Rattle.sqlite.specs.State.{HasCleanDisk}
 use Rattle.sqlite.proofs.StateLemmas.{survives_weaker}
 use Rattle.mx_keeper.proofs.ProbeLemmas.{probe_commits, probe_refused, probe_stays, probe_unchanged}
 use Rattle.mx_keeper.proofs.statements.find_open.Goals as goal
