@@ -3,16 +3,16 @@ ghost use Rattle.std.specs.Prelude.{◌≡◌, ◌≤◌, IfOk, length};
 
 use crate::directories::{ServerFiles, open_directory};
 use crate::errors::{ServerError, StartError};
+use crate::file_keepers::{RowFile, RowFiles};
 use crate::options::{SeatCount, ServeOptions};
 use crate::workers::{ServerEngine, Shared, Worker, workers_of};
 use mx_engine::{Engine, OpenGate};
 use mx_http::{Announcer, Limits, ServeError, ServerRuntime, serve_on};
 use mx_ident::ServerName;
-use mx_keeper::{BookRow, CallError, Keeper, MOST_PLACES, ShardRow, SqliteKeeper};
+use mx_keeper::{BookRow, CallError, Keeper, MOST_PLACES, ShardRow};
 use mx_pdu::PresenceVerifier;
 use mx_wire::{HostLineOutcome, LARGEST_BODY, WireServer, first_line, host_by_line, read_all};
 use mx_world::World;
-use sqlite::Alter;
 use std::alloc::{AllocError, AllocGlobal, Global};
 use std::fs;
 use std::io::{self, Write};
@@ -37,8 +37,13 @@ pub fn serve<R: ServerRuntime, W: Write, E: Write>(
     err: &mut E,
 ) -> Result<(), StartError> {
     let (files, rooms) = rows_and_rooms(host, &options)?;
-    let ServerFiles { shards, books } = files;
-    serve_rows(rt, shards, books, &rooms, options, out, err)
+    let ServerFiles {
+        shards,
+        books,
+        files,
+    } = files;
+    let rows = Rows { shards, books };
+    serve_rows(rt, rows, files, &rooms, options, out, err)
 }
 
 // The files of the server's directory, and the bytes of its file of rooms.
@@ -81,33 +86,42 @@ fn lines_of(host: &HostRuntime, path: &str) -> Result<Vec<u8>, StartError> {
     }
 }
 
+// The rows of a server.
+#[derive(Drop)]
+struct Rows<K: Drop, L: Drop> {
+    shards: Vec<K>,
+    books: Vec<L>,
+}
+
 // Serves over rows, once the rooms of these lines are hosted.
 //
-// Of which store the rows are does not matter here, and for one that is not known the proofs are found.
-fn serve_rows<S, R, W: Write, E: Write>(
+// What keeps the rows does not matter here, and for keepers that are not known the proofs are found.
+fn serve_rows<K, L, R, W: Write, E: Write>(
     rt: &R,
-    shards: Vec<SqliteKeeper<S, ShardRow>>,
-    books: Vec<SqliteKeeper<S, BookRow>>,
+    rows: Rows<K, L>,
+    files: Vec<Arc<RowFile>>,
     rooms: &[u8],
     options: ServeOptions,
     out: &mut W,
     err: &mut E,
 ) -> Result<(), StartError>
 where
-    S: Alter + Drop + Send,
+    K: Keeper<Row = ShardRow> + Send,
+    L: Keeper<Row = BookRow> + Send,
     R: ServerRuntime,
-    requires some_shard { 1 ≤ length shards.items }
-    requires few_shards { length shards.items ≤ MOST_PLACES }
-    requires some_book { 1 ≤ length books.items }
-    requires few_books { length books.items ≤ MOST_PLACES }
+    requires some_shard { 1 ≤ length rows.shards.items }
+    requires few_shards { length rows.shards.items ≤ MOST_PLACES }
+    requires some_book { 1 ≤ length rows.books.items }
+    requires few_books { length rows.books.items ≤ MOST_PLACES }
 {
     let alloc = rt.alloc();
+    let Rows { shards, books } = rows;
     let mut server = match World::reopen(alloc, shards, books) {
         Ok(server) => server,
         Err(error) => return Err(not_reopened(alloc, &options.data, error)),
     };
     host_rooms(alloc, &mut server, rooms, file_of_rooms(&options), err)?;
-    listen(rt, server, options, out, err)
+    listen(rt, server, files, options, out, err)
 }
 
 // Files whose rows are read, and are none that a server can have.
@@ -195,6 +209,7 @@ impl<'a, W: Write, E: Write> Announcer for Opening<'a, W, E> {
 fn listen<K, L, R, W: Write, E: Write>(
     rt: &R,
     server: World<K, L>,
+    files: Vec<Arc<RowFile>>,
     options: ServeOptions,
     out: &mut W,
     err: &mut E,
@@ -215,7 +230,11 @@ where
         stop_on_storage,
         ..
     } = options;
-    let workers = workers(rt, server, threads, name, stop_on_storage)?;
+    let files = RowFiles {
+        files,
+        stop_on_failure: stop_on_storage,
+    };
+    let workers = workers(rt, server, threads, name, files)?;
     let mut opening = Opening {
         out,
         err,
@@ -272,7 +291,7 @@ fn workers<K: Keeper<Row = ShardRow>, L: Keeper<Row = BookRow>, R: Wait + AllocG
     server: World<K, L>,
     threads: SeatCount,
     name: ServerName,
-    stop_on_storage: bool,
+    files: RowFiles,
 ) -> Result<Vec<Worker<K, L>>, StartError> {
     let alloc = rt.alloc();
     let wire_server = WireServer::new(alloc, name)?;
@@ -287,7 +306,7 @@ fn workers<K: Keeper<Row = ShardRow>, L: Keeper<Row = BookRow>, R: Wait + AllocG
         OpenGate,
         threads.count,
     )?;
-    let shared = shared_of(alloc, engine, wire_server, stop_on_storage)?;
+    let shared = shared_of(alloc, engine, wire_server, files)?;
     Ok(workers_of(alloc, &shared, seats)?)
 }
 
@@ -296,14 +315,14 @@ fn shared_of<K: Keeper<Row = ShardRow>, L: Keeper<Row = BookRow>>(
     alloc: Global,
     engine: ServerEngine<K, L>,
     server: WireServer,
-    stop_on_storage: bool,
+    files: RowFiles,
 ) -> Result<Arc<Shared<K, L>>, AllocError>
     ensures { IfOk result (λ shared. shared.value.engine ≡ engine) }
 {
     let shared = Shared {
         engine,
         server,
-        stop_on_storage,
+        files,
     };
     let shared = Arc::new(alloc, shared)?;
     Ok(shared)
