@@ -1,9 +1,8 @@
 -- What the statements on the kept replies do.
-use Rattle.std.proofs.Common.{◌≡◌, ℕ, ℤ, List, [], ◌∷◌, codes, Bool, true, false, cond, None, Ok, refl, ap, subst, ◌∙◌, Option}
+use Rattle.std.proofs.Common.{◌≡◌, ℕ, ℤ, List, [], ◌∷◌, Bool, true, false, cond, None, Ok, refl, ap, subst, ◌∙◌, Option}
 use Rattle.std.specs.Fmt.{digits}
 use Rattle.sqlite.specs.declared.types.Value.{Value}
-use Rattle.sqlite.specs.declared.types.Value.TheVariants.{Null, Int, Text}
-use Rattle.sqlite.specs.Order.{Row}
+use Rattle.sqlite.specs.declared.types.Value.TheVariants.{Null, Int}
 use Rattle.sqlite.specs.Term.{Term, lit, col}
 use Rattle.sqlite.specs.Source.TheVariants.{Values}
 use Rattle.sqlite.specs.Command.TheVariants.{Insert, CreateTable}
@@ -23,14 +22,9 @@ use Rattle.sqlite.specs.Effect.{Database}
 use Rattle.sqlite.specs.declared.run.Mode.{Mode}
 use Rattle.sqlite.proofs.Callers.{IsPlain, command_of, statement_of, one_step}
 use Rattle.mx_keeper.specs.Schemas.{no_schema}
-use Rattle.mx_keeper.specs.BookTable.{replies, replies_schema, stored_reply}
+use Rattle.mx_keeper.specs.BookTable.{create_text, given_row, insert_text, replies, replies_schema, stored_reply}
+use Rattle.mx_keeper.proofs.RefusalLemmas.{IsWhole}
 use Rattle.mx_keeper.proofs.TableLemmas.{IsCreated, IsInserted, insert, went, same_value}
-
-abbrev pub create_text : List ℕ
-create_text = codes "CREATE TABLE replies (place INTEGER PRIMARY KEY, origin TEXT NOT NULL, txn TEXT NOT NULL, reply TEXT NOT NULL, UNIQUE (origin, txn))"
-
-abbrev pub insert_text : List ℕ
-insert_text = codes "INSERT INTO replies (place, origin, txn, reply) VALUES (?1, ?2, ?3, ?4)"
 
 abbrev terms : List Term
 terms = col 0 0 ∷ lit Null ∷ col 0 1 ∷ col 0 2 ∷ col 0 3 ∷ []
@@ -51,6 +45,14 @@ insert_plain : IsPlain (understood replies_schema insert_text)
 unfolding understood everything
 insert_plain = (refl, refl)
 
+create_whole : IsWhole create_text 0 (understood no_schema create_text)
+unfolding understood everything
+create_whole = (refl, refl, refl)
+
+insert_whole : IsWhole insert_text 4 (understood replies_schema insert_text)
+unfolding understood everything
+insert_whole = (refl, refl, refl)
+
 either : (b : Bool) (x : Value) → cond b x x ≡ x
 either true x = refl
 either false x = refl
@@ -64,14 +66,11 @@ unfolding digits
 made_schema = refl
 
 pub created_replies : IsCreated create_text replies replies_schema
-created_replies = record { command = create_is.0; statement = create_is.1; defined = create_is.2; plain = create_plain; made = made_schema; calm = refl }
+created_replies = record { command = create_is.0; statement = create_is.1; defined = create_is.2; plain = create_plain; whole = create_whole; made = made_schema; calm = refl }
 
 cast_null : cast Integer Null ≡ Null
 unfolding unary
 cast_null = either _ Null
-
-abbrev pub given_row : ℤ → List ℕ → List ℕ → List ℕ → Row
-given_row place origin txn reply = Int place ∷ Text origin ∷ Text txn ∷ Text reply ∷ []
 
 module _ (place : ℤ) (origin txn reply : List ℕ) where
   -- what the INSERT makes of a database
@@ -91,4 +90,4 @@ module _ (place : ℤ) (origin txn reply : List ℕ) where
       (ap (λ (d : Database). d.schema) now, ap (λ (d : Database). d.trees 0) now ∙ ap (λ (t : Trees). t 0) trees ∙ rows ∙ edit)
 
   pub inserted_reply : IsInserted insert_text replies_schema terms (given_row place origin txn reply) (stored_reply place origin txn reply)
-  inserted_reply = record { command = insert_is; plain = insert_plain; does = does_add }
+  inserted_reply = record { command = insert_is; plain = insert_plain; whole = insert_whole; does = does_add }

@@ -6,7 +6,6 @@ use Rattle.std.proofs.lemmas.Bool.{cases_Bool, cases_lt}
 use Rattle.std.proofs.lemmas.List.{get_or_past}
 use Rattle.sqlite_value.specs.Order.{Row, column}
 use Rattle.std.proofs.lemmas.Str.{is_utf8-from_IsUtf8, IsUtf8-from_is_utf8}
-use Rattle.serde_json.specs.Read.{read}
 use Rattle.mx_ident.specs.Identifier.{room_id_error}
 use Rattle.mx_ident.specs.declared.refusals.NotAnId.{NotAnId}
 use Rattle.sqlite.specs.declared.types.Value.{Value}

@@ -6,6 +6,8 @@ pub mod ReadLemmas
 pub mod CellLemmas
 pub mod AnswerLemmas
 pub mod RefusalLemmas
+pub mod ProbeLemmas
+pub mod KeeperLemmas
 pub mod TableLemmas
 pub mod ShardTableLemmas
 pub mod ShardRowLemmas

@@ -33,7 +33,7 @@ pub select_plain : IsPlain (understood kept_schema select_text)
 unfolding understood everything
 select_plain = (refl, refl)
 
-select_whole : IsWhole select_text (understood kept_schema select_text)
+select_whole : IsWhole select_text 0 (understood kept_schema select_text)
 unfolding understood everything
 select_whole = (refl, refl, refl)
 
@@ -80,9 +80,9 @@ module _ (before old : State) (idle : IsTrue before.is_open → IsIdle before) (
 
   pub refuses_then : (new : State) (text : List ℕ) → text ≡ select_text → (e : Error) → before.faults ≤ old.faults → old.step_limit ≡ before.step_limit → e ≢ SqliteFailure code.OutOfMemory → FailsToQuery text [] old new e → MayRefuse before new
   refuses_then new text is e few limit other h =
-      let whole = subst (λ s. IsWhole select_text (understood s select_text)) (sym known_now) select_whole in
+      let whole = subst (λ s. IsWhole select_text 0 (understood s select_text)) (sym known_now) select_whole in
       refuses_later before old new same few limit
       (refuses_query old new select_text (λ _. whole) kept_schema known_now select_plain _ select_is.0 select_is.1 accepted e other (subst (λ t. FailsToQuery t [] old new e) is h))
 
 pub refuses_first : (old new : State) → (IsTrue old.is_open → old.now.schema ≡ kept_schema) → (e : Error) → e ≢ SqliteFailure code.OutOfMemory → IsNotRun old new select_text [] e → MayRefuse old new
-refuses_first old new has e other h = not_run old new select_text (λ live. subst (λ s. IsWhole select_text (understood s select_text)) (sym (has live)) select_whole) e other h
+refuses_first old new has e other h = not_run old new select_text [] (λ live. subst (λ s. IsWhole select_text 0 (understood s select_text)) (sym (has live)) select_whole) e other h

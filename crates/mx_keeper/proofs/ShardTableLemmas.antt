@@ -1,8 +1,7 @@
 -- What the statements on the kept rows do.
-use Rattle.std.proofs.Common.{◌≡◌, ℕ, ℤ, pos, List, [], ◌∷◌, codes, Bool, true, false, cond, None, Ok, refl, ap, subst, ◌∙◌, Option}
+use Rattle.std.proofs.Common.{◌≡◌, ℕ, ℤ, pos, List, [], ◌∷◌, Bool, true, false, cond, None, Ok, refl, ap, subst, ◌∙◌, Option}
 use Rattle.sqlite.specs.declared.types.Value.{Value}
-use Rattle.sqlite.specs.declared.types.Value.TheVariants.{Null, Int, Text}
-use Rattle.sqlite.specs.Order.{Row}
+use Rattle.sqlite.specs.declared.types.Value.TheVariants.{Null, Int}
 use Rattle.sqlite.specs.Term.{Term, lit, col}
 use Rattle.sqlite.specs.Source.TheVariants.{Values}
 use Rattle.sqlite.specs.Command.TheVariants.{Insert, CreateTable}
@@ -20,15 +19,10 @@ use Rattle.sqlite.specs.Tree.{Trees, put_row}
 use Rattle.sqlite.specs.Effect.{Database}
 use Rattle.sqlite.specs.declared.run.Mode.{Mode}
 use Rattle.sqlite.proofs.Callers.{IsPlain, command_of, statement_of, one_step}
-use Rattle.mx_keeper.specs.ShardTable.{kept, kept_schema, stored}
+use Rattle.mx_keeper.specs.ShardTable.{create_text, given_row, insert_text, kept, kept_schema, stored}
 use Rattle.mx_keeper.specs.Schemas.{no_schema}
+use Rattle.mx_keeper.proofs.RefusalLemmas.{IsWhole}
 use Rattle.mx_keeper.proofs.TableLemmas.{IsCreated, IsInserted, insert, went, same_value}
-
-abbrev pub create_text : List ℕ
-create_text = codes "CREATE TABLE kept (place INTEGER PRIMARY KEY, room TEXT NOT NULL, event TEXT NOT NULL, caller INTEGER NOT NULL)"
-
-abbrev pub insert_text : List ℕ
-insert_text = codes "INSERT INTO kept (place, room, event, caller) VALUES (?1, ?2, ?3, ?4)"
 
 abbrev terms : List Term
 terms = col 0 0 ∷ lit Null ∷ col 0 1 ∷ col 0 2 ∷ col 0 3 ∷ []
@@ -49,6 +43,14 @@ insert_plain : IsPlain (understood kept_schema insert_text)
 unfolding understood everything
 insert_plain = (refl, refl)
 
+create_whole : IsWhole create_text 0 (understood no_schema create_text)
+unfolding understood everything
+create_whole = (refl, refl, refl)
+
+insert_whole : IsWhole insert_text 4 (understood kept_schema insert_text)
+unfolding understood everything
+insert_whole = (refl, refl, refl)
+
 either : (b : Bool) (x : Value) → cond b x x ≡ x
 either true x = refl
 either false x = refl
@@ -58,14 +60,11 @@ unfolding unary
 cast_int n = either _ (Int n)
 
 pub created_kept : IsCreated create_text kept kept_schema
-created_kept = record { command = create_is.0; statement = create_is.1; defined = create_is.2; plain = create_plain; made = refl; calm = refl }
+created_kept = record { command = create_is.0; statement = create_is.1; defined = create_is.2; plain = create_plain; whole = create_whole; made = refl; calm = refl }
 
 cast_null : cast Integer Null ≡ Null
 unfolding unary
 cast_null = either _ Null
-
-abbrev pub given_row : ℤ → List ℕ → List ℕ → ℕ → Row
-given_row place room event caller = Int place ∷ Text room ∷ Text event ∷ Int (pos caller) ∷ []
 
 module _ (place : ℤ) (room event : List ℕ) (caller : ℕ) where
   -- what the INSERT makes of a database
@@ -85,4 +84,4 @@ module _ (place : ℤ) (room event : List ℕ) (caller : ℕ) where
       (ap (λ (d : Database). d.schema) now, ap (λ (d : Database). d.trees 0) now ∙ ap (λ (t : Trees). t 0) trees ∙ rows ∙ edit)
 
   pub inserted_kept : IsInserted insert_text kept_schema terms (given_row place room event caller) (stored place room event caller)
-  inserted_kept = record { command = insert_is; plain = insert_plain; does = does_add }
+  inserted_kept = record { command = insert_is; plain = insert_plain; whole = insert_whole; does = does_add }

@@ -1,5 +1,5 @@
 -- What the statements on a table of rows do, whatever its columns are.
-use Rattle.std.proofs.Common.{◌≡◌, ◌⊎◌, inl, inr, ℕ, List, [], false, None, Ok, Err, Result, OnOk, sym, ap, subst, subst₂, ◌∙◌, append-nil, Option, IsTrue}
+use Rattle.std.proofs.Common.{◌≡◌, ◌≢◌, ◌≤◌, ◌⊎◌, length, refl, inl, inr, ℕ, List, [], false, None, Ok, Err, Result, IfErr, OnOk, sym, ap, subst, subst₂, ◌∙◌, append-nil, Option, IsTrue}
 use Rattle.sqlite.specs.Order.{Row}
 use Rattle.sqlite.specs.Schema.{Schema}
 use Rattle.sqlite.specs.Table.{Table}
@@ -14,12 +14,15 @@ use Rattle.sqlite.specs.Does.{Tally, Does, lacks_sequence}
 use Rattle.sqlite.specs.Tree.{Trees, put_row}
 use Rattle.sqlite.specs.declared.error.Error.{Error}
 use Rattle.sqlite.specs.Effect.{Database}
-use Rattle.sqlite.specs.State.{State, mode_of, Writes, Executes, CommitsBy, MayCommit, text_of, IsUnchanged}
+use Rattle.sqlite.specs.State.{State, mode_of, shows_rows, IsMisplaced, IsNotRun, Writes, Executes, CommitsBy, MayCommit, text_of, IsUnchanged}
 use Rattle.sqlite.specs.declared.run.Mode.{Mode}
 use Rattle.sqlite.proofs.Callers.{IsPlain, command_of, statement_of, runs_as}
 use Rattle.mx_keeper.specs.Schemas.{no_schema}
 use Rattle.mx_keeper.proofs.StayLemmas.{idle_later, sound_at}
-use Rattle.mx_keeper.specs.Connections.{HasSchema, IsIdle, Puts}
+use Rattle.mx_keeper.specs.Connections.{HasSchema, IsIdle, MayRefuse, Puts}
+use Rattle.mx_keeper.specs.Refusals.{IsRefused}
+use Rattle.mx_keeper.proofs.RefusalLemmas.{IsWhole, memory, not_run, refuses_run, refuses_later, refused_later}
+use Rattle.sqlite_resolve.specs.declared.compiled.Compiled.{Compiled}
 
 pub went : {B E R : Type 0} {b : B} {Stops : E → Type 0} → ((stop : E) × Stops stop × (Ok b ≡ Err stop)) ⊎ R → R
 went (inl stopped) = absurd (let e = stopped.2 in cc)
@@ -30,12 +33,23 @@ same_value e = cc
 
 -- ---- a table is made
 
+create_placed : (s : State) (e : Error) → ¬ IsMisplaced s CreateTable e
+create_placed s e (inl (is, inl (same, begun))) = absurd (let bad = same in cc)
+create_placed s e (inl (is, inr (inl same, begun))) = absurd (let bad = same in cc)
+create_placed s e (inl (is, inr (inr same, begun))) = absurd (let bad = same in cc)
+create_placed s e (inr (is, name, inl same, named)) = absurd (let bad = same in cc)
+create_placed s e (inr (is, name, inr same, named)) = absurd (let bad = same in cc)
+
+create_hidden : (c : Compiled) → c.command ≡ CreateTable → c.returning ≡ None → shows_rows false c ≡ false
+create_hidden c is none = rw (is, none) refl
+
 -- the statement makes this table in an empty file, which then has this schema
 pub record IsCreated (create_text : List ℕ) (table : Table) (schema : Schema) : Type 0 where
   pub command : command_of (understood no_schema create_text) ≡ CreateTable
   pub statement : statement_of create_text (understood no_schema create_text) ≡ create_text
   pub defined : table_defined_by create_text ≡ Ok table
   pub plain : IsPlain (understood no_schema create_text)
+  pub whole : IsWhole create_text 0 (understood no_schema create_text)
   pub made : created no_schema table ≡ schema
   pub calm : lacks_sequence schema ≡ false
 
@@ -69,6 +83,10 @@ module _ {create_text : List ℕ} {table : Table} {schema : Schema} (is_made : I
         rows_are = ap (λ (d : Database). d.trees 0) committed ∙ made.1;
       }
 
+  -- why the connection does not prepare the CREATE TABLE
+  pub refuses_to_create : (old new : State) → (IsTrue old.is_open → old.now.schema ≡ no_schema) → (e : Error) → e ≢ memory → IsNotRun old new create_text [] e → MayRefuse old new
+  refuses_to_create old new has e other h = not_run old new create_text [] (λ live. subst (λ s. IsWhole create_text 0 (understood s create_text)) (sym (has live)) is_made.whole) e other h
+
   -- what the CREATE TABLE may commit
   commits_create : (old : State) (db : Trees) → old.now.schema ≡ no_schema → CommitsBy create_text [] old db → HasSchema schema db × (db 0 ≡ [])
   unfolding CommitsBy
@@ -96,6 +114,15 @@ module _ {create_text : List ℕ} {table : Table} {schema : Schema} (is_made : I
         let made = creates old new (Ok count) (idle_later before old idle same) (λ _. none_now) (subst (λ t. Executes t [] old new (Ok count)) is h) same.0.is_open in
         record { was_open = same.0.was_open; is_open = made.is_open; idle = made.idle; known = made.known; sound = made.sound; rows_are = made.rows_are }
 
+    pub refuses_made : (new : State) (r : Result ℕ Error) (text : List ℕ) → text ≡ create_text → before.faults ≤ old.faults → old.step_limit ≡ before.step_limit → Executes text [] old new r
+        → IfErr r (λ e. e ≢ memory → MayRefuse before new ⊎ IsRefused create_text [] before)
+    refuses_made new (Ok count) text is few limit h = tt
+    refuses_made new (Err e) text is few limit h = λ other.
+        elim (refuses_run old new create_text [] no_schema none_now is_made.plain is_made.whole CreateTable is_made.command create_placed create_hidden e other (subst (λ t. Executes t [] old new (Err e)) is h)) [
+          | inl may ↦ inl (refuses_later before old new same few limit may)
+          | inr refused ↦ inr (refused_later before old create_text [] same limit refused)
+        ]
+
     pub commits_made : (db : Trees) (text : List ℕ) → text ≡ create_text → CommitsBy text [] old db → HasSchema schema db × (db 0 ≡ [])
     commits_made db text is h = commits_create old db none_now (subst (λ t. CommitsBy t [] old db) is h)
 
@@ -104,14 +131,30 @@ module _ {create_text : List ℕ} {table : Table} {schema : Schema} (is_made : I
 abbrev pub insert : List Term → Command
 insert terms = Insert 0 (Values terms 5)
 
+insert_placed : (terms : List Term) (s : State) (e : Error) → ¬ IsMisplaced s (insert terms) e
+insert_placed terms s e (inl (is, inl (same, begun))) = absurd (let bad = same in cc)
+insert_placed terms s e (inl (is, inr (inl same, begun))) = absurd (let bad = same in cc)
+insert_placed terms s e (inl (is, inr (inr same, begun))) = absurd (let bad = same in cc)
+insert_placed terms s e (inr (is, name, inl same, named)) = absurd (let bad = same in cc)
+insert_placed terms s e (inr (is, name, inr same, named)) = absurd (let bad = same in cc)
+
+insert_hidden : (terms : List Term) (c : Compiled) → c.command ≡ insert terms → c.returning ≡ None → shows_rows false c ≡ false
+insert_hidden terms c is none = rw (is, none) refl
+
 -- the statement, given these values, puts this row of five cells into the table
 pub record IsInserted (insert_text : List ℕ) (schema : Schema) (terms : List Term) (given row : Row) : Type 0 where
   pub command : command_of (understood schema insert_text) ≡ insert terms
   pub plain : IsPlain (understood schema insert_text)
+  pub whole : IsWhole insert_text (length given) (understood schema insert_text)
   pub does : (limit : Option ℕ) (mode : Mode) (old after : Database) (tally : Tally) (text : List ℕ) → old.schema ≡ schema → Does limit mode given old text None (insert terms) (Ok (tally, after))
       → (after.schema ≡ schema) × (after.trees 0 ≡ put_row row (old.trees 0))
 
 module _ {insert_text : List ℕ} {schema : Schema} {terms : List Term} {given row : Row} (is_made : IsInserted insert_text schema terms given row) where
+  -- why the connection does not prepare the INSERT
+  pub refuses_to_add : (old new : State) → (IsTrue old.is_open → old.now.schema ≡ schema) → (e : Error) → e ≢ memory → IsNotRun old new insert_text given e → MayRefuse old new
+  refuses_to_add old new has e other h =
+      not_run old new insert_text given (λ live. subst (λ s. IsWhole insert_text (length given) (understood s insert_text)) (sym (has live)) is_made.whole) e other h
+
   -- what the INSERT may commit
   pub commits_add : (old : State) (db : Trees) → old.now.schema ≡ schema → CommitsBy insert_text given old db → HasSchema schema db × (db 0 ≡ put_row row (old.now.trees 0))
   unfolding CommitsBy
@@ -158,6 +201,15 @@ module _ {insert_text : List ℕ} {schema : Schema} {terms : List Term} {given r
         let now = idle_later before old idle same same.0.is_open in
         let made = inserts old new count now known_now (subst (λ t. Executes t given old new (Ok count)) is h) in
         record { was_open = same.0.was_open; is_open = made.is_open; idle = made.idle; known = made.known; sound = made.sound; rows_are = made.rows_are ∙ rows_then }
+
+    pub refuses_then : (new : State) (r : Result ℕ Error) (text : List ℕ) → text ≡ insert_text → before.faults ≤ old.faults → old.step_limit ≡ before.step_limit → Executes text given old new r
+        → IfErr r (λ e. e ≢ memory → MayRefuse before new ⊎ IsRefused insert_text given before)
+    refuses_then new (Ok count) text is few limit h = tt
+    refuses_then new (Err e) text is few limit h = λ other.
+        elim (refuses_run old new insert_text given schema known_now is_made.plain is_made.whole (insert terms) is_made.command (insert_placed terms) (insert_hidden terms) e other (subst (λ t. Executes t given old new (Err e)) is h)) [
+          | inl may ↦ inl (refuses_later before old new same few limit may)
+          | inr refused ↦ inr (refused_later before old insert_text given same limit refused)
+        ]
 
     pub commits_then : (db : Trees) (text : List ℕ) → text ≡ insert_text → CommitsBy text given old db → IsTrue before.is_open × HasSchema schema db × (db 0 ≡ put_row row (before.committed.trees 0))
     commits_then db text is h =

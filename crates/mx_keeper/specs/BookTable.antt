@@ -1,13 +1,15 @@
 -- The table of a book's replies, and what its rows read as (our own).
-use Rattle.std.specs.Prelude.{ℕ, ℤ, true, false, [], ◌∷◌, ◌==◌, if◌then◌else◌, codes, List, Option, None, option_and_then, option_map}
+use Rattle.std.specs.Prelude.{ℕ, ◌+◌, ℤ, pos, true, false, [], ◌∷◌, ◌==◌, if◌then◌else◌, codes, List, Option, None, option_and_then, option_map}
 use Rattle.sqlite.specs.declared.types.Value.TheVariants.{Null, Int, Text as Words}
 use Rattle.sqlite.specs.Kind.TheVariants.{Integer, Text}
 use Rattle.sqlite.specs.Order.{Row, column}
 use Rattle.sqlite.specs.Schema.{Schema}
+use Rattle.sqlite.specs.State.{State}
 use Rattle.sqlite.specs.Table.{Table}
 use Rattle.sqlite_schema.specs.declared.schema.Index.{Index}
 use Rattle.sqlite_value.specs.Keys.{plain}
 use Rattle.mx_keeper.specs.Cells.{number_in, text_in, server_of_text}
+use Rattle.mx_keeper.specs.Refusals.{IsRefused}
 use Rattle.mx_keeper.specs.Schemas.{plain_column, plain_table}
 use Rattle.mx_keeper.specs.TableRows.{read_rows}
 use Rattle.mx_keeper.specs.declared.rows.BookRow.{BookRow}
@@ -23,6 +25,20 @@ pairs = record { name = codes "sqlite_autoindex_replies_1"; tree = 1; table = 0;
 
 abbrev pub replies_schema : Schema
 replies_schema = record { tables = replies ∷ []; indexes = pairs ∷ []; views = [] }
+
+abbrev pub create_text : List ℕ
+create_text = codes "CREATE TABLE replies (place INTEGER PRIMARY KEY, origin TEXT NOT NULL, txn TEXT NOT NULL, reply TEXT NOT NULL, UNIQUE (origin, txn))"
+
+abbrev pub insert_text : List ℕ
+insert_text = codes "INSERT INTO replies (place, origin, txn, reply) VALUES (?1, ?2, ?3, ?4)"
+
+-- the values that the statement is given
+abbrev pub given_row : ℤ → List ℕ → List ℕ → List ℕ → Row
+given_row place origin txn reply = Int place ∷ Words origin ∷ Words txn ∷ Words reply ∷ []
+
+-- SQLite refuses the row behind so many
+abbrev pub RefusesReply : BookRow → ℕ → State → Type 0
+RefusesReply row count s = IsRefused insert_text (given_row (pos (count + 1)) row.origin row.txn row.reply) s
 
 -- the row as it is stored
 abbrev pub stored_reply : ℤ → List ℕ → List ℕ → List ℕ → Row

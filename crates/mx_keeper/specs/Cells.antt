@@ -1,7 +1,6 @@
 -- What the cells of a table read as (our own).
 use Rattle.std.specs.Prelude.{ℕ, pos, negsuc, ◌^◌, if◌then◌else◌, nat_lt, List, Option, Some, None, option_and_then}
 use Rattle.std.specs.Str.{is_utf8}
-use Rattle.serde_json.specs.Read.{read}
 use Rattle.mx_ident.specs.Identifier.{is_room_id, is_server_name}
 unfoldable pub use Rattle.mx_pdu.specs.EventTexts.{event_of_text}
 use Rattle.sqlite.specs.declared.types.Value.{Value}

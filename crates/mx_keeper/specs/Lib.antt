@@ -7,4 +7,6 @@ pub mod ShardTable
 pub mod BookTable
 pub mod Placed
 pub mod Connections
+pub mod Refusals
 pub mod SqliteKeepers
+pub mod FaultKeepers

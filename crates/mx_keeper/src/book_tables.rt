@@ -1,11 +1,12 @@
 // The table of a book.
-ghost use Rattle.std.specs.Prelude.{◌≡◌, ◌≢◌, IfErr, [], IfOk, None, Some, OnErr, OnOk, IsTrue};
+ghost use Rattle.std.specs.Prelude.{◌≡◌, ◌≢◌, ◌⊎◌, IfErr, [], IfOk, None, Some, OnErr, OnOk, IsTrue};
 ghost use Rattle.sqlite.specs.Held.{state};
 ghost use Rattle.sqlite.specs.State.{HasCleanDisk, IsUnchanged, Survives};
 ghost use Rattle.sqlite.specs.Tree.{put_row};
-ghost use Rattle.mx_keeper.specs.BookTable.{read_replies, replies_schema, reply_shown, stored_reply};
+ghost use Rattle.mx_keeper.specs.BookTable.{create_text, given_row, insert_text, read_replies, replies_schema, reply_shown, stored_reply};
 ghost use Rattle.mx_keeper.specs.Cells.{server_of_text};
 ghost use Rattle.mx_keeper.specs.Connections.{HasSchema, IsIdle, MayRefuse, Puts, Stays};
+ghost use Rattle.mx_keeper.specs.Refusals.{IsRefused};
 ghost use Rattle.mx_keeper.specs.Schemas.{no_schema};
 ghost use Rattle.mx_keeper.specs.TableRows.{read_from};
 
@@ -23,12 +24,16 @@ use sqlite_schema::schema::Schema;
 use std::alloc::Global;
 
 impl TableRow for BookRow {
-    ghost use Rattle.mx_keeper.specs.BookTable.{replies_schema, reply_shown};
+    ghost use Rattle.mx_keeper.specs.BookTable.{RefusesReply, create_text, replies_schema, reply_shown};
     ghost use Rattle.mx_keeper.specs.Placed.{replies_is_table, reply_placed};
 
     ghost schema = { replies_schema };
 
     ghost shown = { reply_shown };
+
+    ghost create_text = { create_text };
+
+    ghost refuses = { RefusesReply };
 
     fn is_known(found: &Schema) -> bool {
         has_replies(found)
@@ -101,6 +106,8 @@ fn create_replies<S: Alter>(connection: &mut Connection<S>) -> Result<usize, Err
     requires idle { IsTrue (state S.Store connection.old).is_open → IsIdle (state S.Store connection.old) }
     requires schema { IsTrue (state S.Store connection.old).is_open → (state S.Store connection.old).now.schema ≡ no_schema }
     ensures ok { HasCleanDisk (state S.Store connection.new) → OnOk result (Puts replies_schema [] (state S.Store connection.old) (state S.Store connection.new)) }
+    ensures refused { HasCleanDisk (state S.Store connection.new) → IfErr result (λ error. error ≢ Error.SqliteFailure ErrorCode.OutOfMemory
+        → MayRefuse (state S.Store connection.old) (state S.Store connection.new) ⊎ IsRefused create_text [] (state S.Store connection.old)) }
     ensures survives { Survives (state S.Store connection.old) (state S.Store connection.new) (λ db. HasSchema replies_schema db × (db 0 ≡ [])) }
 {
     let create = connection.prepare(
@@ -123,6 +130,8 @@ fn insert_reply<S: Alter>(
         (state S.Store connection.old) (state S.Store connection.new)) }
     ensures err { HasCleanDisk (state S.Store connection.new) → OnErr result (IsTrue (state S.Store connection.new).is_open
         → Stays (state S.Store connection.old) (state S.Store connection.new)) }
+    ensures refused { HasCleanDisk (state S.Store connection.new) → IfErr result (λ error. error ≢ Error.SqliteFailure ErrorCode.OutOfMemory
+        → MayRefuse (state S.Store connection.old) (state S.Store connection.new) ⊎ IsRefused insert_text (given_row place origin.now txn.now reply.now) (state S.Store connection.old)) }
     ensures survives { Survives (state S.Store connection.old) (state S.Store connection.new) (λ db. IsTrue (state S.Store connection.old).is_open
         × HasSchema replies_schema db × (db 0 ≡ put_row (stored_reply place origin.now txn.now reply.now) ((state S.Store connection.old).committed.trees 0))) }
 {

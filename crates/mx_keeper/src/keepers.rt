@@ -30,6 +30,16 @@ pub trait Keeper: Drop {
     /// How often what holds the rows has failed.
     ghost failed: { Self → ℕ };
 
+    /// How often it answered `Store` since no memory was left to find whether a call that had no memory has shut it.
+    ghost unsure: { Self → ℕ };
+
+    /// Its rows are read already, so that giving them asks for nothing but memory.
+    ghost is_ready: { Self → Type 0 };
+
+    /// Why what holds the rows may have refused a call between these two: to add this row, or, where none is named, to
+    /// give all rows.
+    ghost may_refuse: { Self → Option Self.Row → Self → Type 0 };
+
     /// Adds a row at the end.
     ///
     /// `Memory` where no memory is left: it stays open. `Store` where what holds the rows failed: then it may be shut,
@@ -49,7 +59,11 @@ pub trait Keeper: Drop {
         ensures told { result ≡ Err KeeperFault.Store → Rose (failed self.old) (failed self.new) }
         ensures calm { ¬ (result ≡ Err KeeperFault.Store) → failed self.new ≡ failed self.old }
         ensures counted { failed self.old ≤ failed self.new }
-        ensures no_table { ¬ (result ≡ Err KeeperFault.Table) };
+        ensures no_table { ¬ (result ≡ Err KeeperFault.Table) }
+
+        // What holds the rows may have refused the row, or it could not be found whether it is shut.
+        ensures refused { is_honest self.new → result ≡ Err KeeperFault.Store → may_refuse self.old (Some row.now) self.new ⊎ Rose (unsure self.old) (unsure self.new) }
+        ensures sure { ¬ (result ≡ Err KeeperFault.Store) → unsure self.new ≡ unsure self.old };
 
     /// All rows in the order in which they were added. It changes nothing that is kept.
     ///
@@ -66,7 +80,13 @@ pub trait Keeper: Drop {
         ensures crash { is_honest self.new → (left : Option (List Self.Row)) → may_leave self.new left → may_leave self.old left }
         ensures told { result ≡ Err KeeperFault.Store → Rose (failed self.old) (failed self.new) }
         ensures calm { ¬ (result ≡ Err KeeperFault.Store) → failed self.new ≡ failed self.old }
-        ensures counted { failed self.old ≤ failed self.new };
+        ensures counted { failed self.old ≤ failed self.new }
+        ensures refused { is_honest self.new → result ≡ Err KeeperFault.Store → may_refuse self.old None self.new ⊎ Rose (unsure self.old) (unsure self.new) }
+        ensures sure { ¬ (result ≡ Err KeeperFault.Store) → unsure self.new ≡ unsure self.old }
+
+        // A keeper that is ready refuses nothing but for memory, and stays honest.
+        ensures ready { is_ready self.old → (¬ (result ≡ Err KeeperFault.Store)) × (¬ (result ≡ Err KeeperFault.Table)) }
+        ensures ready_honest { is_ready self.old → is_honest self.old → is_honest self.new };
 
     /// How often what holds the rows has failed, but for memory. A count at 2^64-1 stays there, and counts as risen.
     fn failures(&self) -> u64

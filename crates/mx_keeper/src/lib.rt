@@ -5,6 +5,7 @@ mod book_tables;
 mod caller;
 mod cells;
 mod event_texts;
+mod fault_keepers;
 mod faults;
 mod keepers;
 mod memory;
@@ -21,6 +22,7 @@ mod table_rows;
 mod transaction_ids;
 
 pub use caller::Caller;
+pub use fault_keepers::FaultKeeper;
 pub use faults::KeeperFault;
 pub use keepers::Keeper;
 pub use memory::MemoryKeeper;

@@ -9,7 +9,8 @@ use std::marker::Model;
 
 /// Rows in memory, which are there as long as the keeper is.
 ///
-/// It is always open and honest, it never fails but for want of memory, and what is left of it is always its rows.
+/// It is always open, honest and ready, it never fails but for want of memory, and what is left of it is always its
+/// rows.
 #[derive(Debug, Drop)]
 pub struct MemoryKeeper<R: Storable> {
     alloc: Global,
@@ -50,6 +51,12 @@ impl<R: Storable> Keeper for MemoryKeeper<R> {
     ghost may_leave = { λ keeper left. left ≡ Some keeper };
 
     ghost failed = { λ _. 0 };
+
+    ghost unsure = { λ _. 0 };
+
+    ghost is_ready = { λ _. ⊤ };
+
+    ghost may_refuse = { λ _ _ _. ⊥ };
 
     fn append(&mut self, row: &R) -> Result<(), KeeperFault> {
         self.kept.push(row.copy()?)?;

@@ -1,13 +1,14 @@
 // The table of a shard.
-ghost use Rattle.std.specs.Prelude.{◌≡◌, ◌≢◌, IfErr, ◌+◌, ◌<◌, ◌^◌, [], FitsSigned, pos, IfOk, IfSome, None, Some, OnErr, OnOk, IsTrue, string_bytes};
+ghost use Rattle.std.specs.Prelude.{◌≡◌, ◌≢◌, ◌⊎◌, ◌≤◌, IfErr, ◌+◌, ◌-◌, ◌<◌, ◌^◌, [], FitsSigned, pos, IfOk, IfSome, None, Some, OnErr, OnOk, IsTrue, string_bytes};
 ghost use Rattle.std.specs.Int.{w64};
 ghost use Rattle.sqlite.specs.Held.{state};
 ghost use Rattle.sqlite.specs.State.{HasCleanDisk, IsUnchanged, Survives};
 ghost use Rattle.sqlite.specs.Tree.{put_row};
 ghost use Rattle.mx_keeper.specs.Cells.{event_of_text};
 ghost use Rattle.mx_keeper.specs.Connections.{HasSchema, IsIdle, MayRefuse, Puts, Stays};
+ghost use Rattle.mx_keeper.specs.Refusals.{IsRefused};
 ghost use Rattle.mx_keeper.specs.Schemas.{no_schema};
-ghost use Rattle.mx_keeper.specs.ShardTable.{kept_schema, read_shown, read_table, stored};
+ghost use Rattle.mx_keeper.specs.ShardTable.{create_text, given_row, insert_text, kept_schema, read_shown, read_table, stored};
 ghost use Rattle.mx_keeper.specs.TableRows.{read_from};
 
 use crate::cells::{caller_at, number_at, text_at};
@@ -22,12 +23,16 @@ use sqlite_schema::schema::Schema;
 use std::alloc::Global;
 
 impl TableRow for ShardRow {
-    ghost use Rattle.mx_keeper.specs.ShardTable.{kept_schema, read_shown};
+    ghost use Rattle.mx_keeper.specs.ShardTable.{RefusesKept, create_text, kept_schema, read_shown};
     ghost use Rattle.mx_keeper.specs.Placed.{kept_is_table, row_placed};
 
     ghost schema = { kept_schema };
 
     ghost shown = { read_shown };
+
+    ghost create_text = { create_text };
+
+    ghost refuses = { RefusesKept };
 
     fn is_known(found: &Schema) -> bool {
         has_kept(found)
@@ -103,6 +108,7 @@ fn cells_of(row: &ShardRow, count: u64) -> Result<Cells<'_>, KeeperFault>
     ensures caller { IfOk result (λ cells. (cells.caller ≡ row.now.caller) × (cells.caller < 2 ^ 32)) }
     ensures fits { IfOk result (λ cells. FitsSigned w64 cells.place) }
     ensures no_table { ¬ (result ≡ Err KeeperFault.Table) }
+    ensures store { result ≡ Err KeeperFault.Store → 2 ^ 63 - 1 ≤ count }
 {
     let Some(place) = place_after(count) else {
         return Err(KeeperFault::Store);
@@ -121,6 +127,8 @@ fn create_kept<S: Alter>(connection: &mut Connection<S>) -> Result<usize, Error>
     requires idle { IsTrue (state S.Store connection.old).is_open → IsIdle (state S.Store connection.old) }
     requires schema { IsTrue (state S.Store connection.old).is_open → (state S.Store connection.old).now.schema ≡ no_schema }
     ensures ok { HasCleanDisk (state S.Store connection.new) → OnOk result (Puts kept_schema [] (state S.Store connection.old) (state S.Store connection.new)) }
+    ensures refused { HasCleanDisk (state S.Store connection.new) → IfErr result (λ error. error ≢ Error.SqliteFailure ErrorCode.OutOfMemory
+        → MayRefuse (state S.Store connection.old) (state S.Store connection.new) ⊎ IsRefused create_text [] (state S.Store connection.old)) }
     ensures survives { Survives (state S.Store connection.old) (state S.Store connection.new) (λ db. HasSchema kept_schema db × (db 0 ≡ [])) }
 {
     let create = connection.prepare(
@@ -143,6 +151,8 @@ fn insert_kept<S: Alter>(
         (state S.Store connection.old) (state S.Store connection.new)) }
     ensures err { HasCleanDisk (state S.Store connection.new) → OnErr result (IsTrue (state S.Store connection.new).is_open
         → Stays (state S.Store connection.old) (state S.Store connection.new)) }
+    ensures refused { HasCleanDisk (state S.Store connection.new) → IfErr result (λ error. error ≢ Error.SqliteFailure ErrorCode.OutOfMemory
+        → MayRefuse (state S.Store connection.old) (state S.Store connection.new) ⊎ IsRefused insert_text (given_row place room.now event.now caller) (state S.Store connection.old)) }
     ensures survives { Survives (state S.Store connection.old) (state S.Store connection.new) (λ db. IsTrue (state S.Store connection.old).is_open
         × HasSchema kept_schema db × (db 0 ≡ put_row (stored place room.now event.now caller) ((state S.Store connection.old).committed.trees 0))) }
 {

@@ -4,15 +4,16 @@ ghost use Rattle.sqlite.specs.Held.{state};
 ghost use Rattle.sqlite.specs.State.{HasCleanDisk, Survives};
 ghost use Rattle.sqlite.specs.Tree.{Trees};
 ghost use Rattle.mx_keeper.specs.Connections.{Finds, HasRows, HasSchema, HasTable, IsIdle, MayRefuse};
+ghost use Rattle.mx_keeper.specs.Refusals.{IsRefused};
 ghost use Rattle.mx_keeper.specs.Schemas.{no_schema};
 ghost use Rattle.mx_keeper.specs.TableRows.{read_rows};
 
 use crate::faults::KeeperFault;
 use crate::keepers::Keeper;
 use crate::schemas::has_nothing;
-use crate::statements::{counted, told};
+use crate::statements::{Doubts, counted, idle_statement, told};
 use crate::table_rows::{TableRow, all_rows};
-use sqlite::{Alter, Connection};
+use sqlite::{Alter, Connection, Statement};
 use std::alloc::Global;
 use std::marker::Model;
 
@@ -24,15 +25,18 @@ use std::marker::Model;
 pub struct SqliteKeeper<S: Alter + Drop, R: TableRow> {
     alloc: Global,
     connection: Connection<S>,
+    // What finds whether the connection is open.
+    probe: Statement,
     // How many rows the table has.
     count: u64,
     failures: u64,
+    unsure: Doubts,
     // The rows that were read when the connection was adopted, until they are asked for, or one is added.
     found: Option<Vec<R>>,
 }
 
 impl<S: Alter + Drop, R: TableRow> Model for SqliteKeeper<S, R> {
-    ghost use Rattle.std.specs.Prelude.{◌≡◌, IfSome, IsTrue, Some};
+    ghost use Rattle.std.specs.Prelude.{◌≡◌, [], IfSome, IsTrue, Some, is_some};
     ghost use Rattle.sqlite.specs.Held.{state};
     ghost use Rattle.sqlite.specs.State.{HasCleanDisk};
     ghost use Rattle.sqlite.specs.Tree.{Trees};
@@ -44,13 +48,14 @@ impl<S: Alter + Drop, R: TableRow> Model for SqliteKeeper<S, R> {
 
     ghost coded = { keeper_code S.code };
 
-    ghost view = { λ keeper. record { connection = keeper.connection; failures = keeper.failures } };
+    ghost view = { λ keeper. record { connection = keeper.connection; failures = keeper.failures; unsure = keeper.unsure; is_ready = is_some keeper.found } };
 
     ghost invariant = { λ keeper. record {
       kept : IsTrue (state S.Store keeper.connection).is_open → HasRows R.schema (read_rows R.shown) keeper.count (state S.Store keeper.connection);
       found : IfSome keeper.found (λ rows. HasCleanDisk (state S.Store keeper.connection)
           → IsTrue (state S.Store keeper.connection).is_open × (read_rows R.shown ((state S.Store keeper.connection).committed.trees 0) ≡ Some rows.items));
       left : HasCleanDisk (state S.Store keeper.connection) → (db : Trees) → (state S.Store keeper.connection).may_leave db → HasSchema R.schema db;
+      probe : HasCleanDisk (state S.Store keeper.connection) → keeper.probe.text ≡ [];
     } };
 }
 
@@ -77,6 +82,7 @@ impl<S: Alter + Drop, R: TableRow> SqliteKeeper<S, R> {
         ensures rows { IfOk result (λ keeper. HasCleanDisk (state S.Store keeper.connection) → (rows : List R)
             × (read_rows R.shown ((state S.Store keeper.connection).committed.trees 0) ≡ Some rows) × Finds R.schema (read_rows R.shown) (state S.Store connection) rows) }
         ensures none_failed { IfOk result (λ keeper. keeper.failures ≡ 0) }
+        ensures ready { IfOk result (λ keeper. IsTrue keeper.is_ready) }
 
         // A crash leaves what it might have left before, or the empty table.
         ensures crash { IfOk result (λ keeper. HasCleanDisk (state S.Store keeper.connection) → (db : Trees)
@@ -88,18 +94,20 @@ impl<S: Alter + Drop, R: TableRow> SqliteKeeper<S, R> {
         // The table is refused only where it is not to be found.
         ensures table { IfErr result (λ refused. HasCleanDisk (state S.Store refused.connection) → refused.fault ≡ KeeperFault.Table
             → (rows : List R) → ¬ Finds R.schema (read_rows R.shown) (state S.Store connection) rows) }
-        // Only a transaction, the making of the table, or what SQLite refuses of a query is told as `Store`.
+        // Only a transaction, or what SQLite refuses of the making of the table or of a query is told as `Store`.
         ensures store { IfErr result (λ refused. HasCleanDisk (state S.Store refused.connection) → refused.fault ≡ KeeperFault.Store → IsTrue (state S.Store connection).in_transaction
-            ⊎ (((state S.Store connection).now.schema ≡ no_schema) ⊎ MayRefuse (state S.Store connection) (state S.Store refused.connection))) }
+            ⊎ ((((state S.Store connection).now.schema ≡ no_schema) × IsRefused R.create_text [] (state S.Store connection)) ⊎ MayRefuse (state S.Store connection) (state S.Store refused.connection))) }
         ensures begun { IsTrue (state S.Store connection).in_transaction → IsErrAnd result (λ refused. refused.fault ≡ KeeperFault.Store) }
     {
         let mut connection = connection;
-        match found_rows::<S, R>(alloc, &mut connection) {
-            Ok(rows) => Ok(SqliteKeeper {
+        match found_all::<S, R>(alloc, &mut connection) {
+            Ok((rows, probe)) => Ok(SqliteKeeper {
                 alloc,
                 connection,
+                probe,
                 count: rows.len() as u64,
                 failures: 0,
+                unsure: Doubts::none(),
                 found: Some(rows),
             }),
             Err(fault) => Err(NotAdopted { fault, connection }),
@@ -120,12 +128,36 @@ impl<S: Alter + Drop, R: TableRow> SqliteKeeper<S, R> {
         let SqliteKeeper {
             alloc: _,
             connection,
+            probe: _,
             count: _,
             failures: _,
+            unsure: _,
             found: _,
         } = self;
         connection
     }
+}
+
+// The rows of the table, which is made where the file has nothing, and what finds whether the connection is open.
+fn found_all<S: Alter, R: TableRow>(
+    alloc: Global,
+    connection: &mut Connection<S>,
+) -> Result<(Vec<R>, Statement), KeeperFault>
+    ensures open { HasCleanDisk (state S.Store connection.new) → OnOk result (IsTrue (state S.Store connection.new).is_open) }
+    ensures kept { HasCleanDisk (state S.Store connection.new) → IfOk result (λ it. HasRows R.schema (read_rows R.shown) (length it.0.items) (state S.Store connection.new)) }
+    ensures reads { HasCleanDisk (state S.Store connection.new) → IfOk result (λ it. read_rows R.shown ((state S.Store connection.new).committed.trees 0) ≡ Some it.0.items) }
+    ensures found { HasCleanDisk (state S.Store connection.new) → IfOk result (λ it. Finds R.schema (read_rows R.shown) (state S.Store connection.old) it.0.items) }
+    ensures probe { HasCleanDisk (state S.Store connection.new) → IfOk result (λ it. it.1.text ≡ []) }
+    ensures table { HasCleanDisk (state S.Store connection.new) → result ≡ Err KeeperFault.Table → (rows : List R) → ¬ Finds R.schema (read_rows R.shown) (state S.Store connection.old) rows }
+    ensures left { HasCleanDisk (state S.Store connection.new) → OnOk result ((db : Trees) → (state S.Store connection.new).may_leave db → HasSchema R.schema db) }
+    ensures store { HasCleanDisk (state S.Store connection.new) → result ≡ Err KeeperFault.Store → IsTrue (state S.Store connection.old).in_transaction
+        ⊎ ((((state S.Store connection.old).now.schema ≡ no_schema) × IsRefused R.create_text [] (state S.Store connection.old)) ⊎ MayRefuse (state S.Store connection.old) (state S.Store connection.new)) }
+    ensures begun { IsTrue (state S.Store connection.old).in_transaction → result ≡ Err KeeperFault.Store }
+    ensures survives { Survives (state S.Store connection.old) (state S.Store connection.new) (λ db. HasSchema R.schema db × (db 0 ≡ [])) }
+{
+    let rows = found_rows::<S, R>(alloc, connection)?;
+    let probe = idle_statement(connection)?;
+    Ok((rows, probe))
 }
 
 // The rows of the table, which is made where the file has nothing.
@@ -140,7 +172,7 @@ fn found_rows<S: Alter, R: TableRow>(
     ensures table { HasCleanDisk (state S.Store connection.new) → result ≡ Err KeeperFault.Table → (rows : List R) → ¬ Finds R.schema (read_rows R.shown) (state S.Store connection.old) rows }
     ensures left { HasCleanDisk (state S.Store connection.new) → OnOk result ((db : Trees) → (state S.Store connection.new).may_leave db → HasSchema R.schema db) }
     ensures store { HasCleanDisk (state S.Store connection.new) → result ≡ Err KeeperFault.Store → IsTrue (state S.Store connection.old).in_transaction
-        ⊎ (((state S.Store connection.old).now.schema ≡ no_schema) ⊎ MayRefuse (state S.Store connection.old) (state S.Store connection.new)) }
+        ⊎ ((((state S.Store connection.old).now.schema ≡ no_schema) × IsRefused R.create_text [] (state S.Store connection.old)) ⊎ MayRefuse (state S.Store connection.old) (state S.Store connection.new)) }
     ensures begun { IsTrue (state S.Store connection.old).in_transaction → result ≡ Err KeeperFault.Store }
     ensures survives { Survives (state S.Store connection.old) (state S.Store connection.new) (λ db. HasSchema R.schema db × (db 0 ≡ [])) }
 {
@@ -156,7 +188,8 @@ fn ensure_table<S: Alter, R: TableRow>(connection: &mut Connection<S>) -> Result
     requires { IsTrue (state S.Store connection.old).is_open → IsIdle (state S.Store connection.old) }
     ensures ok { HasCleanDisk (state S.Store connection.new) → OnOk result (IsTrue (state S.Store connection.new).is_open → HasTable R.schema (state S.Store connection.old) (state S.Store connection.new)) }
     ensures table { result ≡ Err KeeperFault.Table → (¬ ((state S.Store connection.old).now.schema ≡ R.schema)) × (¬ ((state S.Store connection.old).now.schema ≡ no_schema)) }
-    ensures store { result ≡ Err KeeperFault.Store → (state S.Store connection.old).now.schema ≡ no_schema }
+    ensures store { HasCleanDisk (state S.Store connection.new) → result ≡ Err KeeperFault.Store
+        → (((state S.Store connection.old).now.schema ≡ no_schema) × IsRefused R.create_text [] (state S.Store connection.old)) ⊎ MayRefuse (state S.Store connection.old) (state S.Store connection.new) }
     ensures same { OnOk result (((state S.Store connection.old).now.schema ≡ no_schema) ⊎ (connection.new ≡ connection.old)) }
     ensures survives { Survives (state S.Store connection.old) (state S.Store connection.new) (λ db. HasSchema R.schema db × (db 0 ≡ [])) }
 {
@@ -175,6 +208,7 @@ impl<S: Alter + Drop, R: TableRow> Keeper for SqliteKeeper<S, R> {
     ghost use Rattle.sqlite.specs.Held.{state};
     ghost use Rattle.sqlite.specs.State.{HasCleanDisk};
     ghost use Rattle.sqlite.specs.Tree.{Trees};
+    ghost use Rattle.mx_keeper.specs.Refusals.{MayRefuseCall};
     ghost use Rattle.mx_keeper.specs.TableRows.{read_rows};
 
     type Row = R;
@@ -189,6 +223,12 @@ impl<S: Alter + Drop, R: TableRow> Keeper for SqliteKeeper<S, R> {
 
     ghost failed = { λ keeper. keeper.failures };
 
+    ghost unsure = { λ keeper. keeper.unsure };
+
+    ghost is_ready = { λ keeper. IsTrue keeper.is_ready };
+
+    ghost may_refuse = { λ old row new. MayRefuseCall R.schema (read_rows R.shown) R.refuses row (state S.Store old.connection) (state S.Store new.connection) };
+
     fn append(&mut self, row: &R) -> Result<(), KeeperFault> {
         self.found = None;
         match row.insert(self.alloc, &mut self.connection, self.count) {
@@ -197,7 +237,7 @@ impl<S: Alter + Drop, R: TableRow> Keeper for SqliteKeeper<S, R> {
                 Ok(())
             }
             Err(fault) => {
-                let fault = told(&mut self.connection, fault);
+                let fault = told(&mut self.connection, &self.probe, &mut self.unsure, fault);
                 self.failures = counted(self.failures, fault);
                 Err(fault)
             }
@@ -211,7 +251,7 @@ impl<S: Alter + Drop, R: TableRow> Keeper for SqliteKeeper<S, R> {
         match all_rows(self.alloc, &mut self.connection) {
             Ok(all) => Ok(all),
             Err(fault) => {
-                let fault = told(&mut self.connection, fault);
+                let fault = told(&mut self.connection, &self.probe, &mut self.unsure, fault);
                 self.failures = counted(self.failures, fault);
                 Err(fault)
             }

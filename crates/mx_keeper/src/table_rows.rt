@@ -1,13 +1,14 @@
 // Rows that have a table.
-ghost use Rattle.std.specs.Prelude.{◌≡◌, ◌≢◌, ◌↔◌, IfErr, ◌+◌, ◌<◌, ◌^◌, ℕ, pos, OnOk, OnErr, IfOk, IsTrue, List, [], Option, None, Some};
+ghost use Rattle.std.specs.Prelude.{◌≡◌, ◌≢◌, ◌↔◌, ◌⊎◌, IfErr, ◌+◌, ◌<◌, ◌^◌, ℕ, pos, OnOk, OnErr, IfOk, IsTrue, List, [], Option, None, Some};
 ghost use Rattle.sqlite.specs.declared.types.Value.TheVariants.{Int};
 ghost use Rattle.sqlite.specs.Held.{state};
 ghost use Rattle.sqlite.specs.Order.{Row as Cells};
 ghost use Rattle.sqlite.specs.Schema.{Schema as TheSchema};
-ghost use Rattle.sqlite.specs.State.{HasCleanDisk, IsUnchanged, Survives};
+ghost use Rattle.sqlite.specs.State.{HasCleanDisk, IsUnchanged, State, Survives};
 ghost use Rattle.sqlite_trees.specs.Tree.{rowid};
 ghost use Rattle.mx_keeper.specs.Connections.{HasRows, HasSchema, IsIdle, MayRefuse, Puts, Stays};
 ghost use Rattle.mx_keeper.specs.Keeping.{with_row};
+ghost use Rattle.mx_keeper.specs.Refusals.{IsRefused, RefusesRow};
 ghost use Rattle.mx_keeper.specs.Schemas.{no_schema};
 ghost use Rattle.mx_keeper.specs.TableRows.{read_from, read_rows};
 
@@ -28,6 +29,12 @@ pub trait TableRow: Storable {
     /// What a row that a query shows reads as at a place; none where it does not read.
     ghost shown: { ℕ → Cells → Option Self };
 
+    /// The statement that makes the table.
+    ghost create_text: { List ℕ };
+
+    /// SQLite refuses the row behind so many, by what the statement that adds it means in this state.
+    ghost refuses: { Self → ℕ → State → Type 0 };
+
     /// Whether the table is known: the schema is that of the file.
     fn is_known(found: &Schema) -> bool
         ensures { IsTrue result ↔ (found.now ≡ schema) };
@@ -39,6 +46,8 @@ pub trait TableRow: Storable {
         requires empty { IsTrue (state S.Store connection.old).is_open → (state S.Store connection.old).now.schema ≡ no_schema }
         ensures ok { HasCleanDisk (state S.Store connection.new) → OnOk result (Puts schema [] (state S.Store connection.old) (state S.Store connection.new)) }
         ensures no_table { ¬ (result ≡ Err KeeperFault.Table) }
+        ensures refused { HasCleanDisk (state S.Store connection.new) → result ≡ Err KeeperFault.Store
+            → MayRefuse (state S.Store connection.old) (state S.Store connection.new) ⊎ IsRefused create_text [] (state S.Store connection.old) }
         ensures survives { Survives (state S.Store connection.old) (state S.Store connection.new) (λ db. HasSchema schema db × (db 0 ≡ [])) };
 
     /// Adds the row behind so many. After an error the connection may be shut, and a crash may leave the row.
@@ -57,6 +66,8 @@ pub trait TableRow: Storable {
         ensures err { HasCleanDisk (state S.Store connection.new) → OnErr result (IsTrue (state S.Store connection.new).is_open
             → Stays (state S.Store connection.old) (state S.Store connection.new)) }
         ensures no_table { ¬ (result ≡ Err KeeperFault.Table) }
+        ensures refused { HasCleanDisk (state S.Store connection.new) → result ≡ Err KeeperFault.Store
+            → MayRefuse (state S.Store connection.old) (state S.Store connection.new) ⊎ RefusesRow (refuses self.now) count (state S.Store connection.old) }
         ensures survives { Survives (state S.Store connection.old) (state S.Store connection.new)
             (λ db. HasSchema schema db × (read_rows shown (db 0) ≡ with_row (read_rows shown ((state S.Store connection.old).committed.trees 0)) self.now)) };
 

@@ -87,6 +87,12 @@ impl Keeper for FailingKeeper {
 
     ghost failed = { λ keeper. keeper.failures };
 
+    ghost unsure = { λ _. 0 };
+
+    ghost is_ready = { λ _. ⊥ };
+
+    ghost may_refuse = { λ _ _ _. ⊤ };
+
     fn append(&mut self, _row: &ShardRow) -> Result<(), KeeperFault> {
         if self.left == 0 {
             self.failures = self.failures.saturating_add(1);

@@ -1,4 +1,4 @@
-use Rattle.std.proofs.Common.{to_z-of_z, w64}
+use Rattle.std.proofs.Common.{to_z-of_z, w64, inl, inr}
 use Rattle.std.proofs.lemmas.Str.{is_utf8-from_IsUtf8}
 use Rattle.sqlite.proofs.StateLemmas.{survives_weaker}
 use Rattle.mx_keeper.proofs.ShardRowLemmas.{kept_with, puts_one}
@@ -33,3 +33,14 @@ returns-in-Err-insert_kept-clause-survives g c =
       puts_one _ _ (c.requires put.0) c.args.self.now _ utf8 c.as_str.ensures.room_id c.in-Ok.ensures.event _ _ c.in-Ok.ensures.place.0 c.in-Ok.ensures.caller (db 0)
           (rw (c.as_str.ensures.text, to_z-of_z {w = w64} {z = c.in-Ok.cells.place} c.in-Ok.ensures.fits) at put.2),
     )) c.insert_kept.ensures.survives
+
+pub returns-in-Err-insert_kept-clause-refused : goal.returns-in-Err-insert_kept-clause-refused
+returns-in-Err-insert_kept-clause-refused g c clean is =
+    elim (c.in-Err-insert_kept.ensures.refused clean (λ short. let told = c.fault_of.ensures.memory.1 short in absurd cc)) [
+      | inl may ↦ inl may
+      | inr refused ↦ inr (inr (
+        c.in-Ok.cells.event.now,
+        c.in-Ok.ensures.event,
+        rw (c.as_str.ensures.text, to_z-of_z {w = w64} {z = c.in-Ok.cells.place} c.in-Ok.ensures.fits, c.in-Ok.ensures.place.0, c.in-Ok.ensures.caller.0) at refused,
+      ))
+    ]

@@ -1,6 +1,10 @@
-use Rattle.std.proofs.Common.{arith, inl, inr}
+use Rattle.std.proofs.Common.{◌⊎◌, arith, inl, inr, ap, subst, Err}
 use Rattle.sqlite.specs.Held.{state}
 use Rattle.sqlite.specs.State.{HasCleanDisk}
+use Rattle.mx_keeper.specs.Connections.{MayRefuse}
+use Rattle.mx_keeper.specs.Keeping.{Rose}
+use Rattle.mx_keeper.specs.SqliteKeepers.{KeeperView}
+use Rattle.mx_keeper.proofs.KeeperLemmas.{refused_rows}
 use Rattle.mx_keeper.proofs.StayLemmas.{clean_if_open, kept_stays, idle_after}
 use Rattle.mx_keeper.proofs.sqlite_keepers.SqliteKeeperKeeper.rows.Goals as goal
 
@@ -10,10 +14,14 @@ invariant_of-self-in-Ok g c = record {
   found = rw c.take.ensures.after tt;
   left = λ clean db may. let before : HasCleanDisk (state g.S.Store c.self.inside.connection) = omega (arith, c.all_rows.ensures.survives.clean) in
       elim (c.all_rows.ensures.survives.crash clean db may) [ inl was ↦ c.self.invariant.left before db was | inr none ↦ absurd none ];
+  probe = λ clean. c.self.invariant.probe (let before : HasCleanDisk (state g.S.Store c.self.inside.connection) = omega (arith, c.all_rows.ensures.survives.clean) in before);
 }
 
 pub told-fault-requires : goal.told-fault-requires
-told-fault-requires g c = record { idle = λ live. idle_after _ _ (c.in-Err.ensures.stays (clean_if_open _ _ (g.met.S.Store.shut_if_dirty c.all_rows.new.connection.store) live) live) }
+told-fault-requires g c = record {
+  idle = λ live. idle_after _ _ (c.in-Err.ensures.stays (clean_if_open _ _ (g.met.S.Store.shut_if_dirty c.all_rows.new.connection.store) live) live);
+  probe = λ clean. c.self.invariant.probe (let before : HasCleanDisk (state g.S.Store c.self.inside.connection) = omega (arith, c.all_rows.ensures.survives.clean) in before);
+}
 
 pub invariant_of-self-in-Err : goal.invariant_of-self-in-Err
 invariant_of-self-in-Err g c = record {
@@ -31,4 +39,16 @@ invariant_of-self-in-Err g c = record {
         | inl later ↦ elim (c.all_rows.ensures.survives.crash middle db later) [ inl was ↦ c.self.invariant.left before db was | inr none ↦ absurd none ]
         | inr none ↦ absurd none
       ];
+  probe = λ clean.
+      let middle : HasCleanDisk (state g.S.Store c.all_rows.new.connection) = omega (arith, c.told-fault.ensures.survives.clean) in
+      c.self.invariant.probe (let before : HasCleanDisk (state g.S.Store c.self.inside.connection) = omega (arith, c.all_rows.ensures.survives.clean) in before);
 }
+
+pub returns-in-Err-clause-refused : goal.returns-in-Err-clause-refused
+returns-in-Err-clause-refused g c clean is =
+    let middle : HasCleanDisk (state g.S.Store c.all_rows.new.connection) = omega (arith, c.told-fault.ensures.survives.clean) in
+    let first = c.all_rows.ensures.survives in
+    subst (λ (v : KeeperView _). MayRefuse (state g.S.Store v.connection) (state g.S.Store c.told-fault.new.connection) ⊎ Rose v.unsure c.told-fault.new.doubts) c.self.view_is
+    (refused_rows (state g.S.Store c.self.inside.connection) (state g.S.Store c.all_rows.new.connection) (state g.S.Store c.told-fault.new.connection) (first.closes middle) first.counts c.told-fault.ensures.survives.counts first.limit _
+    c.in-Err.fault c.told-fault.result (let told = is in cc) (λ store. c.in-Err.ensures.store middle (ap Err store))
+    (λ other. let same = c.told-fault.ensures.same other in (same.0, ap (state g.S.Store) same.1)) (c.told-fault.ensures.store clean))
