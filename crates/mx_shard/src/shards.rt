@@ -86,6 +86,9 @@ impl<K: Keeper<Row = ShardRow>> Shard<K> {
         ensures storage { result ≡ Err CallError.Storage → (after : K) × (K.is_honest after → K.is_honest keeper)
             × (Rose (K.failed keeper) (K.failed after)
             ⊎ (K.is_honest after → K.is_open keeper → (rows : List ShardRow) → K.rows keeper ≡ Some rows → ¬ (CanReopen place rows))) }
+        // A keeper that is ready stays honest, and only such rows are refused as no shard at this place has.
+        ensures ready { IfOk result (λ shard. K.is_ready keeper → K.is_honest keeper → K.is_honest shard.keeper) }
+        ensures unfit { result ≡ Err CallError.Storage → K.is_ready keeper → K.is_honest keeper → (rows : List ShardRow) → K.rows keeper ≡ Some rows → ¬ (CanReopen place rows) }
     {
         let mut keeper = keeper;
         match keeper.rows() {
