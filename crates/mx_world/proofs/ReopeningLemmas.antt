@@ -1,10 +1,9 @@
 -- Views that are opened again one after the other, each over the keeper with its number.
-use Rattle.std.proofs.Common.{◌≡◌, ◌⊎◌, ◌+◌, ℕ, ◌<◌, ◌≤◌, Bool, true, false, List, [], ◌∷◌, ◌++◌, length, get_or, map, reverse, Option, Some, IsTrue, inl, inr, refl, sym, ap, subst, ◌∙◌, arith}
+use Rattle.std.proofs.Common.{◌≡◌, ◌+◌, ℕ, ◌<◌, ◌≤◌, Bool, true, false, List, [], ◌∷◌, ◌++◌, length, get_or, map, reverse, Option, Some, IsTrue, inl, inr, refl, sym, ap, subst, ◌∙◌, arith}
 use Rattle.std.specs.Prelude.{All, find, if◌then◌else◌, Result, Ok, Err, IfOk}
 use Rattle.std.proofs.lemmas.List.{length_push, get_or_push, get_or_append_left, map_push, reverse-append}
 use Rattle.std.proofs.lemmas.Bool.{false≢true}
 use Rattle.std.proofs.Math.Nat.{eq-or-lt_of_le}
-use Rattle.mx_keeper.specs.Keeping.{Rose}
 use Rattle.mx_keeper.specs.Places.{PlaceView}
 use Rattle.mx_keeper.specs.declared.rows.BookRow.{BookRow}
 use Rattle.mx_keeper.specs.declared.rows.ShardRow.{ShardRow}
@@ -60,43 +59,38 @@ reopened-ended rows key caller = λ is.
     let is-key : BookEntry → Bool = λ entry. same key (transaction_of entry) in
     found-kept is-key (reverse rows) caller (ap (λ l. hold_after (find is-key l)) (sym (reverse-map entry_of rows)) ∙ is)
 
-pub all-ended : {L : Type 0} (honest : L → Type 0) (read : L → Option (List BookRow)) (may_leave : L → Option (List BookRow) → Type 0) (keepers : List L) (books : List (BookView L))
-    → 1 ≤ length keepers → length books ≡ length keepers → AreOver (IsReopenedBook honest read may_leave) keepers books → All (λ book. IsEnded book.journal) books
-all-ended honest read may_leave [] books some long over = absurd (let e : ⊥ = omega (arith, some) in e)
-all-ended honest read may_leave (k ∷ ks) books some long over = λ n d l.
+pub all-ended : {L : Type 0} (is_ready honest : L → Type 0) (read : L → Option (List BookRow)) (may_leave : L → Option (List BookRow) → Type 0) (keepers : List L) (books : List (BookView L))
+    → 1 ≤ length keepers → length books ≡ length keepers → AreOver (IsReopenedBook is_ready honest read may_leave) keepers books → All (λ book. IsEnded book.journal) books
+all-ended is_ready honest read may_leave [] books some long over = absurd (let e : ⊥ = omega (arith, some) in e)
+all-ended is_ready honest read may_leave (k ∷ ks) books some long over = λ n d l.
     subst IsEnded (sym (over n k d (omega (arith, long, l))).journal) (reopened-ended (stored (get_or books n d).journal))
 
 -- ---- refusals
 
 -- a keeper whose book can't be opened
-pub book-closed : {L : Type 0} (honest open_ : L → Type 0) (read : L → Option (List BookRow)) (failed : L → ℕ) (keeper : L) (place : PlaceView)
-    → (after : L) × (honest after → honest keeper)
-    × (Rose (failed keeper) (failed after) ⊎ (honest after → open_ keeper → (rows : List BookRow) → read keeper ≡ Some rows → can_reopen place rows ≡ false))
-    → CannotReopen (CanReopenBook place) honest open_ read failed keeper
-book-closed honest open_ read failed keeper place (after, honestly, why) = (after, honestly, cause why)
-  where
-    cause : (Rose (failed keeper) (failed after) ⊎ (honest after → open_ keeper → (rows : List BookRow) → read keeper ≡ Some rows → can_reopen place rows ≡ false))
-        → (Rose (failed keeper) (failed after) ⊎ (honest after → open_ keeper → (rows : List BookRow) → read keeper ≡ Some rows → ¬ (CanReopenBook place rows)))
-    cause (inl rose) = inl rose
-    cause (inr other) = inr (λ h o rows is can. false≢true (sym (other h o rows is) ∙ can))
+pub book-closed : {L : Type 0} (is_ready honest : L → Type 0) (read : L → Option (List BookRow)) (keeper : L) (place : PlaceView)
+    → (is_ready keeper → honest keeper → (rows : List BookRow) → read keeper ≡ Some rows → can_reopen place rows ≡ false) → CannotReopen (CanReopenBook place) is_ready honest read keeper
+book-closed is_ready honest read keeper place why = λ ready honestly rows is can. false≢true (sym (why ready honestly rows is) ∙ can)
 
 -- ---- what is opened
 
-pub shard-over : {K : Type 0} (honest : K → Type 0) (read : K → Option (List ShardRow)) (may_leave : K → Option (List ShardRow) → Type 0) (keeper : K) (r : Result (ShardView K) CallError)
+pub shard-over : {K : Type 0} (is_ready honest : K → Type 0) (read : K → Option (List ShardRow)) (may_leave : K → Option (List ShardRow) → Type 0) (keeper : K) (r : Result (ShardView K) CallError)
     → IfOk r (λ shard. shard.journal ≡ reopened_events (stored_events shard.journal)) → IfOk r (λ shard. shard.is_refused ≡ false)
     → IfOk r (λ shard. honest shard.keeper → honest keeper × (read keeper ≡ Some (stored_events shard.journal)))
     → IfOk r (λ shard. honest shard.keeper → (left : Option (List ShardRow)) → may_leave shard.keeper left → may_leave keeper left)
+    → IfOk r (λ shard. is_ready keeper → honest keeper → honest shard.keeper)
     → IfOk r (λ shard. honest shard.keeper → (journal : List Entry) → read keeper ≡ Some (stored_events journal) → AreWorkedOut journal → shard.journal ≡ journal)
-    → IfOk r (IsReopenedShard honest read may_leave keeper)
-shard-over honest read may_leave keeper (Ok shard) journal taken rows crash again = record { journal = journal; taken = taken; rows = rows; crash = crash; again = again }
-shard-over honest read may_leave keeper (Err error) journal taken rows crash again = tt
+    → IfOk r (IsReopenedShard is_ready honest read may_leave keeper)
+shard-over is_ready honest read may_leave keeper (Ok shard) journal taken rows crash ready again = record { journal = journal; taken = taken; rows = rows; crash = crash; ready = ready; again = again }
+shard-over is_ready honest read may_leave keeper (Err error) journal taken rows crash ready again = tt
 
-pub book-over : {L : Type 0} (honest : L → Type 0) (read : L → Option (List BookRow)) (may_leave : L → Option (List BookRow) → Type 0) (keeper : L) (r : Result (BookView L) CallError)
+pub book-over : {L : Type 0} (is_ready honest : L → Type 0) (read : L → Option (List BookRow)) (may_leave : L → Option (List BookRow) → Type 0) (keeper : L) (r : Result (BookView L) CallError)
     → IfOk r (λ book. book.journal ≡ reopened (stored book.journal)) → IfOk r (λ book. book.is_refused ≡ false)
     → IfOk r (λ book. honest book.keeper → honest keeper × (read keeper ≡ Some (stored book.journal)))
     → IfOk r (λ book. honest book.keeper → (left : Option (List BookRow)) → may_leave book.keeper left → may_leave keeper left)
+    → IfOk r (λ book. is_ready keeper → honest keeper → honest book.keeper)
     → IfOk r (λ book. honest book.keeper → (journal : List BookEntry) → read keeper ≡ Some (stored journal) → IsTrue (is_legal journal)
     → (key : TransactionKey) → hold_of book.journal key ≡ after_stop (hold_of journal key))
-    → IfOk r (IsReopenedBook honest read may_leave keeper)
-book-over honest read may_leave keeper (Ok book) journal taken rows crash again = record { journal = journal; taken = taken; rows = rows; crash = crash; again = again }
-book-over honest read may_leave keeper (Err error) journal taken rows crash again = tt
+    → IfOk r (IsReopenedBook is_ready honest read may_leave keeper)
+book-over is_ready honest read may_leave keeper (Ok book) journal taken rows crash ready again = record { journal = journal; taken = taken; rows = rows; crash = crash; ready = ready; again = again }
+book-over is_ready honest read may_leave keeper (Err error) journal taken rows crash ready again = tt

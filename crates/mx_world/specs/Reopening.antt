@@ -1,6 +1,5 @@
 -- Servers that are opened again over the rows that are left (our own).
-use Rattle.std.specs.Prelude.{ℕ, ◌≡◌, ◌<◌, ◌⊎◌, false, List, length, get_or, Option, Some, IsTrue}
-use Rattle.mx_keeper.specs.Keeping.{Rose}
+use Rattle.std.specs.Prelude.{ℕ, ◌≡◌, ◌<◌, false, List, length, get_or, Option, Some, IsTrue}
 use Rattle.mx_keeper.specs.Places.{PlaceView}
 use Rattle.mx_keeper.specs.declared.rows.ShardRow.{ShardRow}
 use Rattle.mx_keeper.specs.declared.rows.BookRow.{BookRow}
@@ -14,20 +13,24 @@ use Rattle.mx_book.specs.declared.transaction_keys.TransactionKey.{TransactionKe
 -- ---- what is opened, by what its keeper tells
 
 -- the shard has the entries of its rows, and these are the rows that its keeper had
-pub record IsReopenedShard {K : Type 0} (honest : K → Type 0) (read : K → Option (List ShardRow)) (may_leave : K → Option (List ShardRow) → Type 0) (keeper : K) (shard : ShardView K) : Type 0 where
+pub record IsReopenedShard {K : Type 0} (is_ready honest : K → Type 0) (read : K → Option (List ShardRow)) (may_leave : K → Option (List ShardRow) → Type 0) (keeper : K) (shard : ShardView K) : Type 0 where
   pub journal : shard.journal ≡ reopened_events (stored_events shard.journal)
   pub taken : shard.is_refused ≡ false
   pub rows : honest shard.keeper → honest keeper × (read keeper ≡ Some (stored_events shard.journal))
   pub crash : honest shard.keeper → (left : Option (List ShardRow)) → may_leave shard.keeper left → may_leave keeper left
+  -- a keeper that was ready is as honest as it was
+  pub ready : is_ready keeper → honest keeper → honest shard.keeper
   -- it has the journal whose rows the keeper had, where its ids are those that are worked out of its events
   pub again : honest shard.keeper → (journal : List Entry) → read keeper ≡ Some (stored_events journal) → AreWorkedOut journal → shard.journal ≡ journal
 
 -- the book has the entries of its rows, and these are the rows that its keeper had
-pub record IsReopenedBook {L : Type 0} (honest : L → Type 0) (read : L → Option (List BookRow)) (may_leave : L → Option (List BookRow) → Type 0) (keeper : L) (book : BookView L) : Type 0 where
+pub record IsReopenedBook {L : Type 0} (is_ready honest : L → Type 0) (read : L → Option (List BookRow)) (may_leave : L → Option (List BookRow) → Type 0) (keeper : L) (book : BookView L) : Type 0 where
   pub journal : book.journal ≡ reopened_replies (stored_replies book.journal)
   pub taken : book.is_refused ≡ false
   pub rows : honest book.keeper → honest keeper × (read keeper ≡ Some (stored_replies book.journal))
   pub crash : honest book.keeper → (left : Option (List BookRow)) → may_leave book.keeper left → may_leave keeper left
+  -- a keeper that was ready is as honest as it was
+  pub ready : is_ready keeper → honest keeper → honest book.keeper
   -- of a legal journal whose rows the keeper had it knows the replies that were kept, and what was begun is free
   pub again : honest book.keeper → (journal : List BookEntry) → read keeper ≡ Some (stored_replies journal) → IsTrue (is_legal journal)
       → (key : TransactionKey) → hold_of book.journal key ≡ after_stop (hold_of journal key)
@@ -38,11 +41,9 @@ AreOver {K = K} {V = V} is keepers views = (n : ℕ) (k : K) (v : V) → n < len
 
 -- ---- what is refused
 
--- why nothing can be opened over a keeper, by what became of it: it failed, or what it has are no rows or not these
-abbrev pub CannotReopen : {K Row : Type 0} → (List Row → Type 0) → (K → Type 0) → (K → Type 0) → (K → Option (List Row)) → (K → ℕ) → K → Type 0
-CannotReopen {K = K} {Row = Row} can honest open_ read failed keeper =
-    (after : K) × (honest after → honest keeper)
-    × (Rose (failed keeper) (failed after) ⊎ (honest after → open_ keeper → (rows : List Row) → read keeper ≡ Some rows → ¬ (can rows)))
+-- nothing can be opened over a keeper: where it is ready and honest, the rows that it has are not such
+abbrev pub CannotReopen : {K Row : Type 0} → (List Row → Type 0) → (K → Type 0) → (K → Type 0) → (K → Option (List Row)) → K → Type 0
+CannotReopen {Row = Row} can is_ready honest read keeper = is_ready keeper → honest keeper → (rows : List Row) → read keeper ≡ Some rows → ¬ (can rows)
 
 -- for some keeper of these there is a reason at the place with its number
 abbrev pub SomeCannot : {K : Type 0} → (PlaceView → K → Type 0) → List K → Type 0
@@ -50,8 +51,8 @@ SomeCannot {K = K} cannot keepers =
     (n : ℕ) × (n < length keepers) × ((d : K) → cannot (record { number = n; count = length keepers }) (get_or keepers n d))
 
 -- over some keeper of these nothing can be opened at the place with its number
-abbrev pub SomeCannotReopen : {K Row : Type 0} → (PlaceView → List Row → Type 0) → (K → Type 0) → (K → Type 0) → (K → Option (List Row)) → (K → ℕ) → List K → Type 0
-SomeCannotReopen can honest open_ read failed keepers = SomeCannot (λ place. CannotReopen (can place) honest open_ read failed) keepers
+abbrev pub SomeCannotReopen : {K Row : Type 0} → (PlaceView → List Row → Type 0) → (K → Type 0) → (K → Type 0) → (K → Option (List Row)) → List K → Type 0
+SomeCannotReopen can is_ready honest read keepers = SomeCannot (λ place. CannotReopen (can place) is_ready honest read) keepers
 
 -- a book at this place can have these rows
 abbrev pub CanReopenBook : PlaceView → List BookRow → Type 0

@@ -111,13 +111,11 @@ pub record ChangesOwn {K L : Type 0} (f : K → ℕ) (g : L → ℕ) (status : T
 
 -- ---- keepers that are taken
 
--- why a keeper is refused, by what became of it: it failed, or it has rows or what does not read as rows
-abbrev pub IsUnfit : {K Row : Type 0} → (K → Type 0) → (K → Type 0) → (K → Option (List Row)) → (K → ℕ) → K → Type 0
-IsUnfit {K = K} honest open_ rows failed keeper =
-    (after : K) × (honest after → honest keeper)
-    × (Rose (failed keeper) (failed after) ⊎ (honest after → open_ keeper → rows keeper ≢ Some []))
+-- a keeper is refused: where it is ready and honest, it has rows or what does not read as rows
+abbrev pub IsUnfit : {K Row : Type 0} → (K → Type 0) → (K → Type 0) → (K → Option (List Row)) → K → Type 0
+IsUnfit is_ready honest rows keeper = is_ready keeper → honest keeper → rows keeper ≢ Some []
 
 -- some keeper of these is
-abbrev pub SomeUnfit : {K Row : Type 0} → (K → Type 0) → (K → Type 0) → (K → Option (List Row)) → (K → ℕ) → List K → Type 0
-SomeUnfit {K = K} honest open_ rows failed keepers =
-    (n : ℕ) × (n < length keepers) × ((d : K) → IsUnfit honest open_ rows failed (get_or keepers n d))
+abbrev pub SomeUnfit : {K Row : Type 0} → (K → Type 0) → (K → Type 0) → (K → Option (List Row)) → List K → Type 0
+SomeUnfit {K = K} is_ready honest rows keepers =
+    (n : ℕ) × (n < length keepers) × ((d : K) → IsUnfit is_ready honest rows (get_or keepers n d))

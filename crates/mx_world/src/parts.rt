@@ -19,7 +19,7 @@ pub(crate) trait Part: Drop {
     /// It was opened over this keeper, with the entries of its rows.
     ghost is_over: { Self.RowKeeper → Self → Type 0 };
 
-    /// What became of this keeper tells why nothing can be opened over it at this place.
+    /// Nothing can be opened over this keeper at this place.
     ghost cannot: { PlaceView → Self.RowKeeper → Type 0 };
 
     /// What always holds of it.
@@ -53,9 +53,9 @@ impl<K: Keeper<Row = ShardRow>> Part for Shard<K> {
 
     ghost place_of = { λ shard. shard.place };
 
-    ghost is_over = { IsReopenedShard K.is_honest K.rows K.may_leave };
+    ghost is_over = { IsReopenedShard K.is_ready K.is_honest K.rows K.may_leave };
 
-    ghost cannot = { λ place. CannotReopen (CanReopen place) K.is_honest K.is_open K.rows K.failed };
+    ghost cannot = { λ place. CannotReopen (CanReopen place) K.is_ready K.is_honest K.rows };
 
     ghost is_sound = { IsSoundShard K.is_honest K.is_open K.rows };
 
@@ -83,9 +83,9 @@ impl<L: Keeper<Row = BookRow>> Part for Book<L> {
 
     ghost place_of = { λ book. book.place };
 
-    ghost is_over = { IsReopenedBook L.is_honest L.rows L.may_leave };
+    ghost is_over = { IsReopenedBook L.is_ready L.is_honest L.rows L.may_leave };
 
-    ghost cannot = { λ place. CannotReopen (CanReopenBook place) L.is_honest L.is_open L.rows L.failed };
+    ghost cannot = { λ place. CannotReopen (CanReopenBook place) L.is_ready L.is_honest L.rows };
 
     ghost is_sound = { IsSoundBook L.is_honest L.is_open L.rows };
 

@@ -73,9 +73,9 @@ impl<K: Keeper<Row = ShardRow>, L: Keeper<Row = BookRow>> World<K, L> {
         ensures shards { IfOk result (λ world. length world.shards ≡ length shard_keepers.items) }
         ensures books { IfOk result (λ world. length world.books ≡ length book_keepers.items) }
 
-        // What became of one of the keepers tells why.
-        ensures storage { result ≡ Err CallError.Storage → SomeUnfit K.is_honest K.is_open K.rows K.failed shard_keepers.items
-            ⊎ SomeUnfit L.is_honest L.is_open L.rows L.failed book_keepers.items }
+        // One of the keepers tells why: where it is ready and honest, it has rows or what does not read as rows.
+        ensures storage { result ≡ Err CallError.Storage → SomeUnfit K.is_ready K.is_honest K.rows shard_keepers.items
+            ⊎ SomeUnfit L.is_ready L.is_honest L.rows book_keepers.items }
     {
         let world = World::reopen(alloc, shard_keepers, book_keepers)?;
         if !world.is_blank() {
@@ -104,11 +104,11 @@ impl<K: Keeper<Row = ShardRow>, L: Keeper<Row = BookRow>> World<K, L> {
         ensures shards { IfOk result (λ world. length world.shards ≡ length shard_keepers.items) }
         ensures books { IfOk result (λ world. length world.books ≡ length book_keepers.items) }
         // The entries of each are those of the rows of its keeper.
-        ensures shard_rows { IfOk result (λ world. AreOver (IsReopenedShard K.is_honest K.rows K.may_leave) shard_keepers.items world.shards) }
-        ensures book_rows { IfOk result (λ world. AreOver (IsReopenedBook L.is_honest L.rows L.may_leave) book_keepers.items world.books) }
-        // What became of one of the keepers tells why.
-        ensures storage { result ≡ Err CallError.Storage → SomeCannotReopen CanReopen K.is_honest K.is_open K.rows K.failed shard_keepers.items
-            ⊎ SomeCannotReopen CanReopenBook L.is_honest L.is_open L.rows L.failed book_keepers.items }
+        ensures shard_rows { IfOk result (λ world. AreOver (IsReopenedShard K.is_ready K.is_honest K.rows K.may_leave) shard_keepers.items world.shards) }
+        ensures book_rows { IfOk result (λ world. AreOver (IsReopenedBook L.is_ready L.is_honest L.rows L.may_leave) book_keepers.items world.books) }
+        // One of the keepers tells why: where it is ready and honest, no shard or book at its place has its rows.
+        ensures storage { result ≡ Err CallError.Storage → SomeCannotReopen CanReopen K.is_ready K.is_honest K.rows shard_keepers.items
+            ⊎ SomeCannotReopen CanReopenBook L.is_ready L.is_honest L.rows book_keepers.items }
     {
         let shards = reopened_parts::<Shard<K>>(alloc, shard_keepers)?;
         let books = reopened_parts::<Book<L>>(alloc, book_keepers)?;
