@@ -241,6 +241,9 @@ impl AuthChains {
                 return Ok(None);
             }
         }
+        if found.len() > MOST_CHAINS {
+            return Ok(None);
+        }
         Ok(Some(found))
     }
 

@@ -26,3 +26,10 @@ returns-then-not-branch-clause-answers c = λ cited all ends few.
     (few-reached (place_at c.args.self.now.places.items) (kept_at c.args.self.now.reached.items) ends c.args.events.now c.loop-event.event-index c.loop-event.found.items c.loop-event.invariant.reached c.loop-event.invariant.distinct few) in
     let f = c.if-not-branch.true in
     grind (arith, f, done)
+
+pub returns-then-len-gt-MOST_CHAINS-clause-answers : goal.returns-then-len-gt-MOST_CHAINS-clause-answers
+returns-then-len-gt-MOST_CHAINS-clause-answers c = λ cited all ends few.
+    let within =
+    few-reached (place_at c.args.self.now.places.items) (kept_at c.args.self.now.reached.items) ends c.args.events.now c.loop-event.event-index c.loop-event.found.items c.loop-event.invariant.reached c.loop-event.invariant.distinct few in
+    let f = c.if-len-gt-MOST_CHAINS.true in
+    grind (arith, f, within)
