@@ -54,10 +54,10 @@ impl StateKey {
     fn compare(&self, kind: &str, state_key: &str) -> Ordering
         ensures { result ≡ key_cmp self.now (kind.now, state_key.now) }
     {
-        self.kind
-            .as_str()
-            .cmp(kind)
-            .then(self.state_key.as_str().cmp(state_key))
+        match self.kind.as_str().cmp(kind) {
+            Ordering::Equal => self.state_key.as_str().cmp(state_key),
+            unequal => unequal,
+        }
     }
 }
 
