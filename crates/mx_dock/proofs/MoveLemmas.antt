@@ -408,6 +408,7 @@ module _ {T E : Type 0} (journal : T → List E) (caller : E → ℕ) (place : T
       let whole : journal x ≡ v.own.opening ++ past.added = all ∙ ap (λ l. l ++ past.added) (sym mine.own.opening) in
       let rest : since v.own.opening (journal x) ≡ past.added = ap (since v.own.opening) whole ∙ since-append v.own.opening past.added in
       let keeps : (c : BerthView E) → FitsBerth caller past index c → Keeps caller v.own.opening (journal x) c = λ c f. record {
+        opened = f.opening ∙ sym mine.own.opening;
         added = ap (entries_of caller c.number) rest ∙ f.added;
         seen = subst (λ l. IsPrefix c.seen l) (sym all) f.seen;
       } in (

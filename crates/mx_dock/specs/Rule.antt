@@ -111,8 +111,9 @@ module _ {T E : Type 0} (journal : T → List E) (place : T → ℕ) where
   abbrev pub Opens : PassView E → T → PassView E → Type 0
   Opens v x w = w ≡ opened (journal x) (place x)
 
--- What a journal has of a berth: its entries past the opening are those that the berth added, and what the berth has seen is a beginning of it
+-- What a journal has of a berth: the berth has this opening, the entries past it are those that the berth added, and what the berth has seen is a beginning of the journal
 pub record Keeps {E : Type 0} (caller : E → ℕ) (opening journal : List E) (c : BerthView E) : Type 0 where
+  pub opened : c.opening ≡ opening
   pub added : entries_of caller c.number (since opening journal) ≡ c.added
   pub seen : IsPrefix c.seen journal
 

@@ -7,6 +7,7 @@ use crate::berths::Berth;
 use crate::journals::Journaled;
 use crate::passes::{DockQueue, put_first, take_last};
 use crate::steps::{BerthMade, Compared, Joined, Parted, Placeholder, Put, Taken};
+use crate::waiting::Waiting;
 use std::alloc::{AllocError, Global};
 use std::sync::Wait;
 use std::{mem, thread};
@@ -15,12 +16,13 @@ use std::{mem, thread};
 ///
 /// Threads share the dock, and each takes the value and puts it back through a berth of its own. What is taken is the
 /// one value there is, with all that was put back into it; no call copies it. A dock may be shared wherever its value may
-/// be sent. A call that waits tries again and again, and lets other threads run between two tries. Its clauses say what
-/// holds when it returns; nothing says that it does, nor in which order waiting berths come to their turn. After more
-/// than 2^62 puts each such call waits for good.
+/// be sent. A call that waits for the value looks again a few times, and then sleeps until one is put back. Its clauses
+/// say what holds when it returns; nothing says that it does, nor in which order waiting berths come to their turn. After
+/// more than 2^62 puts each such call waits for good.
 #[derive(Drop)]
 pub struct Dock<T: Journaled> {
     queue: DockQueue<T>,
+    waiting: Waiting,
 }
 
 impl<T: Journaled + Drop> Dock<T> {
@@ -40,29 +42,31 @@ impl<T: Journaled + Drop> Dock<T> {
     {
         let (queue, mut pass) = DockQueue::<T>::ruled(alloc, 1)?;
         put_first(rt, &queue, &mut pass, value);
-        Ok((Dock { queue }, Berth { pass }))
+        let waiting = Waiting::new();
+        Ok((Dock { queue, waiting }, Berth { pass }))
     }
 
     /// The value, once all berths are given back.
     ///
     /// Its journal is the one at the opening, and then entries that each have the number of a berth. The entries of a
     /// number are just those that its berth added, each once and in their order. What each owner has seen is a beginning
-    /// of the journal. It asks for the first berth, after every other one that was made was given back to it: that is how
-    /// no entry can be missed. It takes no memory. It waits until the value is in, and so for good where the value is out
-    /// with the first berth.
+    /// of the journal, and all berths have the same opening. It asks for the first berth, after every other one that was
+    /// made was given back to it: that is how no entry can be missed. It takes no memory. It waits until the value is in,
+    /// and so for good where the value is out with the first berth.
     pub fn close<R: Wait>(self, rt: &R, first: Berth<T>) -> T
         requires first { IsFirstOf self first }
         requires number { number first ≡ 1 }
         requires all { HasEach (made first) (own first ∷ given_back first) }
         ensures place { T.place result ≡ place first }
         ensures opening { IsPrefix (opening first) (T.journal result) }
+        ensures same_opening { All (λ b. b.opening ≡ opening first) (own first ∷ given_back first) }
         ensures numbered { All (λ e. HasNumber (own first ∷ given_back first) (T.caller e)) (since (opening first) (T.journal result)) }
         ensures added { All (λ b. entries_of T.caller b.number (since (opening first) (T.journal result)) ≡ b.added) (own first ∷ given_back first) }
         ensures seen { All (λ b. IsPrefix b.seen (T.journal result)) (own first ∷ given_back first) }
     {
-        let Dock { queue } = self;
+        let Dock { queue, waiting } = self;
         let mut pass = first.pass;
-        take_last(rt, &queue, &mut pass)
+        take_last(rt, &queue, &waiting, &mut pass)
     }
 }
 
@@ -115,11 +119,14 @@ impl<T: Journaled> Dock<T> {
         ensures begins { IsPrefix (opening berth.new) (T.journal result) }
         ensures own { entries_of T.caller (number berth.new) (since (opening berth.new) (T.journal result)) ≡ added berth.new }
     {
+        let mut waiter = self.waiting.begin();
         for _ in rt.forever() {
+            waiter.before_look();
             if let Some(value) = self.queue.try_pop_as::<Taken<T>>(&mut berth.pass) {
+                waiter.end();
                 return value;
             }
-            thread::yield_now();
+            waiter.pause(rt);
         }
         unreachable!()
     }
@@ -144,7 +151,10 @@ impl<T: Journaled> Dock<T> {
         let mut left = value;
         for _ in rt.forever() {
             match self.queue.try_push_as::<Put<T>>(&mut berth.pass, left) {
-                Ok(()) => return,
+                Ok(()) => {
+                    self.waiting.wake_one();
+                    return;
+                }
                 Err(back) => left = back,
             }
             thread::yield_now();

@@ -7,6 +7,7 @@ mod journals;
 mod passes;
 mod steps;
 mod views;
+mod waiting;
 
 pub use berths::Berth;
 pub use docks::Dock;

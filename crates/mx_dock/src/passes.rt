@@ -6,6 +6,7 @@ ghost use Rattle.mx_dock.specs.Rule.{first_view, opened, Closes};
 use crate::journals::Journaled;
 use crate::steps::{Closed, DockRule, Opened};
 use crate::views::PassView;
+use crate::waiting::Waiting;
 use crossbeam_queue::{Pass, RuledArrayQueue};
 use std::sync::Wait;
 use std::thread;
@@ -43,6 +44,7 @@ pub(crate) fn put_first<R: Wait, T: Journaled>(
 pub(crate) fn take_last<R: Wait, T: Journaled>(
     rt: &R,
     queue: &DockQueue<T>,
+    waiting: &Waiting,
     pass: &mut DockPass<T>,
 ) -> T
     requires mine { IsPassOf queue.now pass.old }
@@ -50,11 +52,14 @@ pub(crate) fn take_last<R: Wait, T: Journaled>(
     requires first { (view pass.old).own.number ≡ 1 }
     ensures { Closes T.journal T.caller T.place (view pass.old) result (view pass.new) }
 {
+    let mut waiter = waiting.begin();
     for _ in rt.forever() {
+        waiter.before_look();
         if let Some(value) = queue.try_pop_as::<Closed<T>>(pass) {
+            waiter.end();
             return value;
         }
-        thread::yield_now();
+        waiter.pause(rt);
     }
     unreachable!()
 }

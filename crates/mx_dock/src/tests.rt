@@ -1,12 +1,14 @@
 ghost use Rattle.std.specs.Prelude.{◌≡◌, ◌<◌, ℕ, false, length, All, slice_index_or};
 ghost use Rattle.mx_dock.specs.Dock.{IsBerthOf, IsSameBerth, number as number_of, made, holds};
 
+use crate::waiting::{LOOKS_AWAKE, Waiting};
 use crate::{Berth, Dock, Journaled};
 use std::alloc::{AllocError, Global};
 use std::sync::Wait;
+use std::sync::atomic::{AtomicU64, Ordering};
 use std::test::Fail;
-use std::thread;
 use std::thread::Threads;
+use std::{hint, thread};
 
 // That threads which take the value and put it back come to an end, and that each call can be made: no clause says so.
 
@@ -26,19 +28,29 @@ impl Journaled for Ledger {
     ghost place = { λ _. 0 };
 }
 
-// A berth and its number.
+// A berth, its number, and how many entries its owner adds in a round, in a turn of its own for each. Where it
+// alternates, it takes the value again only once another owner had it.
 #[derive(Drop)]
 struct Owner {
     berth: Berth<Ledger>,
     number: u64,
+    turns: u64,
+    alternates: bool,
 }
 
-// Each owner adds so many entries, in a turn of its own for each.
+// So many turns each of three owners has.
 const TURNS: u64 = 200;
+
+// So many rounds eight owners have.
+const ROUNDS: u64 = 125;
+
+// So many turns each of two owners has, who alternate.
+const TURNS_OF_TWO: u64 = 20_000;
 
 fn add<R: Wait>(
     rt: &R,
     dock: &Dock<Ledger>,
+    last: &AtomicU64,
     berth: &mut Berth<Ledger>,
     number: u64,
     count: u64,
@@ -52,46 +64,72 @@ fn add<R: Wait>(
 {
     let mut ledger = dock.take(rt, berth);
     let is_added = ledger.entries.push((number, count)).is_ok();
+    last.store(number, Ordering::SeqCst);
+    hold(count);
     dock.put(rt, berth, ledger);
     is_added
 }
 
-fn add_all<R: Wait>(rt: &R, dock: &Dock<Ledger>, owner: &mut Owner)
+// Holds the value for a while: from no time at all to so long that who waits for it falls asleep.
+fn hold(count: u64) {
+    for _ in 0..count % 1_024 * 37 % 1_024 * 4 {
+        hint::spin_loop();
+    }
+}
+
+// Waits until another owner had the value.
+fn give_way<R: Wait>(rt: &R, last: &AtomicU64, number: u64) {
+    for _ in rt.forever() {
+        if last.load(Ordering::SeqCst) != number {
+            return;
+        }
+        thread::yield_now();
+    }
+}
+
+fn add_all<R: Wait>(rt: &R, dock: &Dock<Ledger>, last: &AtomicU64, owner: &mut Owner)
     requires mine { IsBerthOf dock.now owner.old.berth }
     requires idle { holds owner.old.berth ≡ false }
     requires number { owner.old.number ≡ number_of owner.old.berth }
     ensures mine { IsBerthOf dock.now owner.new.berth }
     ensures idle { holds owner.new.berth ≡ false }
+    ensures number { owner.new.number ≡ number_of owner.new.berth }
     ensures same { IsSameBerth owner.old.berth owner.new.berth }
 {
-    for count in 0..TURNS {
-        let _is_added = add(rt, dock, &mut owner.berth, owner.number, count);
+    for count in 0..owner.turns {
+        let _is_added = add(rt, dock, last, &mut owner.berth, owner.number, count);
+        if owner.alternates && count + 1 < owner.turns {
+            give_way(rt, last, owner.number);
+        }
     }
 }
 
 fn add_in_threads<R: Threads + Wait + Sync>(rt: &R, dock: &Dock<Ledger>, owners: &mut [Owner])
-    requires mine { All (λ o. IsBerthOf dock.now o.berth) owners.old }
-    requires idle { All (λ o. holds o.berth ≡ false) owners.old }
-    requires number { All (λ o. o.number ≡ number_of o.berth) owners.old }
+    requires { All (λ o. IsBerthOf dock.now o.berth × (holds o.berth ≡ false) × (o.number ≡ number_of o.berth)) owners.old }
     ensures same { (i : ℕ) (d : Owner) → i < length owners.old → IsSameBerth (slice_index_or owners.old i d).berth (slice_index_or owners.new i d).berth }
-    ensures mine { (i : ℕ) (d : Owner) → i < length owners.old → IsBerthOf dock.now (slice_index_or owners.new i d).berth }
-    ensures idle { (i : ℕ) (d : Owner) → i < length owners.old → holds (slice_index_or owners.new i d).berth ≡ false }
+    ensures each { All (λ o. IsBerthOf dock.now o.berth × (holds o.berth ≡ false) × (o.number ≡ number_of o.berth)) owners.new }
 {
+    let last = &AtomicU64::new(0);
     thread::for_each_mut(
         rt,
         owners,
-        3,
+        8,
         &|_, owner|
             requires { IsBerthOf dock.now owner.old.berth × (holds owner.old.berth ≡ false) × (owner.old.number ≡ number_of owner.old.berth) }
-            ensures { IsBerthOf dock.entry.now owner.new.berth × (holds owner.new.berth ≡ false) × IsSameBerth owner.old.berth owner.new.berth }
-        { add_all(rt, dock, owner) },
+            ensures { IsBerthOf dock.entry.now owner.new.berth × (holds owner.new.berth ≡ false) × (owner.new.number ≡ number_of owner.new.berth) × IsSameBerth owner.old.berth owner.new.berth }
+        { add_all(rt, dock, last, owner) },
     );
 }
 
-fn owner_of(berth: Berth<Ledger>, number: u64) -> Owner
-    ensures { result ≡ record { berth = berth; number = number } }
+fn owner_of(berth: Berth<Ledger>, number: u64, turns: u64, alternates: bool) -> Owner
+    ensures { result ≡ record { berth = berth; number = number; turns = turns; alternates = alternates } }
 {
-    Owner { berth, number }
+    Owner {
+        berth,
+        number,
+        turns,
+        alternates,
+    }
 }
 
 fn close_three<R: Wait>(
@@ -120,7 +158,11 @@ fn added_by_three<R: Threads + Wait + Sync>(
     let (dock, mut first) = Dock::open(rt, alloc, ledger)?;
     let second = dock.berth(&mut first);
     let third = dock.berth(&mut first);
-    let mut owners = [owner_of(first, 1), owner_of(second, 2), owner_of(third, 3)];
+    let mut owners = [
+        owner_of(first, 1, TURNS, false),
+        owner_of(second, 2, TURNS, false),
+        owner_of(third, 3, TURNS, false),
+    ];
     add_in_threads(rt, &dock, &mut owners);
     let [first, second, third] = owners;
     Ok(close_three(rt, dock, first.berth, second.berth, third.berth))
@@ -148,6 +190,93 @@ fn threads_add_in_turn(rt: HostRuntime) -> Result<(), Fail> {
     Ok(())
 }
 
+// Each owner adds its entries of a round, in a thread of its own, which then ends; and so in each round.
+fn add_in_rounds<R: Threads + Wait + Sync>(rt: &R, dock: &Dock<Ledger>, owners: &mut [Owner])
+    requires { All (λ o. IsBerthOf dock.now o.berth × (holds o.berth ≡ false) × (o.number ≡ number_of o.berth)) owners.old }
+{
+    for _ in 0..ROUNDS {
+        add_in_threads(rt, dock, owners);
+    }
+}
+
+// How many entries eight owners add in threads, of which each second one has other turns than the rest.
+fn count_of_eight<R: Threads + Wait + Sync>(
+    rt: &R,
+    alloc: Global,
+    turns: u64,
+    other_turns: u64,
+) -> Result<usize, AllocError> {
+    let entries = Vec::new(alloc);
+    let (dock, mut first) = Dock::open(rt, alloc, Ledger { entries })?;
+    let second = dock.berth(&mut first);
+    let third = dock.berth(&mut first);
+    let fourth = dock.berth(&mut first);
+    let fifth = dock.berth(&mut first);
+    let sixth = dock.berth(&mut first);
+    let seventh = dock.berth(&mut first);
+    let eighth = dock.berth(&mut first);
+    let mut ninth = dock.berth(&mut first);
+    let mut owners = [
+        owner_of(first, 1, turns, false),
+        owner_of(second, 2, other_turns, false),
+        owner_of(third, 3, turns, false),
+        owner_of(fourth, 4, other_turns, false),
+        owner_of(fifth, 5, turns, false),
+        owner_of(sixth, 6, other_turns, false),
+        owner_of(seventh, 7, turns, false),
+        owner_of(eighth, 8, other_turns, false),
+    ];
+    add_in_rounds(rt, &dock, &mut owners);
+    Ok(dock.take(rt, &mut ninth).entries.len())
+}
+
+// Nobody who sleeps while it waits is forgotten: each owner comes to all its turns.
+#[test]
+fn all_are_woken(rt: HostRuntime) -> Result<(), Fail> {
+    assert_eq!(rt; count_of_eight(&rt, rt.alloc(), 100, 100)?, 100_000);
+    Ok(())
+}
+
+// Nor where each second owner stops early, while the others still wait.
+#[test]
+fn all_are_woken_though_some_stop(rt: HostRuntime) -> Result<(), Fail> {
+    assert_eq!(rt; count_of_eight(&rt, rt.alloc(), 100, 10)?, 55_000);
+    Ok(())
+}
+
+// Each put wakes the other of two owners, at whatever moment of falling asleep that one is: no other put would wake it.
+#[test]
+fn two_alternate(rt: HostRuntime) -> Result<(), Fail> {
+    let entries = Vec::new(rt.alloc());
+    let (dock, mut first) = Dock::open(&rt, rt.alloc(), Ledger { entries })?;
+    let second = dock.berth(&mut first);
+    let mut third = dock.berth(&mut first);
+    let mut owners = [
+        owner_of(first, 1, TURNS_OF_TWO, true),
+        owner_of(second, 2, TURNS_OF_TWO, true),
+    ];
+    add_in_threads(&rt, &dock, &mut owners);
+    let ledger = dock.take(&rt, &mut third);
+    assert_eq!(rt; ledger.entries.len(), 40_000);
+    Ok(())
+}
+
+// A put that comes between the last look of who waits and its sleep is not missed: it does not fall asleep.
+#[test]
+fn put_after_the_last_look(rt: HostRuntime) -> Result<(), Fail> {
+    let waiting = Waiting::new();
+    let mut waiter = waiting.begin();
+    for _ in 0..LOOKS_AWAKE {
+        waiter.before_look();
+        waiter.pause(&rt);
+    }
+    waiter.before_look();
+    waiting.wake_one();
+    waiter.pause(&rt);
+    waiter.end();
+    Ok(())
+}
+
 fn is_sync<T: Sync>(_shared: &T) {}
 
 // A dock may be shared wherever its value may be sent, whether or not the value may be shared.
@@ -161,10 +290,11 @@ fn berths_meet(rt: HostRuntime) -> Result<(), Fail> {
     let entries = Vec::new(rt.alloc());
     let (dock, mut first) = Dock::open(&rt, rt.alloc(), Ledger { entries })?;
     let mut second = dock.berth(&mut first);
-    assert!(rt; add(&rt, &dock, &mut second, 2, 20));
+    let last = &AtomicU64::new(0);
+    assert!(rt; add(&rt, &dock, last, &mut second, 2, 20));
     is_dock_sync(&dock);
     dock.meet(&rt, &mut first, &mut second);
-    assert!(rt; add(&rt, &dock, &mut first, 1, 10));
+    assert!(rt; add(&rt, &dock, last, &mut first, 1, 10));
     let ledger = dock.take(&rt, &mut first);
     assert_eq!(rt; ledger.entries.as_slice(), [(2, 20), (1, 10)].as_slice());
     Ok(())

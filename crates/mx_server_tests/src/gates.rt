@@ -55,9 +55,10 @@ impl Meeting {
         }
     }
 
-    // The caller at this place is answered.
+    // The caller at this place is answered. That of a turn before they are to meet does not count: the first caller is
+    // to be held until the second one is answered while the first one is held.
     pub fn after(&self, place: usize) {
-        if place != 0 {
+        if place != 0 && self.is_asked.load(Ordering::SeqCst) {
             self.is_answered.store(true, Ordering::SeqCst);
         }
     }

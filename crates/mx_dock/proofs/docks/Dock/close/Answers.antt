@@ -18,3 +18,8 @@ pub returns-clause-seen : goal.returns-clause-seen
 returns-clause-seen g c =
     let journal = g.T.Journaled.journal c.take_last.result in
     All-weaker (Keeps g.T.Journaled.caller (opening c.args.first) journal) (λ b. IsPrefix b.seen journal) (λ b k. k.seen) (own c.args.first ∷ given_back c.args.first) (kept g c)
+
+pub returns-clause-same_opening : goal.returns-clause-same_opening
+returns-clause-same_opening g c =
+    let journal = g.T.Journaled.journal c.take_last.result in
+    All-weaker (Keeps g.T.Journaled.caller (opening c.args.first) journal) (λ b. b.opening ≡ opening c.args.first) (λ b k. k.opened) (own c.args.first ∷ given_back c.args.first) (kept g c)
