@@ -161,6 +161,13 @@ impl<K: Keeper<Row = BookRow>> Book<K> {
         self.journal.is_empty()
     }
 
+    /// Its journal, in order: what was begun, kept and given up. It takes no memory.
+    pub fn entries(&self) -> &[BookEntry]
+        ensures { result.now ≡ self.now.journal }
+    {
+        self.journal.as_slice()
+    }
+
     /// Whether no transaction is begun and not ended.
     pub fn none_open(&self) -> bool
         ensures { IsTrue result ↔ IsEnded self.now.journal }

@@ -14,7 +14,7 @@ use Rattle.mx_graph.specs.Record.{Row, place_of}
 use Rattle.mx_access.specs.Access.{shown}
 use Rattle.mx_receipt.specs.Receipt.{Kept, is_rejected, rows_of}
 use Rattle.mx_room.specs.Queries.{Answered, room_named, given_or, event_shown, query_answer}
-use Rattle.mx_room.specs.RoomView.{RoomView}
+use Rattle.mx_room.specs.RoomView.{RoomView, has_event}
 use Rattle.mx_room.specs.declared.queries.Query.{Query}
 use Rattle.mx_room.specs.declared.queries.Query.TheVariants as ask
 use Rattle.mx_room.specs.declared.queries.QueryReply.{QueryReply}
@@ -22,7 +22,7 @@ use Rattle.mx_room.specs.declared.queries.QueryReply.TheVariants as gives
 use Rattle.mx_room.specs.declared.queries.Denied.TheVariants.{NotFound}
 use Rattle.mx_shard.specs.LoneRoom.{to_ask}
 use Rattle.mx_shard.specs.Shown.{IsShown}
-use Rattle.mx_shard.specs.Holders.{holder_of, may_hold, holder_with, holder_without, IsHolderMoved, IsSameHolder, IsHolderKept, has_event, IsHolding, holder_asked}
+use Rattle.mx_shard.specs.Holders.{holder_of, may_hold, holder_with, holder_without, IsHolderMoved, IsSameHolder, IsHolderKept, IsHolding, holder_asked}
 use Rattle.mx_shard.specs.Inside.{room_at, no_room, rows_in, IsDistinct, IsReady}
 use Rattle.mx_shard.specs.declared.answers.Answer.TheVariants.{ToAsked}
 use Rattle.mx_shard.specs.declared.holders.Holder.{Holder}

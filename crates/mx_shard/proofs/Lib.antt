@@ -5,5 +5,6 @@ mod RoomLemmas
 mod HolderLemmas
 pub mod ChangeLemmas
 mod IndexLemmas
+mod HeldLemmas
 mod ReopenLemmas
 pub mod AgainLemmas

@@ -1,11 +1,10 @@
 -- Which rooms of a shard may hold an event, for private clauses (our own).
-use Rattle.std.specs.Prelude.{ℕ, ◌≡◌, ◌<◌, ◌==◌, Bool, true, false, List, bytes_eq, length, get_or, cond, IsTrue, Option, Some, None}
+use Rattle.std.specs.Prelude.{ℕ, ◌≡◌, ◌<◌, ◌==◌, Bool, true, false, List, length, get_or, cond, IsTrue, Option, Some, None}
 use Rattle.std.specs.List.{list_any}
 use Rattle.std.specs.BTreeMap.{BTreeMap, get}
 use Rattle.std.specs.Cmp.Lexicographic.{slice_cmp}
 use Rattle.std.specs.Ordering.{is_eq, nat_cmp}
-use Rattle.mx_receipt.specs.Receipt.{Kept}
-use Rattle.mx_room.specs.RoomView.{RoomView}
+use Rattle.mx_room.specs.RoomView.{RoomView, has_event}
 use Rattle.mx_room.specs.declared.queries.Query.{Query}
 use Rattle.mx_room.specs.declared.queries.Query.TheVariants as ask
 use Rattle.mx_shard.specs.declared.holders.Holder.{Holder}
@@ -44,9 +43,9 @@ IsSameHolder old new = (id : List ℕ) → holder_of new id ≡ holder_of old id
 abbrev pub IsHolderKept : BTreeMap (List ℕ) Holder → BTreeMap (List ℕ) Holder → Type 0
 IsHolderKept old new = (id : List ℕ) (n : ℕ) → IsTrue (may_hold (holder_of old id) n) → IsTrue (may_hold (holder_of new id) n)
 
--- an event with this id is kept
-abbrev pub has_event : List Kept → List ℕ → Bool
-has_event kept id = list_any (λ k. bytes_eq k.id id) kept
+-- some room has an event with this id
+abbrev pub some_has : List RoomView → List ℕ → Bool
+some_has rooms id = list_any (λ room. has_event room.kept id) rooms
 
 -- each room that has an event may be one that holds it
 abbrev pub IsHolding : BTreeMap (List ℕ) Holder → List RoomView → Type 0

@@ -5,6 +5,7 @@ mod answers;
 mod asking;
 mod entries;
 mod holders;
+mod holding;
 mod hosting;
 mod journal_places;
 mod offering;

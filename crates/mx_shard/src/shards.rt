@@ -7,11 +7,12 @@ ghost use Rattle.mx_pdu.specs.Event.{room_of};
 ghost use Rattle.mx_shard.specs.LoneRoom.{to_host, to_offer, to_join, to_ask, sent_call, call_room, answer};
 ghost use Rattle.mx_shard.specs.Shown.{HasShown, IsAnswer};
 ghost use Rattle.mx_shard.specs.Told.{tells_hosted, tells_kept};
-ghost use Rattle.mx_shard.specs.Journal.{Entry, record_of, journal_after, stored, reopened, AreWorkedOut, CanReopen, IsLegal};
+ghost use Rattle.mx_shard.specs.Journal.{Entry, record_of, journal_after, stored, reopened, AreWorkedOut, CanReopen, IsLegal, has_id};
 
 use crate::answers::Answer;
 use crate::asking::answer_among;
 use crate::holders::Holder;
+use crate::holding::is_held_among;
 use crate::hosting::{Hosting, add_room, hosting_in, remove_room, reserve_room};
 use crate::journal_places::JournalPlace;
 use crate::offering::{Offering, discard_in, install_in, offering_in};
@@ -337,6 +338,13 @@ impl<K: Keeper<Row = ShardRow>> Shard<K> {
             query,
         )?;
         Ok(answer)
+    }
+
+    /// Whether an entry of its journal has this id. It takes no memory, and the time is that of two look-ups.
+    pub fn holds(&self, id: &EventId) -> bool
+        ensures { result ≡ has_id self.now.journal id.now }
+    {
+        is_held_among(&self.rooms, &self.holders, id)
     }
 
     /// What keeps its rows.
