@@ -13,6 +13,7 @@ pub mod NextEventLemmas
 pub mod TextLemmas
 pub mod StepRows
 mod UnfitLemmas
+mod LossLemmas
 pub mod ReopeningLemmas
 pub mod CrashLemmas
 pub mod StopLemmas
