@@ -3,6 +3,7 @@
 
 mod directories;
 mod errors;
+mod losses;
 mod options;
 mod serving;
 mod workers;
