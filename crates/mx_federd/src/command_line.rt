@@ -82,6 +82,10 @@ fn number_word<'a>(alloc: Global, name: &'a str, usual: &'a str, least: u64, mos
         .value_parser(ValueParser::unsigned(least, most))
 }
 
+fn flag_word<'a>(alloc: Global, name: &'a str) -> Arg<'a> {
+    Arg::new(alloc, name).long(name).action(ArgAction::SetTrue)
+}
+
 fn shards_word<'a>(alloc: Global) -> Arg<'a> {
     number_word(alloc, "shards", "1", 1, MOST_PLACES as u64).help(
         "How many shards hold the rooms, 1 to 64; no answer depends on it",
@@ -114,12 +118,12 @@ fn serve_words<'a>(alloc: Global) -> Result<clap::Command<'a>, AllocError> {
         .long("host")
         .action(ArgAction::Set)
         .help("A file of lines of a log, each of which hosts a room at the start");
-    let stop = Arg::new(alloc, "stop-on-storage")
-        .long("stop-on-storage")
-        .action(ArgAction::SetTrue)
-        .help(
-            "End with status 1 once a file of rows has failed, so that a supervisor starts it again",
-        );
+    let stop = flag_word(alloc, "stop-on-storage").help(
+        "End with status 1 once a file of rows has failed, so that a supervisor starts it again",
+    );
+    let accept = flag_word(alloc, "accept-loss").help(
+        "Start though events that were answered as kept are in no file; standard error tells how many",
+    );
     clap::Command::new(alloc, "serve")
         .about("Answers other servers' requests on 127.0.0.1")
         .arg(name_word(alloc))?
@@ -129,7 +133,8 @@ fn serve_words<'a>(alloc: Global) -> Result<clap::Command<'a>, AllocError> {
         .arg(shards_word(alloc))?
         .arg(connections)?
         .arg(host)?
-        .arg(stop)
+        .arg(stop)?
+        .arg(accept)
 }
 
 fn chosen(alloc: Global, matches: &ArgMatches) -> Result<Command, CommandLineError> {
@@ -192,6 +197,7 @@ fn options_of(
         connections,
         rooms,
         stop_on_storage: given.get_flag("stop-on-storage"),
+        accept_loss: given.get_flag("accept-loss"),
     }))
 }
 

@@ -15,7 +15,8 @@ use thiserror::Error;
 pub enum ServerError {
     #[error("memory")]
     Memory,
-    // A file of rows can't be opened, read or written, or one is missing, or there are more than are asked for.
+    // A file of rows can't be opened, read or written, or one is missing, or there are more than are asked for, or events
+    // that were answered as kept are in none.
     #[error("storage")]
     Storage,
     #[error("failed read or write")]

@@ -53,7 +53,9 @@ impl RowFile {
             return;
         }
         let path = self.path.as_str();
-        let line = format!(in alloc; "storage: {path}: {failure}; what was answered is kept, and a new start opens it");
+        let line = format!(in alloc;
+            "storage: {path}: {failure}; what was answered is kept, and a new start opens it"
+        );
         if let Ok(line) = line {
             let _ = rt.eprintln(&line);
         }

@@ -20,6 +20,8 @@ pub struct ServeOptions {
     pub rooms: Option<String>,
     // Whether the server ends once what keeps rows has failed.
     pub stop_on_storage: bool,
+    // Whether it starts though its replies call events kept that are in none of its files.
+    pub accept_loss: bool,
 }
 
 /// How many workers a server has: 1 to 64.

@@ -4,6 +4,7 @@ ghost use Rattle.std.specs.Prelude.{◌≡◌, ◌≤◌, IfOk, length};
 use crate::directories::{ServerFiles, open_directory};
 use crate::errors::{ServerError, StartError};
 use crate::file_keepers::{RowFile, RowFiles};
+use crate::losses::check_losses;
 use crate::options::{SeatCount, ServeOptions};
 use crate::workers::{ServerEngine, Shared, Worker, workers_of};
 use mx_engine::{Engine, OpenGate};
@@ -22,11 +23,12 @@ use std::time::Duration;
 
 /// Opens the server's directory, hosts the rooms of its file of rooms, binds its port, starts its threads, says so in a line
 /// on `out`, and then on `err` where its files are, and answers requests: for good, or until what keeps rows has failed,
-/// where it is to end then. Where a room is not hosted, `err` is told what its line is answered. That `err` takes what it
-/// is told does not matter.
+/// where it is to end then. Where a room is not hosted, `err` is told what its line is answered, and where a loss is
+/// accepted, how much is lost. That `err` takes what it is told does not matter.
 ///
 /// `Storage` where a file of rows can't be opened or does not read, where one is missing beside one with rows, where
-/// there are more than are asked for, and at the end of a server that was to end. `NotHosted` where a line hosts no room.
+/// there are more than are asked for, where replies call events kept that are in no file, unless that loss is accepted,
+/// and at the end of a server that was to end. `NotHosted` where a line hosts no room.
 /// `Thread` where a thread can't be started. `ReadOrWrite` where the directory can't be made, the file of rooms not read,
 /// the port not bound, or the line on `out` not written. `Memory` where no memory is left.
 pub fn serve<R: ServerRuntime, W: Write, E: Write>(
@@ -116,10 +118,13 @@ where
 {
     let alloc = rt.alloc();
     let Rows { shards, books } = rows;
+    let count = books.len();
     let mut server = match World::reopen(alloc, shards, books) {
         Ok(server) => server,
         Err(error) => return Err(not_reopened(alloc, &options.data, error)),
     };
+    let is_accepted = options.accept_loss;
+    check_losses(alloc, &server, count, &options.data, is_accepted, err)?;
     host_rooms(alloc, &mut server, rooms, file_of_rooms(&options), err)?;
     listen(rt, server, files, options, out, err)
 }

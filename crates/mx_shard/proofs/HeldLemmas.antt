@@ -7,9 +7,7 @@ use Rattle.std.proofs.lemmas.Bool.{false≢true, cases_eq, ne_eqb}
 use Rattle.std.proofs.lemmas.List.{get_or_default}
 use Rattle.std.proofs.lemmas.List.Folds.{list_any_at, list_any_none, Any-from_list_any}
 use Rattle.mx_graph.proofs.Closure.{one_answer, or_right}
-use Rattle.serde_json.specs.Data.{null}
-use Rattle.mx_receipt.specs.Receipt.{Kept}
-use Rattle.mx_receipt.specs.declared.verdicts.Verdict.TheVariants.{Accepted}
+use Rattle.mx_receipt.specs.Receipt.{Kept, kept_at}
 use Rattle.mx_room.specs.RoomView.{RoomView, has_event}
 use Rattle.mx_room.proofs.HeldLemmas.{has-place}
 use Rattle.mx_shard.specs.Journal.{Entry, entries_of, record_by, record_of, has_id}
@@ -71,7 +69,7 @@ unfolding record_of
 record-has journal room id = sym (has-place (record_by (entries_of journal room)) id) ∙ known-is (entries_of journal room) id
 
 abbrev no_kept : Kept
-no_kept = record { id = []; event = null; verdict = Accepted }
+no_kept = kept_at [] 0
 
 module _ (rooms : List RoomView) (numbers : BTreeMap (List ℕ) ℕ) (places : List JournalPlace) (indexed : IsIndexed rooms numbers places) (id : List ℕ) where
   abbrev journal : List Entry

@@ -12,3 +12,4 @@ pub use Rattle.mx_pdu.specs.Offers
 pub mod Reopening
 pub mod Crashes
 pub mod Stops
+pub mod Losses

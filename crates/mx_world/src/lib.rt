@@ -5,6 +5,7 @@ mod answers;
 mod bodies;
 mod books;
 mod callers;
+mod losses;
 mod numbering;
 mod parts;
 mod reopening;

@@ -15,6 +15,7 @@ ghost use Rattle.mx_shard.specs.Journal.{CanReopen};
 ghost use Rattle.mx_world.specs.Reopening.{AreOver, IsReopenedShard, IsReopenedBook, SomeCannotReopen, CanReopenBook};
 ghost use Rattle.mx_world.specs.Inside.{IsSound};
 
+use crate::losses::lost_of_book;
 use crate::parts::{have_no_entry, parts_are_sound};
 use crate::reopening::reopened_parts;
 use crate::rooms::{ask_in, host_in, send_in};
@@ -22,9 +23,10 @@ use crate::steps::{Step, StepReply};
 use crate::transacting::{abandon_in, close_in, next_in, open_in};
 use crate::transactions::Transaction;
 use mx_book::{Book, TransactionKey};
+use mx_ident::EventId;
 use mx_keeper::{BookRow, CallError, Keeper, MOST_PLACES, ShardRow};
 use mx_shard::{Sending, Shard};
-use std::alloc::Global;
+use std::alloc::{AllocError, Global};
 use std::collections::BTreeMap;
 use std::marker::Model;
 
@@ -202,6 +204,19 @@ impl<K: Keeper<Row = ShardRow>, L: Keeper<Row = BookRow>> World<K, L> {
         ensures only { OnlyAt (Some key.now.origin) self.old.books self.new.books }
     {
         abandon_in(&mut self.books, &mut self.going, key);
+    }
+
+    /// The events that the kept replies of the book with this number call kept and that no shard has: their ids, in the
+    /// order of the replies, and of each reply in that of its text, so that an id stands once for each reply that names
+    /// it. Of a book that there is not, there are none.
+    ///
+    /// A reply calls an event kept where it tells no error of it, or that it was rejected. There are none while all that
+    /// was answered is there; where a file lost rows that were answered, those who sent the events do not send them
+    /// again. `AllocError` where no memory is left. Each reply is read, and each event looked up in each shard.
+    ///
+    /// Source: the Matrix specification, Server-Server API, "Transactions", "PDU Processing Result".
+    pub fn lost_events(&self, alloc: Global, book: usize) -> Result<Vec<EventId>, AllocError> {
+        lost_of_book(alloc, &self.shards, &self.books, book)
     }
 
     // Whether no shard and no book has an entry.
