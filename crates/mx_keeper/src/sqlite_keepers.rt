@@ -13,7 +13,7 @@ use crate::keepers::Keeper;
 use crate::schemas::has_nothing;
 use crate::statements::{Doubts, counted, idle_statement, told};
 use crate::table_rows::{TableRow, all_rows};
-use sqlite::{Alter, Connection, Statement};
+use sqlite::{Alter, Connection, Error, Statement};
 use std::alloc::Global;
 use std::marker::Model;
 
@@ -33,6 +33,8 @@ pub struct SqliteKeeper<S: Alter + Drop, R: TableRow> {
     unsure: Doubts,
     // The rows that were read when the connection was adopted, until they are asked for, or one is added.
     found: Option<Vec<R>>,
+    // What SQLite said of the last row that it refused.
+    words: Option<Error>,
 }
 
 impl<S: Alter + Drop, R: TableRow> Model for SqliteKeeper<S, R> {
@@ -109,6 +111,7 @@ impl<S: Alter + Drop, R: TableRow> SqliteKeeper<S, R> {
                 failures: 0,
                 unsure: Doubts::none(),
                 found: Some(rows),
+                words: None,
             }),
             Err(fault) => Err(NotAdopted { fault, connection }),
         }
@@ -133,8 +136,14 @@ impl<S: Alter + Drop, R: TableRow> SqliteKeeper<S, R> {
             failures: _,
             unsure: _,
             found: _,
+            words: _,
         } = self;
         connection
+    }
+
+    /// What SQLite said of the last row that it refused, for who runs the program.
+    pub fn words(&self) -> Option<Error> {
+        self.words
     }
 }
 
@@ -231,7 +240,7 @@ impl<S: Alter + Drop, R: TableRow> Keeper for SqliteKeeper<S, R> {
 
     fn append(&mut self, row: &R) -> Result<(), KeeperFault> {
         self.found = None;
-        match row.insert(self.alloc, &mut self.connection, self.count) {
+        match row.insert(&mut self.connection, self.count, &mut self.words) {
             Ok(()) => {
                 self.count += 1;
                 Ok(())
