@@ -16,3 +16,4 @@ mod UnfitLemmas
 pub mod ReopeningLemmas
 pub mod CrashLemmas
 pub mod StopLemmas
+pub mod OrderLemmas

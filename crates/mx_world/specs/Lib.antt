@@ -13,3 +13,4 @@ pub mod Reopening
 pub mod Crashes
 pub mod Stops
 pub mod Losses
+pub mod Orders

@@ -7,6 +7,7 @@ mod books;
 mod callers;
 mod losses;
 mod numbering;
+mod orders;
 mod parts;
 mod reopening;
 mod rooms;
@@ -26,6 +27,7 @@ pub use mx_room::{
     Denied, EventIdList, EventList, Moment, NotARoom, Outcome, Query, QueryReply, Refusal,
 };
 pub use mx_shard::Answer;
+pub use orders::agreeing_orders_answer_alike;
 pub use runs::{RunError, agreeing_runs_answer_alike, run};
 pub use steps::{Step, StepReply};
 pub use stops::{known_events_keep_their_verdicts, stops_leave_the_journals};
