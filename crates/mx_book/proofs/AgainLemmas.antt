@@ -1,11 +1,10 @@
 -- A book that is opened again over the rows of a journal.
-use Rattle.std.proofs.Common.{◌≡◌, ℕ, Bool, true, false, IsTrue, List, [], ◌∷◌, ◌++◌, Option, Some, refl, sym, ◌∙◌, ap, subst, append_assoc, append-nil}
-use Rattle.std.specs.Prelude.{◌&&◌}
+use Rattle.std.proofs.Common.{◌≡◌, ℕ, Bool, true, false, IsTrue, List, [], ◌∷◌, ◌++◌, Option, None, Some, refl, sym, ◌∙◌, ap, subst, append_assoc, append-nil}
 use Rattle.std.proofs.lemmas.Bool.{false≢true, and_parts}
 use Rattle.std.proofs.lemmas.List.{map-append}
 use Rattle.mx_keeper.specs.declared.rows.BookRow.{BookRow}
 use Rattle.mx_book.specs.Transactions.{same}
-use Rattle.mx_book.specs.Journal.{transaction_of, Hold, free, begun, kept, hold_after, hold_of, follows, is_legal, is_legal_after, stored, entry_of, reopened, after_stop}
+use Rattle.mx_book.specs.Journal.{transaction_of, last_of, free, hold_after, hold_of, follows, is_legal, is_legal_after, stored, entry_of, reopened, after_stop}
 use Rattle.mx_book.specs.declared.transaction_keys.TransactionKey.{TransactionKey}
 use Rattle.mx_book.specs.declared.entries.BookEntry.{BookEntry}
 use Rattle.mx_book.specs.declared.entries.BookEntry.TheVariants.{Begun, Kept, GivenUp}
@@ -18,15 +17,17 @@ IsKnown journal = (key : TransactionKey) → hold_of (reopened (stored journal))
 
 -- ---- what an entry may follow
 
-before-begun : (state : Hold) (k : TransactionKey) (caller : ℕ) → follows state (Begun k caller) ≡ true → after_stop state ≡ free
-before-begun free k caller h = refl
-before-begun (begun other) k caller h = absurd (false≢true h)
-before-begun (kept reply) k caller h = absurd (false≢true h)
+before-begun : (last : Option BookEntry) (k : TransactionKey) (caller : ℕ) → follows last (Begun k caller) ≡ true → after_stop (hold_after last) ≡ free
+before-begun None k caller h = refl
+before-begun (Some (Begun own other)) k caller h = absurd (false≢true h)
+before-begun (Some (Kept own other reply)) k caller h = absurd (false≢true h)
+before-begun (Some (GivenUp own other)) k caller h = refl
 
-before-given_up : (state : Hold) (k : TransactionKey) (caller : ℕ) → follows state (GivenUp k caller) ≡ true → after_stop state ≡ free
-before-given_up free k caller h = absurd (false≢true h)
-before-given_up (begun other) k caller h = refl
-before-given_up (kept reply) k caller h = absurd (false≢true h)
+before-given_up : (last : Option BookEntry) (k : TransactionKey) (caller : ℕ) → follows last (GivenUp k caller) ≡ true → after_stop (hold_after last) ≡ free
+before-given_up None k caller h = absurd (false≢true h)
+before-given_up (Some (Begun own other)) k caller h = refl
+before-given_up (Some (Kept own other reply)) k caller h = absurd (false≢true h)
+before-given_up (Some (GivenUp own other)) k caller h = absurd (false≢true h)
 
 -- ---- one entry more
 
@@ -56,17 +57,17 @@ module _ (journal : List BookEntry) (known : IsKnown journal) where
       by true h = hold_of-here (reopened (stored journal)) (entry_of row) key h ∙ sym (ap after_stop (hold_of-here journal entry key h))
       by false h = hold_of-there (reopened (stored journal)) (entry_of row) key h ∙ known key ∙ sym (ap after_stop (hold_of-there journal entry key h))
 
-  one-more : (entry : BookEntry) → follows (hold_of journal (transaction_of entry)) entry ≡ true → IsKnown (journal ++ entry ∷ [])
-  one-more (Begun k caller) h = not-stored (Begun k caller) (stored-begun journal (journal ++ Begun k caller ∷ []) k caller refl) (before-begun (hold_of journal k) k caller h) refl
+  one-more : (entry : BookEntry) → follows (last_of (transaction_of entry) journal) entry ≡ true → IsKnown (journal ++ entry ∷ [])
+  one-more (Begun k caller) h = not-stored (Begun k caller) (stored-begun journal (journal ++ Begun k caller ∷ []) k caller refl) (before-begun (last_of k journal) k caller h) refl
   one-more (Kept k caller reply) h = is-stored k caller reply
-  one-more (GivenUp k caller) h = not-stored (GivenUp k caller) (stored-given_up journal (journal ++ GivenUp k caller ∷ []) k caller refl) (before-given_up (hold_of journal k) k caller h) refl
+  one-more (GivenUp k caller) h = not-stored (GivenUp k caller) (stored-given_up journal (journal ++ GivenUp k caller ∷ []) k caller refl) (before-given_up (last_of k journal) k caller h) refl
 
 -- ---- all entries
 
 all-more : (earlier entries : List BookEntry) → IsKnown earlier → is_legal_after earlier entries ≡ true → IsKnown (earlier ++ entries)
 all-more earlier [] known h = subst IsKnown (sym (append-nil earlier)) known
 all-more earlier (entry ∷ entries) known h =
-    let parts = and_parts (follows (hold_of earlier (transaction_of entry)) entry) (is_legal_after (earlier ++ entry ∷ []) entries) h in
+    let parts = and_parts (follows (last_of (transaction_of entry) earlier) entry) (is_legal_after (earlier ++ entry ∷ []) entries) h in
     subst IsKnown (append_assoc earlier (entry ∷ []) entries) (all-more (earlier ++ entry ∷ []) entries (one-more earlier known entry parts.0) parts.1)
 
 pub known-again : (journal : List BookEntry) → IsTrue (is_legal journal) → (key : TransactionKey) → hold_of (reopened (stored journal)) key ≡ after_stop (hold_of journal key)

@@ -12,7 +12,7 @@ use Rattle.std.proofs.lemmas.List.Elements.{All-append}
 use Rattle.mx_keeper.specs.Places.{PlaceView, is_at}
 use Rattle.mx_book.specs.Transactions.{same, transaction_cmp}
 use Rattle.mx_book.specs.TransactionLaws.{transaction_total, transaction_ties}
-use Rattle.mx_book.specs.Journal.{transaction_of, Hold, free, begun, kept, hold_after, hold_of, opening_of, follows}
+use Rattle.mx_book.specs.Journal.{transaction_of, last_of, Hold, free, begun, kept, hold_after, hold_of, opening_of, follows}
 use Rattle.mx_book.specs.declared.entries.BookEntry.TheVariants.{Begun, Kept, GivenUp}
 use Rattle.mx_book.specs.declared.openings.Opening.{Opening}
 use Rattle.mx_book.specs.declared.openings.Opening.TheVariants as opening
@@ -172,7 +172,7 @@ indexed_more journal callers callers' replies replies' entry c r index cs rs her
     hold_at-before (Some n) l = ap hold_after (slice_get-before journal (entry ∷ []) n (l n refl))
 
 pub sound_more : (journal : List BookEntry) (place : PlaceView) (entry : BookEntry) (count capacity count' capacity' : ℕ) → IsSound journal place count capacity → IsTrue (is_at place (transaction_of entry).origin) →
-    follows (hold_of journal (transaction_of entry)) entry ≡ true → length (journal ++ entry ∷ []) + count' ≤ capacity' → IsSound (journal ++ entry ∷ []) place count' capacity'
+    follows (last_of (transaction_of entry) journal) entry ≡ true → length (journal ++ entry ∷ []) + count' ≤ capacity' → IsSound (journal ++ entry ∷ []) place count' capacity'
 sound_more journal place entry count capacity count' capacity' sound here may room = record {
   here = All-append (λ e. IsTrue (is_at place (transaction_of e).origin)) journal (entry ∷ []) sound.here (all_one (λ e. IsTrue (is_at place (transaction_of e).origin)) entry here);
   legal = is_legal-push journal entry sound.legal may;
@@ -211,14 +211,27 @@ module _ (journal journal' : List BookEntry) (callers callers' replies : BTreeMa
       some_is m n k = cc
 
 pub sound_with : (journal journal' : List BookEntry) (place : PlaceView) (entry : BookEntry) (count capacity count' capacity' : ℕ) → journal' ≡ journal ++ entry ∷ [] → IsSound journal place count capacity → IsTrue (is_at place (transaction_of entry).origin) →
-    follows (hold_of journal (transaction_of entry)) entry ≡ true → length journal + 1 + count' ≤ capacity' → IsSound journal' place count' capacity'
+    follows (last_of (transaction_of entry) journal) entry ≡ true → length journal + 1 + count' ≤ capacity' → IsSound journal' place count' capacity'
 sound_with journal journal' place entry count capacity count' capacity' e sound here may room =
     let long : length (journal ++ entry ∷ []) ≡ length journal + 1 = length-append journal (entry ∷ []) in
     subst (λ js. IsSound js place count' capacity') (sym e) (sound_more journal place entry count capacity count' capacity' sound here may (let l : length (journal ++ entry ∷ []) + count' ≤ capacity' = omega arith in l))
 
+-- what is free may be begun
+pub may_begin : (last : Option BookEntry) (key : TransactionKey) (caller : ℕ) → hold_after last ≡ free → follows last (Begun key caller) ≡ true
+may_begin None key caller h = refl
+may_begin (Some (Begun own other)) key caller h = absurd (let e : begun other ≡ free = h in cc)
+may_begin (Some (Kept own other reply)) key caller h = absurd (let e : kept reply ≡ free = h in cc)
+may_begin (Some (GivenUp own other)) key caller h = refl
+
 -- who began a transaction may end it
-pub may_end : (state : Hold) (entry : BookEntry) (caller : ℕ) → state ≡ begun caller → follows (begun caller) entry ≡ true → follows state entry ≡ true
-may_end state entry caller h k = ap (λ s. follows s entry) h ∙ k
+pub may_end : (last : Option BookEntry) (entry : BookEntry) (caller : ℕ) → hold_after last ≡ begun caller → ((own : TransactionKey) → follows (Some (Begun own caller)) entry ≡ true) → follows last entry ≡ true
+may_end None entry caller h k = absurd (let e : free ≡ begun caller = h in cc)
+may_end (Some (Begun own other)) entry caller h k =
+    let e : begun other ≡ begun caller = h in
+    let is : caller ≡ other = cc in
+    subst (λ n. follows (Some (Begun own n)) entry ≡ true) is (k own)
+may_end (Some (Kept own other reply)) entry caller h k = absurd (let e : kept reply ≡ begun caller = h in cc)
+may_end (Some (GivenUp own other)) entry caller h k = absurd (let e : free ≡ begun caller = h in cc)
 
 pub same_caller : (caller : ℕ) → (caller == caller) ≡ true
 same_caller caller = grind (arith, nat_tests)

@@ -35,25 +35,25 @@ hold_of-there journal entry p h = ap hold_after (last_of-push journal entry p �
 -- ---- what is legal
 
 pub is_legal_after-push : (earlier entries : List BookEntry) (entry : BookEntry) →
-    is_legal_after earlier (entries ++ entry ∷ []) ≡ (is_legal_after earlier entries && follows (hold_of (earlier ++ entries) (transaction_of entry)) entry)
+    is_legal_after earlier (entries ++ entry ∷ []) ≡ (is_legal_after earlier entries && follows (last_of (transaction_of entry) (earlier ++ entries)) entry)
 is_legal_after-push earlier [] entry =
-    last (follows (hold_of earlier (transaction_of entry)) entry) ∙ ap (λ js. follows (hold_of js (transaction_of entry)) entry) (sym (append-nil earlier))
+    last (follows (last_of (transaction_of entry) earlier) entry) ∙ ap (λ js. follows (last_of (transaction_of entry) js) entry) (sym (append-nil earlier))
   where
     last : (b : Bool) → (b && true) ≡ b
     last true = refl
     last false = refl
 is_legal_after-push earlier (first ∷ entries) entry =
-    ap (λ b. follows (hold_of earlier (transaction_of first)) first && b) (is_legal_after-push (earlier ++ first ∷ []) entries entry)
-    ∙ ap (λ js. follows (hold_of earlier (transaction_of first)) first && (is_legal_after (earlier ++ first ∷ []) entries && follows (hold_of js (transaction_of entry)) entry)) (append_assoc earlier (first ∷ []) entries)
-    ∙ joined (follows (hold_of earlier (transaction_of first)) first) (is_legal_after (earlier ++ first ∷ []) entries) (follows (hold_of (earlier ++ first ∷ entries) (transaction_of entry)) entry)
+    ap (λ b. follows (last_of (transaction_of first) earlier) first && b) (is_legal_after-push (earlier ++ first ∷ []) entries entry)
+    ∙ ap (λ js. follows (last_of (transaction_of first) earlier) first && (is_legal_after (earlier ++ first ∷ []) entries && follows (last_of (transaction_of entry) js) entry)) (append_assoc earlier (first ∷ []) entries)
+    ∙ joined (follows (last_of (transaction_of first) earlier) first) (is_legal_after (earlier ++ first ∷ []) entries) (follows (last_of (transaction_of entry) (earlier ++ first ∷ entries)) entry)
   where
     joined : (a b c : Bool) → (a && (b && c)) ≡ (a && b && c)
     joined true b c = refl
     joined false b c = refl
 
-pub is_legal-push : (journal : List BookEntry) (entry : BookEntry) → IsTrue (is_legal journal) → follows (hold_of journal (transaction_of entry)) entry ≡ true → IsTrue (is_legal (journal ++ entry ∷ []))
+pub is_legal-push : (journal : List BookEntry) (entry : BookEntry) → IsTrue (is_legal journal) → follows (last_of (transaction_of entry) journal) entry ≡ true → IsTrue (is_legal (journal ++ entry ∷ []))
 is_legal-push journal entry h f =
-    subst IsTrue (sym (is_legal_after-push [] journal entry)) (both (is_legal journal) (follows (hold_of journal (transaction_of entry)) entry) h f)
+    subst IsTrue (sym (is_legal_after-push [] journal entry)) (both (is_legal journal) (follows (last_of (transaction_of entry) journal) entry) h f)
   where
     both : (a b : Bool) → IsTrue a → b ≡ true → IsTrue (a && b)
     both true true h f = refl
@@ -94,6 +94,17 @@ found_in P p (e ∷ es) entry all h =
       | false ↦ λ _ later. found_in P p es entry (all_later (λ e. P (transaction_of e)) e es all) later
     ] refl h
 
+found_entry : (P : BookEntry → Type 0) (p : TransactionKey) (entries : List BookEntry) (entry : BookEntry) → All P entries → find (λ e. same p (transaction_of e)) entries ≡ Some entry → P entry
+found_entry P p [] entry all h = absurd (let e : None ≡ Some entry = h in cc)
+found_entry P p (e ∷ es) entry all h =
+    elim (same p (transaction_of e)) as (λ b. cond b (Some e) (find (λ e. same p (transaction_of e)) es) ≡ Some entry → P entry) [
+      | true ↦ λ is. subst P (some_is e entry is) (all_first P e es all)
+      | false ↦ λ later. found_entry P p es entry (all_later P e es all) later
+    ] h
+  where
+    some_is : (x y : BookEntry) → Some x ≡ Some y → x ≡ y
+    some_is x y k = cc
+
 All-reverse : (P : BookEntry → Type 0) (entries : List BookEntry) → All P entries → All P (reverse entries)
 All-reverse P [] all = all
 All-reverse P (e ∷ es) all = subst (All P) (sym (reverse-append (e ∷ []) es)) (All-append P (reverse es) (e ∷ []) (All-reverse P es (all_later P e es all)) (all_one P e (all_first P e es all)))
@@ -102,3 +113,7 @@ pub holds_of_begun : (P : TransactionKey → Type 0) (journal : List BookEntry) 
 holds_of_begun P journal p caller all h =
     let found = not_free (last_of p journal) caller h in
     found_in P p (reverse journal) found.0 (All-reverse (λ e. P (transaction_of e)) journal all) found.1
+
+-- what holds of each entry holds of a transaction's last one
+pub found_is : (P : BookEntry → Type 0) (p : TransactionKey) (journal : List BookEntry) (entry : BookEntry) → All P journal → last_of p journal ≡ Some entry → P entry
+found_is P p journal entry all h = found_entry P p (reverse journal) entry (All-reverse P journal all) h

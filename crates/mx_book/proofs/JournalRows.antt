@@ -52,3 +52,7 @@ one_row = refl
 -- a kept transaction is not begun again, and who did not begin one does not end it
 legal : (is_legal journal ≡ true) × (is_legal (journal ++ Begun first 0 ∷ []) ≡ false) × (is_legal (journal ++ Kept other 0 bytes ∷ []) ≡ false) × (is_legal (GivenUp first 0 ∷ []) ≡ false)
 legal = (refl, refl, refl, refl)
+
+-- a reply that was kept when the book was opened is the first entry of its transaction: not where it was begun, given up or kept before
+first_entry : (is_legal (Kept first 0 bytes ∷ Kept other 0 bytes ∷ []) ≡ true) × (is_legal (Begun first 7 ∷ GivenUp first 7 ∷ Kept first 0 bytes ∷ []) ≡ false) × (is_legal (Kept first 0 bytes ∷ Kept first 0 bytes ∷ []) ≡ false) × (is_legal (Kept first 7 bytes ∷ []) ≡ false)
+first_entry = (refl, refl, refl, refl)

@@ -14,13 +14,20 @@ use Rattle.mx_keeper.specs.declared.rows.BookRow.{BookRow}
 use Rattle.mx_keeper.specs.declared.refusals.CallError.{CallError}
 use Rattle.mx_keeper.specs.declared.refusals.CallError.TheVariants.{Storage}
 use Rattle.mx_book.specs.Transactions.{transaction_cmp}
-use Rattle.mx_book.specs.Journal.{transaction_of, Hold, free, begun, kept, hold_of, hold_after, follows, is_legal, is_legal_after, stored, entry_of, reopened, can_reopen, no_caller}
+use Rattle.mx_book.specs.Journal.{transaction_of, last_of, free, hold_of, hold_after, follows, is_legal, is_legal_after, stored, entry_of, reopened, can_reopen, no_caller}
 use Rattle.mx_book.specs.Inside.{hold_at, is_kept, hold_found, IsMoved, IsReopened}
 use Rattle.mx_book.specs.declared.transaction_keys.TransactionKey.{TransactionKey}
 use Rattle.mx_book.specs.declared.entries.BookEntry.{BookEntry}
-use Rattle.mx_book.specs.declared.entries.BookEntry.TheVariants.{Kept}
-use Rattle.mx_book.proofs.JournalLemmas.{is_legal-push, all_one}
+use Rattle.mx_book.specs.declared.entries.BookEntry.TheVariants.{Begun, Kept, GivenUp}
+use Rattle.mx_book.proofs.JournalLemmas.{is_legal-push, all_one, found_is}
 use Rattle.mx_book.proofs.IndexLemmas.{indexed_more, slice_get-last, same_caller, stays, none_in}
+
+-- ---- a transaction that has no entry
+
+-- where each entry keeps a reply, what is free has none
+may_come_first : (key : TransactionKey) (reply : List ℕ) (last : Option BookEntry) → ((entry : BookEntry) → last ≡ Some entry → is_kept (hold_after (Some entry)) ≡ true) → hold_after last ≡ free → follows last (Kept key no_caller reply) ≡ true
+may_come_first key reply None all h = same_caller no_caller
+may_come_first key reply (Some entry) all h = absurd (false≢true (sym (ap is_kept h) ∙ all entry refl))
 
 -- ---- one row more
 
@@ -39,8 +46,9 @@ module _ (place : PlaceView) (journal : List BookEntry) (callers replies : BTree
             indexed_more journal callers callers replies replies' (Kept key no_caller reply) None (Some (length journal)) was.indexed
             (stays callers key none-begun) moved (ap hold_after (sym (slice_get-last journal (Kept key no_caller reply)))) (λ c k. absurd (none_some c k)) (λ n k. (sym (some_is (length journal) n k), refl));
         none = was.none;
+        kept = All-append (λ e. is_kept (hold_after (Some e)) ≡ true) journal (Kept key no_caller reply ∷ []) was.kept (all_one (λ e. is_kept (hold_after (Some e)) ≡ true) (Kept key no_caller reply) refl);
         here = All-append (λ e. IsTrue (is_at place (transaction_of e).origin)) journal (Kept key no_caller reply ∷ []) was.here (all_one (λ e. IsTrue (is_at place (transaction_of e).origin)) (Kept key no_caller reply) here);
-        legal = is_legal-push journal (Kept key no_caller reply) was.legal (ap (λ s. follows s (Kept key no_caller reply)) (hold-is ∙ ap (hold_at journal) none) ∙ same_caller no_caller);
+        legal = is_legal-push journal (Kept key no_caller reply) was.legal (may_come_first key reply (last_of key journal) (λ entry is. found_is (λ e. is_kept (hold_after (Some e)) ≡ true) key journal entry was.kept is) (hold-is ∙ ap (hold_at journal) none));
       }
     where
       none_some : (n : ℕ) → None ≡ Some n → ⊥
@@ -49,16 +57,16 @@ module _ (place : PlaceView) (journal : List BookEntry) (callers replies : BTree
       some_is : (m n : ℕ) → Some m ≡ Some n → m ≡ n
       some_is m n k = cc
 
-  kept-follows : (state : Hold) → is_kept state ≡ true → follows state (Kept key no_caller reply) ≡ false
-  kept-follows free h = absurd (false≢true h)
-  kept-follows (begun caller) h = absurd (false≢true h)
-  kept-follows (kept other) h = refl
+  kept-follows : (last : Option BookEntry) → is_kept (hold_after last) ≡ true → follows last (Kept key no_caller reply) ≡ false
+  kept-follows None h = absurd (false≢true h)
+  kept-follows (Some (Begun own caller)) h = absurd (false≢true h)
+  kept-follows (Some (Kept own caller other)) h = refl
+  kept-follows (Some (GivenUp own caller)) h = absurd (false≢true h)
 
   -- a transaction that has a reply gets no second one
-  pub twice : (n : ℕ) → get transaction_cmp replies key ≡ Some n → follows (hold_of journal key) (Kept key no_caller reply) ≡ false
+  pub twice : (n : ℕ) → get transaction_cmp replies key ≡ Some n → follows (last_of key journal) (Kept key no_caller reply) ≡ false
   twice n found =
-      ap (λ s. follows s (Kept key no_caller reply)) (hold-is ∙ ap (hold_at journal) found)
-      ∙ kept-follows (hold_at journal (Some n)) (was.indexed.replied key n found)
+      kept-follows (last_of key journal) (ap is_kept (hold-is ∙ ap (hold_at journal) found) ∙ was.indexed.replied key n found)
 
 -- ---- rows that no book has
 
@@ -67,13 +75,13 @@ and-false true = refl
 and-false false = refl
 
 -- an entry that may not follow those before it
-middle : (earlier xs : List BookEntry) (e : BookEntry) (ys : List BookEntry) → follows (hold_of (earlier ++ xs) (transaction_of e)) e ≡ false → is_legal_after earlier (xs ++ e ∷ ys) ≡ false
+middle : (earlier xs : List BookEntry) (e : BookEntry) (ys : List BookEntry) → follows (last_of (transaction_of e) (earlier ++ xs)) e ≡ false → is_legal_after earlier (xs ++ e ∷ ys) ≡ false
 middle earlier [] e ys h =
-    ap (λ b. b && is_legal_after (earlier ++ e ∷ []) ys) (ap (λ js. follows (hold_of js (transaction_of e)) e) (sym (append-nil earlier)) ∙ h)
+    ap (λ b. b && is_legal_after (earlier ++ e ∷ []) ys) (ap (λ js. follows (last_of (transaction_of e) js) e) (sym (append-nil earlier)) ∙ h)
 middle earlier (x ∷ xs) e ys h =
-    ap (λ b. follows (hold_of earlier (transaction_of x)) x && b)
-    (middle (earlier ++ x ∷ []) xs e ys (ap (λ js. follows (hold_of js (transaction_of e)) e) (append_assoc earlier (x ∷ []) xs) ∙ h))
-    ∙ and-false (follows (hold_of earlier (transaction_of x)) x)
+    ap (λ b. follows (last_of (transaction_of x) earlier) x && b)
+    (middle (earlier ++ x ∷ []) xs e ys (ap (λ js. follows (last_of (transaction_of e) js) e) (append_assoc earlier (x ∷ []) xs) ∙ h))
+    ∙ and-false (follows (last_of (transaction_of x) earlier) x)
 
 module _ (place : PlaceView) (rows later : List BookRow) (row : BookRow) where
   pub elsewhere : is_at place row.origin ≡ false → can_reopen place (rows ++ row ∷ later) ≡ false
@@ -83,7 +91,7 @@ module _ (place : PlaceView) (rows later : List BookRow) (row : BookRow) where
       ∙ ap (λ b. list_all (λ r. is_at place r.origin) rows && (b && list_all (λ r. is_at place r.origin) later)) h
       ∙ and-false (list_all (λ r. is_at place r.origin) rows))
 
-  pub repeated : follows (hold_of (reopened rows) (transaction_of (entry_of row))) (entry_of row) ≡ false → can_reopen place (rows ++ row ∷ later) ≡ false
+  pub repeated : follows (last_of (transaction_of (entry_of row)) (reopened rows)) (entry_of row) ≡ false → can_reopen place (rows ++ row ∷ later) ≡ false
   repeated h =
       ap (λ b. list_all (λ r. is_at place r.origin) (rows ++ row ∷ later) && b)
       (ap is_legal (map-append entry_of rows (row ∷ later)) ∙ middle [] (reopened rows) (entry_of row) (reopened later) h)
@@ -117,6 +125,7 @@ reopen-none place journal callers replies e no-callers no-replies =
         replied = λ p n k. absurd (none_some n (sym (nothing replies no-replies p) ∙ k));
       };
       none = no-callers;
+      kept = λ k d l. absurd (omega arith);
       here = λ k d l. absurd (omega arith);
       legal = refl;
     }

@@ -50,9 +50,10 @@ pub record IsSound (journal : List BookEntry) (place : PlaceView) (begun capacit
   pub legal : IsTrue (is_legal journal)
   pub spare : length journal + begun ≤ capacity
 
--- the journal of rows that were found, and the places of its replies; no transaction is begun
+-- the journal of rows that were found, and the places of its replies; each entry is a reply, and no transaction is begun
 pub record IsReopened (place : PlaceView) (journal : List BookEntry) (callers replies : BTreeMap TransactionKey ℕ) : Type 0 where
   pub indexed : IsIndexed journal callers replies
   pub none : btree_map_len callers ≡ 0
+  pub kept : All (λ entry. is_kept (hold_after (Some entry)) ≡ true) journal
   pub here : All (λ entry. IsTrue (is_at place (transaction_of entry).origin)) journal
   pub legal : IsTrue (is_legal journal)

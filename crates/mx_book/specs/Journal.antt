@@ -54,18 +54,19 @@ begins key caller (kept reply) = []
 abbrev pub no_caller : ℕ
 no_caller = 0
 
--- an entry may follow: only what is free is begun, and only who began a transaction ends it; a reply that was kept when
--- the book was opened is the first entry of its transaction
-abbrev pub follows : Hold → BookEntry → Bool
-follows free (Begun key caller) = true
-follows free (Kept key caller reply) = caller == no_caller
-follows (begun other) (Kept key caller reply) = other == caller
-follows (begun other) (GivenUp key caller) = other == caller
-follows state entry = false
+-- an entry may follow the last one of its transaction: it is begun where it has none, or was given up; who began it ends
+-- it; a reply that was kept when the book was opened is its first entry; nothing follows a kept reply
+abbrev pub follows : Option BookEntry → BookEntry → Bool
+follows None (Begun key caller) = true
+follows None (Kept key caller reply) = caller == no_caller
+follows (Some (GivenUp own other)) (Begun key caller) = true
+follows (Some (Begun own other)) (Kept key caller reply) = other == caller
+follows (Some (Begun own other)) (GivenUp key caller) = other == caller
+follows last entry = false
 
 abbrev pub is_legal_after : List BookEntry → List BookEntry → Bool
 is_legal_after earlier [] = true
-is_legal_after earlier (entry ∷ entries) = follows (hold_of earlier (transaction_of entry)) entry && is_legal_after (earlier ++ entry ∷ []) entries
+is_legal_after earlier (entry ∷ entries) = follows (last_of (transaction_of entry) earlier) entry && is_legal_after (earlier ++ entry ∷ []) entries
 
 -- each entry may follow those before it
 abbrev pub is_legal : List BookEntry → Bool

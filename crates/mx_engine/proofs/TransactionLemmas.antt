@@ -1,6 +1,6 @@
 -- A transaction that a caller has begun, and what is added to its book meanwhile.
 use Rattle.std.proofs.Common.{◌≡◌, ◌≢◌, ◌<◌, ℕ, length, set, get_or, Bool, true, false, cond, IsTrue, List, [], ◌∷◌, ◌++◌, append-nil, append_assoc, refl, sym, ◌∙◌, ap, subst, eq-eqb}
-use Rattle.std.specs.Prelude.{All, Some, Result, Ok, Err, IfOk, OnOk, OnErr, ◌==◌}
+use Rattle.std.specs.Prelude.{All, Option, None, Some, Result, Ok, Err, IfOk, OnOk, OnErr, ◌==◌}
 use Rattle.std.proofs.lemmas.Bool.{false≢true, and_parts, eqb-true}
 use Rattle.std.proofs.lemmas.List.Elements.{All-nil, filter-append}
 use Rattle.std.proofs.lemmas.List.{length-map, length-set, get_or-set_same}
@@ -8,7 +8,7 @@ use Rattle.mx_dock.specs.Journal.{IsPrefix, since, entries_of}
 use Rattle.mx_dock.proofs.ViewLemmas.{since-append, prefix_trans, entries_of-own}
 use Rattle.mx_keeper.specs.declared.refusals.CallError.{CallError}
 use Rattle.mx_book.specs.Transactions.{same}
-use Rattle.mx_book.specs.Journal.{transaction_of, hold_of, hold_after, Hold, free, begun, kept, begins, opening_of, follows, is_legal, is_legal_after, IsEnded}
+use Rattle.mx_book.specs.Journal.{transaction_of, last_of, hold_of, hold_after, Hold, free, begun, kept, begins, opening_of, follows, is_legal, is_legal_after, IsEnded}
 use Rattle.mx_book.specs.declared.transaction_keys.TransactionKey.{TransactionKey}
 use Rattle.mx_book.specs.declared.entries.BookEntry.{BookEntry}
 use Rattle.mx_book.specs.declared.entries.BookEntry.TheVariants.{Begun, Kept, GivenUp}
@@ -47,13 +47,19 @@ legal_rest : (earlier first rest : List BookEntry) → IsTrue (is_legal_after ea
 legal_rest earlier [] rest h = subst (λ js. IsTrue (is_legal_after js rest)) (sym (append-nil earlier)) h
 legal_rest earlier (e ∷ es) rest h =
     subst (λ js. IsTrue (is_legal_after js rest)) (append_assoc earlier (e ∷ []) es)
-    (legal_rest (earlier ++ e ∷ []) es rest (and_parts (follows (hold_of earlier (transaction_of e)) e) (is_legal_after (earlier ++ e ∷ []) (es ++ rest)) h).1)
+    (legal_rest (earlier ++ e ∷ []) es rest (and_parts (follows (last_of (transaction_of e) earlier) e) (is_legal_after (earlier ++ e ∷ []) (es ++ rest)) h).1)
+
+same_beginner : (m n : ℕ) → begun m ≡ begun n → m ≡ n
+same_beginner m n e = cc
 
 -- who may follow where this caller has begun the transaction is this caller
-ends_own : (caller : ℕ) (e : BookEntry) → follows (begun caller) e ≡ true → book_caller e ≡ caller
-ends_own caller (Begun key other) h = absurd (false≢true h)
-ends_own caller (Kept key other reply) h = sym (eqb-true caller other h)
-ends_own caller (GivenUp key other) h = sym (eqb-true caller other h)
+ends_own : (caller : ℕ) (last : Option BookEntry) (e : BookEntry) → hold_after last ≡ begun caller → follows last e ≡ true → book_caller e ≡ caller
+ends_own caller None e is h = absurd (let k : free ≡ begun caller = is in cc)
+ends_own caller (Some (Kept own beginner reply)) e is h = absurd (let k : kept reply ≡ begun caller = is in cc)
+ends_own caller (Some (GivenUp own beginner)) e is h = absurd (let k : free ≡ begun caller = is in cc)
+ends_own caller (Some (Begun own beginner)) (Begun key other) is h = absurd (false≢true h)
+ends_own caller (Some (Begun own beginner)) (Kept key other reply) is h = sym (eqb-true beginner other h) ∙ same_beginner beginner caller is
+ends_own caller (Some (Begun own beginner)) (GivenUp key other) is h = sym (eqb-true beginner other h) ∙ same_beginner beginner caller is
 
 not_own : (caller : ℕ) (e : BookEntry) (es : List BookEntry) → entries_of book_caller caller (e ∷ es) ≡ [] → book_caller e ≡ caller → ⊥
 not_own caller e es none is =
@@ -72,10 +78,10 @@ still : (caller : ℕ) (key : TransactionKey) (earlier rest : List BookEntry) �
     hold_of earlier key ≡ begun caller → hold_of (earlier ++ rest) key ≡ begun caller
 still caller key earlier [] legal none h = ap (λ js. hold_of js key) (append-nil earlier) ∙ h
 still caller key earlier (e ∷ es) legal none h =
-    let parts = and_parts (follows (hold_of earlier (transaction_of e)) e) (is_legal_after (earlier ++ e ∷ []) es) legal in
+    let parts = and_parts (follows (last_of (transaction_of e) earlier) e) (is_legal_after (earlier ++ e ∷ []) es) legal in
     let there : hold_of (earlier ++ e ∷ []) key ≡ begun caller =
     elim (same key (transaction_of e)) as (λ b. same key (transaction_of e) ≡ b → hold_of (earlier ++ e ∷ []) key ≡ begun caller) [
-      | true ↦ λ is. absurd (not_own caller e es none (ends_own caller e (ap (λ s. follows s e) (sym h ∙ ap (hold_of earlier) (same-eq key (transaction_of e) is)) ∙ parts.0)))
+      | true ↦ λ is. absurd (not_own caller e es none (ends_own caller (last_of (transaction_of e) earlier) e (sym (ap (hold_of earlier) (same-eq key (transaction_of e) is)) ∙ h) parts.0))
       | false ↦ λ is. hold_of-there earlier e key is ∙ h
     ] refl in
     ap (λ js. hold_of js key) (sym (append_assoc earlier (e ∷ []) es)) ∙ still caller key (earlier ++ e ∷ []) es parts.1 (later_none caller e es none) there

@@ -2,11 +2,11 @@ use Rattle.std.proofs.Common.{◌≡◌, ◌≤◌, ◌+◌, ◌++◌, ◌∷◌
 use Rattle.std.specs.Prelude.{is_some, vec_capacity}
 use Rattle.std.specs.BTreeMap.{btree_map_len}
 use Rattle.mx_keeper.specs.Places.{is_at}
-use Rattle.mx_book.specs.Journal.{hold_of, follows}
+use Rattle.mx_book.specs.Journal.{last_of, hold_of}
 use Rattle.mx_book.specs.declared.transaction_keys.TransactionKey.{TransactionKey}
 use Rattle.mx_book.specs.declared.entries.BookEntry.{BookEntry}
 use Rattle.mx_book.specs.declared.entries.BookEntry.TheVariants.{Begun}
-use Rattle.mx_book.proofs.IndexLemmas.{moved_by, indexed_begun, sound_with, at_most_one}
+use Rattle.mx_book.proofs.IndexLemmas.{moved_by, indexed_begun, sound_with, may_begin, at_most_one}
 use Rattle.mx_book.proofs.recording.record_beginning.Goals as goal
 
 pub returns-clause-indexed : goal.returns-clause-indexed
@@ -27,4 +27,4 @@ returns-clause-sound c =
     sound_with c.args.journal.now.items c.push_reserved.new.self.items c.args.place.now entry _ _ _ _
     (c.push_reserved.ensures.items ∙ ap (λ (xs : List BookEntry). xs ++ entry ∷ []) c.reserve.ensures.items)
     c.requires.sound (subst (λ (q : TransactionKey). IsTrue (is_at c.args.place.now q.origin)) (sym is) c.requires.here)
-    (ap (λ (q : TransactionKey). follows (hold_of c.args.journal.now.items q) entry) is ∙ ap (λ s. follows s entry) c.requires.free) room
+    (may_begin (last_of c.in_ok-own.own c.args.journal.now.items) c.in_ok-own.own c.args.caller (ap (hold_of c.args.journal.now.items) is ∙ c.requires.free)) room

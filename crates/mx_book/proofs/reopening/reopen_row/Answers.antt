@@ -2,7 +2,7 @@ use Rattle.std.proofs.Common.{◌≡◌, ◌++◌, ◌∷◌, [], List, Some, fa
 use Rattle.std.specs.BTreeMap.{get}
 use Rattle.mx_keeper.specs.Places.{is_at}
 use Rattle.mx_book.specs.Transactions.{transaction_cmp}
-use Rattle.mx_book.specs.Journal.{entry_of, follows, hold_of}
+use Rattle.mx_book.specs.Journal.{entry_of, follows, last_of}
 use Rattle.mx_book.specs.Inside.{IsMoved}
 use Rattle.mx_book.specs.declared.transaction_keys.TransactionKey.{TransactionKey}
 use Rattle.mx_book.specs.declared.entries.BookEntry.{BookEntry}
@@ -16,7 +16,7 @@ returns-then-contains_key-clause-storage c = λ _ rows later made.
     let key : TransactionKey = record { origin = c.args.row.origin; txn = c.args.row.txn } in
     let found = some-of (get transaction_cmp c.args.replies.now key) (sym c.contains_key.ensures ∙ c.if-contains_key.true) in
     repeated c.args.place.now rows later c.args.row
-    (subst (λ (js : List BookEntry). follows (hold_of js key) (entry_of c.args.row) ≡ false) made
+    (subst (λ (js : List BookEntry). follows (last_of key js) (entry_of c.args.row) ≡ false) made
     (twice c.args.place.now c.args.journal.now.items c.args.callers.now c.args.replies.now key c.args.row.reply c.requires found.0 found.1))
 
 pub returns-clause-made : goal.returns-clause-made
