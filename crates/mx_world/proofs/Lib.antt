@@ -17,3 +17,4 @@ pub mod ReopeningLemmas
 pub mod CrashLemmas
 pub mod StopLemmas
 pub mod OrderLemmas
+mod LossLemmas

@@ -4,7 +4,6 @@ use Rattle.std.proofs.Common.{◌≡◌, ℕ, Bool, true, false, cond, List, [],
 use Rattle.std.specs.Prelude.{bytes_eq, fold, filter, map}
 use Rattle.std.specs.Cmp.Lexicographic.{slice_cmp}
 use Rattle.std.specs.Ordering.{nat_cmp, match_ordering, ordering_reverse}
-use Rattle.std.proofs.lemmas.Bool.{false≢true}
 use Rattle.std.proofs.lemmas.Cmp.{nat_list_cmp_total, tied_back}
 use Rattle.std.proofs.lemmas.List.Elements.{filter-append}
 use Rattle.std.proofs.lemmas.Map.Lookups.{exact_bytes}
@@ -13,7 +12,7 @@ use Rattle.serde_json.specs.Data.{Data, Members, no_members, member, put}
 use Rattle.mx_pdu.specs.Event.{room_of}
 use Rattle.mx_room.specs.Offer.{Offered}
 use Rattle.mx_receipt.specs.Receipt.{Kept}
-use Rattle.mx_shard.specs.LoneRoom.{Call, to_offer, added, record_alone}
+use Rattle.mx_shard.specs.LoneRoom.{Call, to_offer, record_alone}
 use Rattle.mx_world.specs.Replies.{text_of, outcome_in, told_of}
 use Rattle.mx_world.specs.Orders.{after_offer, after_offers, told_in_turn, events_in, AgreeByRoom, IsApartFrom, AreApart}
 use Rattle.mx_world.specs.declared.answers.Told.{Told}

@@ -1,9 +1,13 @@
 // The events that replies call kept and that no shard has.
-ghost use Rattle.std.specs.Prelude.{◌≡◌, codes, option_map};
-ghost use Rattle.serde_json.specs.Data.{object};
+ghost use Rattle.std.specs.Prelude.{◌≡◌, ◌++◌, ◌∷◌, [], codes, get_or, option_map, IfOk, OnOk};
+ghost use Rattle.std.specs.List.{list_any};
+ghost use Rattle.serde_json.specs.Data.{object, member, no_members};
 ghost use Rattle.serde_json.specs.View.{view, members_view};
 ghost use Rattle.mx_redact.specs.Fields.{field, is_none_or};
+ghost use Rattle.mx_shard.specs.Journal.{has_id};
 ghost use Rattle.mx_world.specs.Losses as definition;
+ghost use Rattle.mx_world.specs.Losses.{not_held};
+ghost use Rattle.mx_world.specs.Worlds.{shard_journals, book_journals};
 
 use mx_book::{Book, BookEntry};
 use mx_ident::{EventId, IdError};
@@ -20,7 +24,9 @@ pub(crate) fn lost_of_book<K: Keeper<Row = ShardRow>, L: Keeper<Row = BookRow>>(
     shards: &[Shard<K>],
     books: &[Book<L>],
     number: usize,
-) -> Result<Vec<EventId>, AllocError> {
+) -> Result<Vec<EventId>, AllocError>
+    ensures { IfOk result (λ lost. lost.items ≡ not_held (shard_journals shards.now) (definition.ids_told (get_or (book_journals books.now) number []))) }
+{
     match books.get(number) {
         Some(book) => lost_by(alloc, shards, book.entries()),
         None => Ok(Vec::new(alloc)),
@@ -32,7 +38,9 @@ fn lost_by<K: Keeper<Row = ShardRow>>(
     alloc: Global,
     shards: &[Shard<K>],
     entries: &[BookEntry],
-) -> Result<Vec<EventId>, AllocError> {
+) -> Result<Vec<EventId>, AllocError>
+    ensures { IfOk result (λ lost. lost.items ≡ not_held (shard_journals shards.now) (definition.ids_told entries.now)) }
+{
     let mut lost = Vec::new(alloc);
     for entry in entries {
         add_lost_of(alloc, shards, entry, &mut lost)?;
@@ -45,7 +53,9 @@ fn add_lost_of<K: Keeper<Row = ShardRow>>(
     shards: &[Shard<K>],
     entry: &BookEntry,
     lost: &mut Vec<EventId>,
-) -> Result<(), AllocError> {
+) -> Result<(), AllocError>
+    ensures { OnOk result (lost.new.items ≡ lost.old.items ++ not_held (shard_journals shards.now) (definition.ids_by entry.now)) }
+{
     match entry {
         BookEntry::Kept(_, _, reply) => add_lost_by(alloc, shards, reply, lost),
         BookEntry::Begun(_, _) | BookEntry::GivenUp(_, _) => Ok(()),
@@ -57,7 +67,9 @@ fn add_lost_by<K: Keeper<Row = ShardRow>>(
     shards: &[Shard<K>],
     reply: &Reply,
     lost: &mut Vec<EventId>,
-) -> Result<(), AllocError> {
+) -> Result<(), AllocError>
+    ensures { OnOk result (lost.new.items ≡ lost.old.items ++ not_held (shard_journals shards.now) (definition.ids_of reply.now)) }
+{
     match Value::from_str(alloc, reply.as_str()) {
         Ok(value) => add_lost_in(alloc, shards, &value, lost),
         Err(error) => {
@@ -75,7 +87,9 @@ fn add_lost_in<K: Keeper<Row = ShardRow>>(
     shards: &[Shard<K>],
     reply: &Value,
     lost: &mut Vec<EventId>,
-) -> Result<(), AllocError> {
+) -> Result<(), AllocError>
+    ensures { OnOk result (lost.new.items ≡ lost.old.items ++ not_held (shard_journals shards.now) (definition.ids_under (definition.answers_in (view reply.now)))) }
+{
     match answers_in(reply) {
         Some(answers) => add_lost_among(alloc, shards, answers, lost),
         None => Ok(()),
@@ -97,7 +111,9 @@ fn add_lost_among<K: Keeper<Row = ShardRow>>(
     shards: &[Shard<K>],
     answers: &Map<String, Value>,
     lost: &mut Vec<EventId>,
-) -> Result<(), AllocError> {
+) -> Result<(), AllocError>
+    ensures { OnOk result (lost.new.items ≡ lost.old.items ++ not_held (shard_journals shards.now) (definition.kept_ids (members_view answers.now.entries))) }
+{
     for (id, answer) in answers.iter() {
         add_if_lost(alloc, shards, id, answer, lost)?;
     }
@@ -111,7 +127,9 @@ fn add_if_lost<K: Keeper<Row = ShardRow>>(
     id: &str,
     answer: &Value,
     lost: &mut Vec<EventId>,
-) -> Result<(), AllocError> {
+) -> Result<(), AllocError>
+    ensures { OnOk result (lost.new.items ≡ lost.old.items ++ not_held (shard_journals shards.now) (definition.kept_ids (member id.now (view answer.now) no_members))) }
+{
     if !says_kept(answer) {
         return Ok(());
     }
@@ -126,7 +144,9 @@ fn add_if_unheld<K: Keeper<Row = ShardRow>>(
     shards: &[Shard<K>],
     id: EventId,
     lost: &mut Vec<EventId>,
-) -> Result<(), AllocError> {
+) -> Result<(), AllocError>
+    ensures { OnOk result (lost.new.items ≡ lost.old.items ++ not_held (shard_journals shards.now) (id ∷ [])) }
+{
     if is_held(shards, &id) {
         return Ok(());
     }
@@ -135,7 +155,9 @@ fn add_if_unheld<K: Keeper<Row = ShardRow>>(
 }
 
 // Whether some shard has an event with this id.
-fn is_held<K: Keeper<Row = ShardRow>>(shards: &[Shard<K>], id: &EventId) -> bool {
+fn is_held<K: Keeper<Row = ShardRow>>(shards: &[Shard<K>], id: &EventId) -> bool
+    ensures { result ≡ list_any (λ shard. has_id shard.journal id.now) shards.now }
+{
     shards.iter().any(|shard| shard.holds(id))
 }
 

@@ -1,9 +1,10 @@
 // The server.
-ghost use Rattle.std.specs.Prelude.{◌≡◌, ◌++◌, ◌∷◌, ◌≤◌, ◌⊎◌, ℕ, List, [], Some, true, false, length, map, All, IfOk, OnOk, OnErr, IsTrue};
+ghost use Rattle.std.specs.Prelude.{◌≡◌, ◌++◌, ◌∷◌, ◌≤◌, ◌⊎◌, ℕ, List, [], Some, true, false, length, map, get_or, All, IfOk, OnOk, OnErr, IsTrue};
 ghost use Rattle.mx_shard.specs.LoneRoom.{to_ask, call_room};
 ghost use Rattle.mx_shard.specs.Shown.{IsAnswer};
 ghost use Rattle.mx_book.specs.Journal.{IsEnded};
 ghost use Rattle.mx_book.specs.declared.transaction_keys.TransactionKey.{TransactionKey};
+ghost use Rattle.mx_world.specs.Losses.{ids_told, not_held};
 ghost use Rattle.mx_world.specs.Calls.{Start, record_after};
 ghost use Rattle.mx_world.specs.Replies.{unopened, status_after, IsReply};
 ghost use Rattle.mx_world.specs.Moves.{RecordsMove, StatusesMove, after_abandon};
@@ -215,7 +216,9 @@ impl<K: Keeper<Row = ShardRow>, L: Keeper<Row = BookRow>> World<K, L> {
     /// again. `AllocError` where no memory is left. Each reply is read, and each event looked up in each shard.
     ///
     /// Source: the Matrix specification, Server-Server API, "Transactions", "PDU Processing Result".
-    pub fn lost_events(&self, alloc: Global, book: usize) -> Result<Vec<EventId>, AllocError> {
+    pub fn lost_events(&self, alloc: Global, book: usize) -> Result<Vec<EventId>, AllocError>
+        ensures { IfOk result (λ lost. lost.items ≡ not_held (shard_journals self.now.shards) (ids_told (get_or (book_journals self.now.books) book []))) }
+    {
         lost_of_book(alloc, &self.shards, &self.books, book)
     }
 
