@@ -1,6 +1,6 @@
 -- For proofs and private clauses alone.
 -- What is noted of an event before it is received, and what is told by it.
-use Rattle.std.specs.Prelude.{ℕ, List, Option, None, Some}
+use Rattle.std.specs.Prelude.{ℕ, List, [], ◌∷◌, Option, None, Some, length}
 use Rattle.mx_auth.specs.Rules.{Key, needed_keys}
 use Rattle.mx_auth.specs.declared.refusals.Rule.{Rule}
 use Rattle.mx_auth.specs.declared.versions.RoomVersion.{RoomVersion}
@@ -30,3 +30,8 @@ told_of CurrentState auth before current = current
 
 abbrev pub entries_before : RoomVersion → List Kept → ℕ → List (Key × Option ℕ)
 entries_before v kept p = entries_at (state_before kept p) (needed_keys v (kept_at kept p).event)
+
+-- those before the last event, if any
+abbrev pub last_entries : RoomVersion → List Kept → List (Key × Option ℕ)
+last_entries v [] = []
+last_entries v (k ∷ kept) = entries_before v (k ∷ kept) (length kept)

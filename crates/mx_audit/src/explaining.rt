@@ -1,14 +1,13 @@
 // Why an event is received as it is.
-ghost use Rattle.std.specs.Prelude.{◌≡◌, ◌↔◌, ◌++◌, ◌∷◌, [], ℕ, suc, IfOk, IsErrOf, None, OnErr, OnOk, Some, length};
+ghost use Rattle.std.specs.Prelude.{◌≡◌, ◌↔◌, IfOk, IsErrOf, None, OnErr, OnOk, Some, length};
 ghost use Rattle.mx_auth.specs.Rules.{needed_keys as needed_keys_of};
 ghost use Rattle.mx_graph.specs.Record as record_of;
 ghost use Rattle.mx_orders.specs.StateMap.{state_of};
 ghost use Rattle.mx_receipt.specs.Receipt as receipt;
-ghost use Rattle.mx_receipt.specs.Receipt.{Kept};
 ghost use Rattle.mx_receipt.specs.declared.refusals.NotReceived.{NotReceived as Cause};
 ghost use Rattle.mx_audit.specs.Explaining as definition;
 ghost use Rattle.mx_audit.specs.Explaining.{entries_at};
-ghost use Rattle.mx_audit.specs.Noting.{entries_before, failed_by, told_of};
+ghost use Rattle.mx_audit.specs.Noting.{failed_by, last_entries, told_of};
 
 use crate::asking::{AskedEntry, entries_of};
 use crate::auth_checks::{StateOfEvents, auth_events_of, auth_failure};
@@ -108,10 +107,9 @@ fn explained(
 ) -> Result<Explanation, AllocError>
     ensures number { IfOk result (λ told. told.number ≡ length timeline.old.kept) }
     ensures failed { IfOk result (λ told. told.failed ≡ failed_by noted.auth_failure verdict) }
-    ensures asked { IfOk result (λ told. (k : Kept) → timeline.old.prepared ≡ Some k
-        → told.asked.items ≡ told_of (definition.told_check (failed_by noted.auth_failure verdict))
+    ensures asked { IfOk result (λ told. told.asked.items ≡ told_of (definition.told_check (failed_by noted.auth_failure verdict))
         noted.by_auth_events.items
-        (entries_before (receipt.version_in (receipt.rows_of timeline.old.kept)) (timeline.old.kept ++ k ∷ []) (length timeline.old.kept))
+        (last_entries (receipt.version_in (receipt.rows_of timeline.old.kept)) (receipt.installed timeline.old.kept timeline.old.prepared))
         noted.by_current_state.items) }
     ensures stays { timeline.new ≡ timeline.old }
 {
@@ -170,23 +168,21 @@ fn told_check(failed: Option<FailedCheck>) -> Check
 
 // What stands in the state before the event that is prepared at the keys that the rules ask for.
 fn asked_before(alloc: Global, timeline: &mut Timeline) -> Result<Vec<AskedEntry>, AllocError>
-    ensures asked { IfOk result (λ asked. (k : Kept) → timeline.old.prepared ≡ Some k
-        → asked.items ≡ entries_before (receipt.version_in (receipt.rows_of timeline.old.kept))
-        (timeline.old.kept ++ k ∷ []) (length timeline.old.kept)) }
+    ensures asked { IfOk result (λ asked. asked.items ≡ last_entries (receipt.version_in (receipt.rows_of timeline.old.kept))
+        (receipt.installed timeline.old.kept timeline.old.prepared)) }
     ensures stays { timeline.new ≡ timeline.old }
 {
     let version = timeline.version();
     timeline.as_installed(|after| asked_at_last(alloc, version, after))
 }
 
-// What stands in the state before the last event at the keys that the rules of a version ask for.
+// What stands in the state before the last event, if any, at the keys that the rules of a version ask for.
 fn asked_at_last(
     alloc: Global,
     version: RoomVersion,
     timeline: &Timeline,
 ) -> Result<Vec<AskedEntry>, AllocError>
-    ensures { IfOk result (λ asked. (p : ℕ) → length timeline.now.kept ≡ suc p
-        → asked.items ≡ entries_before version timeline.now.kept p) }
+    ensures { IfOk result (λ asked. asked.items ≡ last_entries version timeline.now.kept) }
 {
     timeline_is_sound(timeline);
     if timeline.len() == 0 {
