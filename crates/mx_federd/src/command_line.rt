@@ -245,7 +245,9 @@ fn source_of(alloc: Global, given: &ArgMatches) -> Result<Option<AuditSource>, C
     let (name, shards) = (name_of(alloc, given)?, shards_of(given));
     match (directory, name, shards) {
         (None, Some(name), Some(shards)) => Ok(Some(AuditSource::Log { name, shards })),
-        (Some(directory), None, _) => Ok(Some(AuditSource::Directory(directory))),
+        (Some(directory), None, _) if !directory.is_empty() => {
+            Ok(Some(AuditSource::Directory(directory)))
+        }
         _ => Ok(None),
     }
 }

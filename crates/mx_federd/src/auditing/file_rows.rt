@@ -19,7 +19,10 @@ pub(crate) fn rows_of_directory(
     let mut all = Vec::new(alloc);
     for number in 0..MOST_PLACES {
         let path = format!(in alloc; "{directory}/shard-{number}.db")?;
-        if number > 0 && !is_there(host, &path)? {
+        if !is_there(host, &path)? {
+            if number == 0 {
+                return Err(Failure::ReadOrWrite);
+            }
             break;
         }
         add_rows(&mut all, rows_of_file(host, &path)?)?;
