@@ -1,8 +1,9 @@
 // The words of the command line.
+use crate::auditing::{AuditOptions, AuditQuestion, AuditSource};
 use clap::builder::ValueParser;
 use clap::error::ErrorKind;
 use clap::{Arg, ArgAction, ArgMatches, Error};
-use mx_ident::{IdError, ServerName};
+use mx_ident::{EventId, IdError, RoomId, ServerName};
 use mx_keeper::MOST_PLACES;
 use mx_server::{SeatCount, ServeOptions};
 use mx_wire::ShardCount;
@@ -20,6 +21,8 @@ pub(crate) enum Command {
     },
     // A server on loopback.
     Serve(ServeOptions),
+    // What became of the events of a room, and why.
+    Audit(AuditOptions),
 }
 
 /// Why the words ask for nothing.
@@ -52,7 +55,8 @@ pub(crate) fn parse(alloc: Global, words: &[String]) -> Result<Command, CommandL
         .subcommand_required(true)
         .subcommand(check_words(alloc))?
         .subcommand(replay_words(alloc)?)?
-        .subcommand(serve_words(alloc)?)?;
+        .subcommand(serve_words(alloc)?)?
+        .subcommand(audit_words(alloc)?)?;
     match program.try_get_matches_from(words) {
         Ok(matches) => chosen(alloc, &matches),
         Err(error) if error.kind() == ErrorKind::OutOfMemory => Err(CommandLineError::Memory),
@@ -137,11 +141,43 @@ fn serve_words<'a>(alloc: Global) -> Result<clap::Command<'a>, AllocError> {
         .arg(accept)
 }
 
+fn text_word<'a>(alloc: Global, name: &'a str) -> Arg<'a> {
+    Arg::new(alloc, name).long(name).action(ArgAction::Set)
+}
+
+fn audit_words<'a>(alloc: Global) -> Result<clap::Command<'a>, AllocError> {
+    let name = text_word(alloc, "name").help(
+        "The name of the server that answers the log on standard input, whose room is told of",
+    );
+    let data = text_word(alloc, "data").help(
+        "The directory of the files of a server that is stopped, in place of a log; they are only read",
+    );
+    let room = text_word(alloc, "room")
+        .required(true)
+        .help("The id of the room");
+    clap::Command::new(alloc, "audit")
+        .about(
+            "Tells of each event of a room why it was accepted or refused, and what its states are",
+        )
+        .arg(name)?
+        .arg(data)?
+        .arg(room)?
+        .arg(shards_word(alloc))?
+        .arg(text_word(alloc, "event").help("The id of the one event to tell of"))?
+        .arg(text_word(alloc, "state-before").help("The id of an event: the state before it"))?
+        .arg(text_word(alloc, "state-after").help("The id of an event: the state after it"))?
+        .arg(text_word(alloc, "resolution").help(
+            "The id of an event: how the states after its prev events were resolved",
+        ))?
+        .arg(flag_word(alloc, "dot").help("The room as a graph for Graphviz"))
+}
+
 fn chosen(alloc: Global, matches: &ArgMatches) -> Result<Command, CommandLineError> {
     match matches.subcommand() {
         Some(("check", _)) => Ok(Command::Check),
         Some(("replay", given)) => replay_of(alloc, given),
         Some(("serve", given)) => serve_of(alloc, given),
+        Some(("audit", given)) => audit_of(alloc, given),
         _ => misused(alloc, "no subcommand\n"),
     }
 }
@@ -168,6 +204,103 @@ fn serve_of(alloc: Global, given: &ArgMatches) -> Result<Command, CommandLineErr
     match options_of(alloc, given, name)? {
         Some(options) => Ok(Command::Serve(options)),
         None => misused(alloc, "a number is outside its limits\n"),
+    }
+}
+
+// `audit`, where it is told a room, where its events are, and at most one question.
+fn audit_of(alloc: Global, given: &ArgMatches) -> Result<Command, CommandLineError> {
+    let Some(room) = room_of(alloc, given)? else {
+        return misused(alloc, "the room is no room id\n");
+    };
+    let Some(source) = source_of(alloc, given)? else {
+        return misused(
+            alloc,
+            "either --name, a server name, or --data, a directory\n",
+        );
+    };
+    match question_of(alloc, given)? {
+        Some(question) => Ok(Command::Audit(AuditOptions {
+            source,
+            room,
+            question,
+        })),
+        None => misused(alloc, "at most one question, with an event id\n"),
+    }
+}
+
+fn room_of(alloc: Global, given: &ArgMatches) -> Result<Option<RoomId>, CommandLineError> {
+    let Some(room) = given.get_str("room") else {
+        return Ok(None);
+    };
+    match RoomId::parse(alloc, room) {
+        Ok(room) => Ok(Some(room)),
+        Err(IdError::Memory) => Err(CommandLineError::Memory),
+        Err(IdError::NotAnId(_)) => Ok(None),
+    }
+}
+
+// Where the events are, where that is told once.
+fn source_of(alloc: Global, given: &ArgMatches) -> Result<Option<AuditSource>, CommandLineError> {
+    let directory = text_of(alloc, given, "data")?;
+    let (name, shards) = (name_of(alloc, given)?, shards_of(given));
+    match (directory, name, shards) {
+        (None, Some(name), Some(shards)) => Ok(Some(AuditSource::Log { name, shards })),
+        (Some(directory), None, _) if !directory.is_empty() => {
+            Ok(Some(AuditSource::Directory(directory)))
+        }
+        _ => Ok(None),
+    }
+}
+
+// What is asked, where it is one thing.
+fn question_of(
+    alloc: Global,
+    given: &ArgMatches,
+) -> Result<Option<AuditQuestion>, CommandLineError> {
+    let words = ["event", "state-before", "state-after", "resolution"];
+    let asked = words
+        .iter()
+        .filter(|word| given.get_str(word).is_some())
+        .count();
+    match (asked, given.get_flag("dot")) {
+        (0, false) => Ok(Some(AuditQuestion::Events)),
+        (0, true) => Ok(Some(AuditQuestion::Picture)),
+        (1, false) => question_on_event(alloc, given),
+        _ => Ok(None),
+    }
+}
+
+// The question that is asked about an event.
+fn question_on_event(
+    alloc: Global,
+    given: &ArgMatches,
+) -> Result<Option<AuditQuestion>, CommandLineError> {
+    if let Some(id) = event_of(alloc, given, "event")? {
+        return Ok(Some(AuditQuestion::Event(id)));
+    }
+    if let Some(id) = event_of(alloc, given, "state-before")? {
+        return Ok(Some(AuditQuestion::StateBefore(id)));
+    }
+    if let Some(id) = event_of(alloc, given, "state-after")? {
+        return Ok(Some(AuditQuestion::StateAfter(id)));
+    }
+    let id = event_of(alloc, given, "resolution")?;
+    Ok(id.map(AuditQuestion::Resolution))
+}
+
+// The event id at a word, where it is one.
+fn event_of(
+    alloc: Global,
+    given: &ArgMatches,
+    word: &str,
+) -> Result<Option<EventId>, CommandLineError> {
+    let Some(id) = given.get_str(word) else {
+        return Ok(None);
+    };
+    match EventId::parse(alloc, id) {
+        Ok(id) => Ok(Some(id)),
+        Err(IdError::Memory) => Err(CommandLineError::Memory),
+        Err(IdError::NotAnId(_)) => Ok(None),
     }
 }
 

@@ -1,14 +1,17 @@
 //! `mx_federd`: a Matrix federation room server. `check` reads one event from standard input and prints its id,
 //! whether its content hash holds, and its canonical text. `replay` reads a log of steps and of other servers' requests
 //! from standard input and prints what a server answers to each. `serve` answers such requests on loopback, and keeps its
-//! rows in files.
+//! rows in files. `audit` tells of a room, of a log or of such files, why its events were accepted or refused, and what its
+//! states are.
 #![tactic(auto)]
 
+mod auditing;
 mod checking;
 mod command_line;
 mod output;
 mod replaying;
 
+use auditing::{AuditOptions, audit};
 use checking::check_event;
 use command_line::{Command, CommandLineError};
 use mx_server::{ServeOptions, serve};
@@ -32,9 +35,11 @@ pub enum Asked {
     Ended(u8),
     // To serve. Threads and sockets are what `main` alone has.
     Serve(ServeOptions),
+    // To audit a room. Its events may be in files, which `main` alone has.
+    Audit(AuditOptions),
 }
 
-/// Does what the words of the command line ask for, the first of which is the program's name, all but to serve. The exit
+/// Does what the words of the command line ask for, the first of which is the program's name, all but to serve and to audit. The exit
 /// status is 0, or 1 where the input is refused, memory runs out, storage fails, or a read or a write fails, or 2 where the
 /// command line is wrong. What went wrong is said on `err`, in one line but for the command line's own text.
 pub fn main_with<R: Read, W: Write, E: Write>(
@@ -50,6 +55,7 @@ pub fn main_with<R: Read, W: Write, E: Write>(
             Asked::Ended(status_of(replay(alloc, &name, shards, input, out), err))
         }
         Ok(Command::Serve(options)) => Asked::Serve(options),
+        Ok(Command::Audit(options)) => Asked::Audit(options),
         Err(CommandLineError::Memory) => Asked::Ended(report(Failure::Memory, err)),
         Err(CommandLineError::Misused(text)) => {
             let _ = err.write_all(text.as_bytes());
@@ -131,6 +137,7 @@ where
             Ok(()) => SUCCESS,
             Err(error) => report_server(error, err),
         },
+        Asked::Audit(options) => status_of(audit(host, options, input, out), err),
     }
 }
 

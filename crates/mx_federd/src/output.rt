@@ -6,6 +6,7 @@ ghost use Rattle.mx_redact.specs.Hashes.{hash_holds};
 ghost use Rattle.mx_federd.specs.Lines.{check_lines};
 
 use crate::checking::{CheckError, Checked};
+use mx_keeper::{CallError, KeeperFault};
 use mx_server::{ServerError, StartError};
 use mx_wire::{InputError, LinesError};
 use std::alloc::{AllocError, Global};
@@ -32,6 +33,10 @@ pub enum Failure {
     ReadOrWrite,
     #[error("thread")]
     Thread,
+    #[error("refused: no such room")]
+    NoRoom,
+    #[error("refused: no such event")]
+    NoEvent,
 }
 
 impl Failure {
@@ -43,6 +48,24 @@ impl Failure {
         match error.kind() {
             ErrorKind::OutOfMemory => Failure::Memory,
             _ => Failure::ReadOrWrite,
+        }
+    }
+}
+
+impl Failure {
+    /// Why what keeps rows did not give them.
+    pub fn of_keeper(fault: KeeperFault) -> Failure {
+        match fault {
+            KeeperFault::Memory => Failure::Memory,
+            KeeperFault::Store | KeeperFault::Table => Failure::Storage,
+        }
+    }
+
+    /// Why a step was refused.
+    pub fn of_call(error: CallError) -> Failure {
+        match error {
+            CallError::Memory => Failure::Memory,
+            CallError::Storage => Failure::Storage,
         }
     }
 }

@@ -1,0 +1,2 @@
+pub mod ExplainingLemmas
+pub mod StepLemmas

@@ -1,0 +1,103 @@
+// A room's events, each with why it was received as it was.
+ghost use Rattle.std.specs.Prelude.{◌≡◌, true, IfOk, OnOk};
+ghost use Rattle.mx_receipt.specs.Receipt.{begun, received};
+ghost use Rattle.mx_receipt.specs.TimelineView.{IsSoundCreate};
+
+use crate::audit_errors::AuditError;
+use crate::explaining::{Explanation, audited};
+use mx_auth::{RoomState, judge};
+use mx_graph::EventNo;
+use mx_ident::EventId;
+use mx_pdu::Pdu;
+use mx_receipt::{Timeline, created_version};
+use std::alloc::Global;
+use std::marker::Model;
+
+/// The events of a room in the order of their arrival, each with why it was received as it was.
+#[derive(Debug, Drop)]
+pub struct RoomAudit {
+    timeline: Timeline,
+    // Of each event but the first, in their order.
+    explanations: Vec<Explanation>,
+}
+
+impl Model for RoomAudit {
+    ghost use Rattle.std.specs.Prelude.{List};
+    ghost use Rattle.mx_receipt.specs.KeptCode.{record_code};
+    ghost use Rattle.mx_receipt.specs.Receipt.{Kept};
+
+    ghost Value = { List Kept };
+
+    ghost coded = { record_code };
+
+    ghost view = { λ audit. audit.timeline.kept };
+}
+
+// The state of a room that has no event.
+#[derive(Clone, Copy, Debug)]
+struct NoState;
+
+impl RoomState for NoState {
+    ghost use Rattle.std.specs.Prelude.{[]};
+    ghost use Rattle.mx_orders.specs.StateMap.{view};
+
+    ghost state = { λ _. view [] [] };
+
+    fn create_id(&self) -> Option<&EventId> {
+        None
+    }
+
+    fn entry(&self, _kind: &str, _key: &str) -> Option<&Pdu> {
+        None
+    }
+}
+
+impl RoomAudit {
+    /// The audit of a room that has its create event alone.
+    ///
+    /// `NotACreateEvent` where the event makes no room, and `Memory`.
+    pub fn begin(alloc: Global, event: Pdu, id: EventId) -> Result<RoomAudit, AuditError>
+        ensures { IfOk result (λ audit. audit ≡ begun id event) }
+    {
+        if !is_sound_create(&event) {
+            return Err(AuditError::NotACreateEvent);
+        }
+        let timeline = Timeline::begin(alloc, event, id)?;
+        Ok(RoomAudit {
+            timeline,
+            explanations: Vec::new(alloc),
+        })
+    }
+
+    /// Receives the room's next event. The errors are those of [`audited`]; after one the audit is not to be used.
+    pub fn receive(&mut self, alloc: Global, event: Pdu, id: EventId) -> Result<(), AuditError>
+        ensures { OnOk result (self.new ≡ received self.old (id, event)) }
+    {
+        let explanation = audited(alloc, &mut self.timeline, event, id)?;
+        self.explanations.push(explanation)?;
+        Ok(())
+    }
+
+    /// The events under their verdicts.
+    pub fn timeline(&self) -> &Timeline
+        ensures { result.now.kept ≡ self.now }
+    {
+        &self.timeline
+    }
+
+    /// Why the event with this number was received as it was; none for the create event, which begins the room.
+    pub fn explanation(&self, number: EventNo) -> Option<&Explanation> {
+        let place = number.index().checked_sub(1)?;
+        self.explanations.get(place)
+    }
+}
+
+// Whether an event is a create event that the rules allow and that cites no auth event.
+fn is_sound_create(event: &Pdu) -> bool
+    ensures { result ≡ true → IsSoundCreate event.now }
+{
+    event.kind() == "m.room.create"
+        && event.state_key() == Some("")
+        && event.auth_events().is_empty()
+        && judge(created_version(event), event, &NoState).is_ok()
+}

@@ -1,0 +1,109 @@
+// `audit`: why the events of a room were received as they were, and what its states are.
+mod file_rows;
+mod log_rows;
+mod log_steps;
+mod telling;
+
+use crate::auditing::file_rows::rows_of_directory;
+use crate::auditing::log_rows::rows_of_log;
+use crate::auditing::telling::tell;
+use crate::output::{Failure, flushed};
+use mx_audit::{AuditError, RoomAudit};
+use mx_ident::{EventId, RoomId, ServerName};
+use mx_keeper::ShardRow;
+use mx_wire::ShardCount;
+use std::alloc::Global;
+use std::io::{BufWriter, Read, Write};
+
+/// What is asked of a room.
+#[derive(Debug, Drop)]
+pub enum AuditQuestion {
+    // A line for each event.
+    Events,
+    // The line of one event.
+    Event(EventId),
+    // A line for each entry of the state before an event.
+    StateBefore(EventId),
+    // A line for each entry of the state after an event.
+    StateAfter(EventId),
+    // How the state before an event was resolved.
+    Resolution(EventId),
+    // The room as a graph for Graphviz.
+    Picture,
+}
+
+/// Where the events of a room are.
+#[derive(Debug, Drop)]
+pub enum AuditSource {
+    // A log on standard input, answered by a server of this name over so many shards.
+    Log {
+        name: ServerName,
+        shards: ShardCount,
+    },
+    // The files of a server that is stopped, in this directory.
+    Directory(String),
+}
+
+/// What `audit` is asked.
+#[derive(Debug, Drop)]
+pub struct AuditOptions {
+    pub source: AuditSource,
+    pub room: RoomId,
+    pub question: AuditQuestion,
+}
+
+/// Answers what is asked of a room. The log is read only where the events are in one.
+pub fn audit<R: Read, W: Write>(
+    host: &HostRuntime,
+    options: AuditOptions,
+    log: &mut R,
+    out: &mut W,
+) -> Result<(), Failure> {
+    let AuditOptions {
+        source,
+        room,
+        question,
+    } = options;
+    let alloc = host.alloc();
+    let rows = match source {
+        AuditSource::Log { name, shards } => rows_of_log(alloc, name, shards, log)?,
+        AuditSource::Directory(directory) => rows_of_directory(host, &directory)?,
+    };
+    let audit = audit_of(alloc, &room, rows)?;
+    let mut lines = BufWriter::new(alloc, out).map_err(Failure::of_io)?;
+    tell(alloc, &audit, &question, &mut lines)?;
+    flushed(&mut lines)
+}
+
+// The audit of the events of a room among these rows.
+fn audit_of(alloc: Global, room: &RoomId, rows: Vec<ShardRow>) -> Result<RoomAudit, Failure> {
+    let mut audit = None;
+    for row in rows {
+        if &row.room == room {
+            receive_row(alloc, &mut audit, row)?;
+        }
+    }
+    audit.ok_or(Failure::NoRoom)
+}
+
+// Receives the event of a row, the first of which begins the room.
+fn receive_row(alloc: Global, audit: &mut Option<RoomAudit>, row: ShardRow) -> Result<(), Failure> {
+    let id = row.event.event_id(alloc)?;
+    match audit {
+        Some(audit) => audit.receive(alloc, row.event, id).map_err(of_audit),
+        None => {
+            let begun = RoomAudit::begin(alloc, row.event, id).map_err(of_audit)?;
+            *audit = Some(begun);
+            Ok(())
+        }
+    }
+}
+
+// Rows that are no room's are no rows.
+fn of_audit(error: AuditError) -> Failure {
+    match error {
+        AuditError::Memory => Failure::Memory,
+        AuditError::NotACreateEvent => Failure::Storage,
+        AuditError::NotReceived(_) => Failure::Storage,
+    }
+}
