@@ -2,11 +2,13 @@
 use denote.RattleType.{RattleType}
 use denote.Param.Send.{IsSend, IsSync, sendable}
 use denote.Param.SendFields.{declared_send, declared_sync}
-use Rattle.std.proofs.Crossing.{Box-send, Vec-send, Vec-sync}
+use Rattle.std.proofs.Crossing.{Box-send, Vec-send, Vec-sync, Deque-send, crosses}
 use Rattle.mx_keeper.specs.declared.keepers.Keeper.{Ghosts}
 use Rattle.mx_keeper.specs.declared.rows.ShardRow.{ShardRow}
 use Rattle.mx_keeper.specs.declared.rows.BookRow.{BookRow}
 use Rattle.mx_keeper.proofs.caller.Caller.TheSendSync as caller
+use Rattle.mx_keeper.proofs.places.Place.TheSendSync as place
+use Rattle.mx_world.proofs.answers.Told.TheSendSync as told
 use Rattle.mx_dock.proofs.berths.Berth.TheSendSync as berth
 use Rattle.mx_dock.proofs.docks.Dock.TheSendSync as dock
 use Rattle.crossbeam_utils.proofs.cache_padded.CachePadded.TheSendSync as padded
@@ -17,6 +19,8 @@ use Rattle.mx_engine.specs.contracts.docked.DockedBook as docked_book
 use Rattle.mx_engine.specs.contracts.docked.DockedShardJournaled.TheImpl as shard_journaled
 use Rattle.mx_engine.specs.contracts.docked.DockedBookJournaled.TheImpl as book_journaled
 use Rattle.mx_engine.specs.contracts.seats.Seat as seat
+use Rattle.mx_engine.specs.contracts.lanes.Lane as lane
+use Rattle.mx_engine.proofs.lanes.Fault.TheSendSync as fault
 use Rattle.mx_engine.specs.contracts.engines.Engine as engine
 use Rattle.mx_engine.proofs.Sending.{shard_send, book_send}
 
@@ -35,6 +39,15 @@ seat_send K L g h k l = declared_send (seat.the_type K L g h) (
       Vec-send _ (berth.the_send (docked_book.the_row L h) book_entry.the_row (docked_book_send L h l)),
       (Vec-send _ (shard_send K g k), (Vec-send _ (book_send L h l), tt)),
     ),
+  ),
+)
+
+pub lane_send : (K : RattleType) (g : Ghosts K.Denot ShardRow) → IsSend K → IsSend (lane.the_row K g)
+lane_send K g k = declared_send (lane.the_type K g) (
+  place.the_send,
+  (
+    berth.the_send (docked_shard.the_row K g) shard_entry.the_row (docked_shard_send K g k),
+    (search sendable depth 20, (Deque-send _ told.the_send, (search (fault.the_send, crosses, sendable) depth 20, tt))),
   ),
 )
 

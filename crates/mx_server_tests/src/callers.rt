@@ -32,7 +32,7 @@ pub struct Caller {
 }
 
 // Does a turn through a seat, and gives the reply to what it sends.
-fn do_turn<R: Wait>(
+fn do_turn<R: Threads + Wait + Sync>(
     rt: &R,
     alloc: Global,
     engine: &TestEngine,
@@ -54,7 +54,12 @@ fn do_turn<R: Wait>(
 }
 
 // Does a caller's next turn.
-fn take_turn<R: Wait>(rt: &R, alloc: Global, engine: &TestEngine, caller: &mut Caller)
+fn take_turn<R: Threads + Wait + Sync>(
+    rt: &R,
+    alloc: Global,
+    engine: &TestEngine,
+    caller: &mut Caller,
+)
     requires { IsSeatOf engine.now caller.old.seat }
     ensures mine { IsSeatOf engine.now caller.new.seat }
     ensures number { seat_number caller.new.seat ≡ seat_number caller.old.seat }

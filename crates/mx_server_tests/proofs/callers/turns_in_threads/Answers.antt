@@ -62,10 +62,10 @@ caller_send : IsSend caller.the_row
 caller_send = declared_send caller.the_type (seat_send (memory_keeper.the_row shard_row.the_row) (memory_keeper.the_row book_row.the_row) of_events of_replies rooms_send replies_send, (Vec-send _ turn_send, (search (crosses, reply.the_send, sendable) depth 20, tt)))
 
 meeting_sync : IsSync meeting.the_row
-meeting_sync = declared_sync meeting.the_type (atomic.the_sync, (atomic.the_sync, (atomic.the_sync, (atomic.the_sync, tt))))
+meeting_sync = declared_sync meeting.the_type (atomic.the_sync, (atomic.the_sync, (atomic.the_sync, (atomic.the_sync, (atomic.the_sync, tt)))))
 
 meeting_send : IsSend meeting.the_row
-meeting_send = declared_send meeting.the_type (atomic.the_send, (atomic.the_send, (atomic.the_send, (atomic.the_send, tt))))
+meeting_send = declared_send meeting.the_type (atomic.the_send, (atomic.the_send, (atomic.the_send, (atomic.the_send, (atomic.the_send, tt)))))
 
 gate_sync : IsSync gate.the_row
 gate_sync = declared_sync gate.the_type (search (meeting_sync, meeting_send, crosses, sendable) depth 20, tt)

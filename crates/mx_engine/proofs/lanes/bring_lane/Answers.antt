@@ -1,0 +1,17 @@
+use Rattle.std.proofs.Common.{◌≡◌, ◌<◌, ◌+◌, ◌∷◌, [], ◌++◌, length, refl, sym, ◌∙◌, ap, subst, arith}
+use Rattle.std.specs.List.{swap}
+use Rattle.std.proofs.lemmas.List.{length-append}
+use Rattle.mx_engine.specs.Lanes.{moved, AreMoves}
+use Rattle.mx_engine.proofs.MoveLemmas.{moved-snoc, moves-snoc}
+use Rattle.mx_engine.proofs.lanes.bring_lane.Goals as goal
+
+pub returns-clause-lanes : goal.returns-clause-lanes
+returns-clause-lanes g c = λ first is.
+    c.swap.ensures.items ∙ ap (λ xs. swap xs (length c.args.moves.now.items) c.args.number) is
+    ∙ sym (moved-snoc 0 c.args.moves.now.items c.args.number first)
+    ∙ sym (ap (λ ms. moved 0 ms first) c.push_reserved.ensures.items)
+
+pub returns-clause-within : goal.returns-clause-within
+returns-clause-within g c = λ are.
+    subst (AreMoves (length c.args.lanes.now.items) 0) (sym c.push_reserved.ensures.items)
+    (moves-snoc (length c.args.lanes.now.items) 0 c.args.moves.now.items c.args.number are (omega (arith, c.requires.few, c.requires.number)) c.requires.number)
