@@ -104,3 +104,6 @@ moves_at count k (n ∷ ns) (suc i) d are l = let h = moves_at count (k + 1) ns 
 pub unmoved-more : {A : Type 0} (ns : List ℕ) (k n : ℕ) (first between : List A) → k < length ns → n ≡ get_or ns k n → between ≡ unmoved (k + 1) (drop (k + 1) ns) first → swap between k n ≡ unmoved k (drop k ns) first
 unmoved-more ns k n first between l is so_far =
     ap (λ xs. swap xs k n) so_far ∙ ap (λ ms. unmoved k ms first) (sym (drop_more ns k n l ∙ ap (λ m. m ∷ drop (k + 1) ns) (sym is)))
+
+pub moved-last : {A : Type 0} (ns : List ℕ) (n : ℕ) (xs : List A) → moved 0 (ns ++ n ∷ []) xs ≡ swap (moved 0 ns xs) (length ns) n
+moved-last ns n xs = moved-snoc 0 ns n xs ∙ ap (λ m. swap (moved 0 ns xs) m n) (let e : 0 + length ns ≡ length ns = omega arith in e)

@@ -121,9 +121,12 @@ fn run_lane<R: Wait, K: Keeper<Row = ShardRow>, G: Gate>(
     }
     for place in 0..events.len() {
         let offered = &events[place];
-        if let Err(error) = offer_in_lane(rt, gate, docks, sender, offered, lane) {
-            lane.fault = Some(Fault { place, error });
-            return;
+        match offer_in_lane(rt, gate, docks, sender, offered, lane) {
+            Ok(()) => {}
+            Err(error) => {
+                lane.fault = Some(Fault { place, error });
+                return;
+            }
         }
     }
 }

@@ -1,5 +1,6 @@
 // Callers of an engine, each in a thread of its own.
 ghost use Rattle.std.specs.Prelude.{◌≡◌, ◌<◌, ℕ, All, IfOk, length, get_or, map};
+ghost use denote.Param.Send.{IsSync};
 ghost use Rattle.mx_engine.specs.Seats.{IsSeatOf, seat_number};
 ghost use Rattle.mx_server_tests.specs.Callers.{AreTheSeats};
 
@@ -86,7 +87,7 @@ fn turns_in_threads<R: Threads + Wait + Sync>(
         callers,
         4,
         &|place, caller|
-            requires { IsSeatOf engine.now caller.old.seat }
+            requires { IsSync R.row × IsSeatOf engine.now caller.old.seat }
             ensures { IsSeatOf engine.entry.now caller.new.seat × (seat_number caller.new.seat ≡ seat_number caller.old.seat) }
         {
             meeting.before(place);

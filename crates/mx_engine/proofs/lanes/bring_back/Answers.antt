@@ -6,21 +6,25 @@ use Rattle.mx_engine.proofs.MoveLemmas.{moves_at, unmoved-more, length-unmoved}
 use Rattle.mx_engine.proofs.lanes.bring_back.Goals as goal
 
 pub loop-done-init : goal.loop-done-init
-loop-done-init g c = sym (ap (λ ms. unmoved (length c.args.moves.now) ms c.args.lanes.now.items) (drop_all (length c.args.moves.now) c.args.moves.now (omega arith)))
+loop-done-init g c =
+    let whole : length c.args.moves.now ≡ length c.args.moves.now - 0 = omega arith in
+    subst (λ m. c.args.lanes.now.items ≡ unmoved m (drop m c.args.moves.now) c.args.lanes.now.items) whole
+    (sym (ap (λ ms. unmoved (length c.args.moves.now) ms c.args.lanes.now.items) (drop_all (length c.args.moves.now) c.args.moves.now (omega arith))))
 
 pub swap-requires-clause-i_in_bounds : goal.swap-requires-clause-i_in_bounds
 swap-requires-clause-i_in_bounds g c =
     let k = length c.args.moves.now - 1 - c.loop-done.done in
     let l : k < length c.args.moves.now = omega (arith, c.loop-done-test.true) in
     let long = ap length c.loop-done.invariant ∙ length-unmoved (length c.args.moves.now - c.loop-done.done) (drop (length c.args.moves.now - c.loop-done.done) c.args.moves.now) c.args.lanes.now.items in
-    subst (λ n. k < n) (sym long) (moves_at (length c.args.lanes.now.items) 0 c.args.moves.now k 0 c.requires l).0
+    let h = (moves_at (length c.args.lanes.now.items) 0 c.args.moves.now k 0 c.requires l).0 in
+    subst (λ n. k < n) (sym long) (omega (arith, h))
 
 pub swap-requires-clause-j_in_bounds : goal.swap-requires-clause-j_in_bounds
 swap-requires-clause-j_in_bounds g c =
     let k = length c.args.moves.now - 1 - c.loop-done.done in
     let l : k < length c.args.moves.now = omega (arith, c.loop-done-test.true) in
     let long = ap length c.loop-done.invariant ∙ length-unmoved (length c.args.moves.now - c.loop-done.done) (drop (length c.args.moves.now - c.loop-done.done) c.args.moves.now) c.args.lanes.now.items in
-    subst (λ n. c.index-moves-last.result < n) (sym long) (subst (λ m. m < length c.args.lanes.now.items) (sym c.index-moves-last.is) (moves_at (length c.args.lanes.now.items) 0 c.args.moves.now k c.index-moves-last.result c.requires l).1)
+    subst (λ n. c.swap-arg-1.result < n) (sym long) (subst (λ m. m < length c.args.lanes.now.items) (sym c.swap-arg-1.is) (moves_at (length c.args.lanes.now.items) 0 c.args.moves.now k c.swap-arg-1.result c.requires l).1)
 
 pub loop-done-preserved : goal.loop-done-preserved
 loop-done-preserved g c =
@@ -29,7 +33,7 @@ loop-done-preserved g c =
     let next : length c.args.moves.now - c.loop-done.done ≡ k + 1 = omega (arith, c.loop-done-test.true) in
     let here : length c.args.moves.now - (c.loop-done.done + 1) ≡ k = omega (arith, c.loop-done-test.true) in
     subst (λ m. c.swap.new.self.items ≡ unmoved m (drop m c.args.moves.now) c.args.lanes.now.items) (sym here)
-    (c.swap.ensures.items ∙ unmoved-more c.args.moves.now k c.index-moves-last.result c.args.lanes.now.items c.loop-done.lanes.items l c.index-moves-last.is
+    (c.swap.ensures.items ∙ unmoved-more c.args.moves.now k c.swap-arg-1.result c.args.lanes.now.items c.loop-done.lanes.items l c.swap-arg-1.is
     (subst (λ m. c.loop-done.lanes.items ≡ unmoved m (drop m c.args.moves.now) c.args.lanes.now.items) next c.loop-done.invariant))
 
 pub returns : goal.returns

@@ -1,14 +1,13 @@
-use Rattle.std.proofs.Common.{◌≡◌, ◌<◌, ◌+◌, ◌∷◌, [], ◌++◌, length, refl, sym, ◌∙◌, ap, subst, arith}
+use Rattle.std.proofs.Common.{◌≡◌, ◌<◌, ◌+◌, ◌∷◌, [], ◌++◌, length, sym, ◌∙◌, ap, subst, arith}
 use Rattle.std.specs.List.{swap}
-use Rattle.std.proofs.lemmas.List.{length-append}
 use Rattle.mx_engine.specs.Lanes.{moved, AreMoves}
-use Rattle.mx_engine.proofs.MoveLemmas.{moved-snoc, moves-snoc}
+use Rattle.mx_engine.proofs.MoveLemmas.{moved-last, moves-snoc}
 use Rattle.mx_engine.proofs.lanes.bring_lane.Goals as goal
 
 pub returns-clause-lanes : goal.returns-clause-lanes
 returns-clause-lanes g c = λ first is.
     c.swap.ensures.items ∙ ap (λ xs. swap xs (length c.args.moves.now.items) c.args.number) is
-    ∙ sym (moved-snoc 0 c.args.moves.now.items c.args.number first)
+    ∙ sym (moved-last c.args.moves.now.items c.args.number first)
     ∙ sym (ap (λ ms. moved 0 ms first) c.push_reserved.ensures.items)
 
 pub returns-clause-within : goal.returns-clause-within

@@ -5,10 +5,10 @@ use Rattle.mx_engine.proofs.ToldLemmas.{idle_more, idle_all}
 use Rattle.mx_engine.proofs.lanes.busy_docks.Goals as goal
 
 pub loop-offered-init : goal.loop-offered-init
-loop-offered-init g c = record { long = refl; idle = λ n l is. refl }
+loop-offered-init c = record { long = refl; idle = λ n l is. refl }
 
 pub loop-offered-preserved : goal.loop-offered-preserved
-loop-offered-preserved g c =
+loop-offered-preserved c =
     let i = c.loop-offered.invariant in
     let n = c.number.result in
     let within : n < length c.loop-offered.busy = omega (arith, i.long, c.requires.few, c.number.ensures.within, c.of-place.ensures.count) in
@@ -19,4 +19,4 @@ loop-offered-preserved g c =
     }
 
 pub returns : goal.returns
-returns g c = idle_all c.args.count c.loop-offered.offered-index c.args.events.now c.loop-offered.busy c.loop-offered-test.false c.loop-offered.invariant.idle
+returns c = idle_all c.args.count c.loop-offered.offered-index c.args.events.now c.loop-offered.busy c.loop-offered-test.false c.loop-offered.invariant.idle

@@ -3,7 +3,7 @@ use Rattle.mx_engine.proofs.ToldLemmas.{AreIdle}
 use Rattle.mx_engine.proofs.lanes.busy_docks.Given as goal
 
 abbrev pub invariant-loop-offered : goal.invariant-loop-offered
-invariant-loop-offered g l = record {
+invariant-loop-offered l = record {
   long : length l.busy ≡ 64;
   idle : AreIdle l.fn.count (take l.offered-index l.fn.events) l.busy;
 }

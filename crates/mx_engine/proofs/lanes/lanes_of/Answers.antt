@@ -16,9 +16,13 @@ loop-berth-init g c = record {
   room = refl;
 }
 
-pub new-requires-clause-number : goal.new-requires-clause-number
-new-requires-clause-number g c =
-    next-within c.args.berths.items (length c.loop-berth.lanes.items) c.in-Some.berth c.next.new.self.rest.items (sym c.in-Some.ensures.steps.0 ∙ c.loop-berth.invariant.left)
+pub new-requires-clause-within : goal.new-requires-clause-within
+new-requires-clause-within g c =
+    let l = next-within c.args.berths.items (length c.loop-berth.lanes.items) c.in-Some.berth c.next.new.self.rest.items (sym c.in-Some.ensures.steps.0 ∙ c.loop-berth.invariant.left) in
+    omega (arith, l, c.len-number.ensures, c.len-count.ensures, c.loop-berth.lanes.ok.0, c.args.berths.ok.0)
+
+pub new-requires-clause-few : goal.new-requires-clause-few
+new-requires-clause-few g c = omega (arith, c.requires.few, c.len-count.ensures, c.args.berths.ok.0)
 
 pub loop-berth-preserved : goal.loop-berth-preserved
 loop-berth-preserved g c =
@@ -35,7 +39,7 @@ loop-berth-preserved g c =
       each = λ n d b l. subst (λ ls. IsFresh n (length c.args.berths.items) (get_or c.args.busy.now n true) (get_or c.args.berths.items n b) (get_or ls n d)) (sym items)
           (row-more (λ m (lane : Lane g.row.K.Denot). IsFresh m (length c.args.berths.items) (get_or c.args.busy.now m true) (get_or c.args.berths.items m b) lane) at c.loop-berth.lanes.items _ refl (λ m e k. i.each m e b k)
           (record {
-            placed = λ j. record { number = c.new.ensures.number j; count = c.new.ensures.count j };
+            placed = λ j. record { number = (c.new.ensures.number ∙ c.len-number.ensures ∙ c.loop-berth.lanes.ok.0) j; count = (c.new.ensures.count ∙ c.len-count.ensures ∙ c.args.berths.ok.0) j };
             berth_is = sym (next-is c.args.berths.items at berth rest step b);
             busy = c.index-busy-number.is;
             untold = c.new-told.ensures.items;
@@ -47,7 +51,7 @@ loop-berth-preserved g c =
 pub returns : goal.returns
 returns g c =
     let i = c.loop-berth.invariant in
-    let all : length c.args.berths.items ≤ length c.loop-berth.lanes.items = none-left c.args.berths.items c.loop-berth.berth-iterator.rest.items (length c.loop-berth.lanes.items) i.left (ap length c.in-None.ensures.steps.0) in
+    let all : length c.args.berths.items ≤ length c.loop-berth.lanes.items = none-left c.args.berths.items c.loop-berth.berth-iterator.rest.items (length c.loop-berth.lanes.items) i.left (omega (arith, c.loop-berth.berth-iterator.rest.ok.0, c.in-None.ensures.steps.0)) in
     record {
       count = omega (arith, all, i.within);
       each = λ n d b l. i.each n d b (omega (arith, all, l));

@@ -1,5 +1,5 @@
-use Rattle.std.proofs.Common.{◌≡◌, ◌<◌, ◌≤◌, ◌++◌, ◌∷◌, [], length, map, map-append, append_assoc, append-nil, refl, sym, ◌∙◌, ap, subst, vec_capacity}
-use Rattle.std.proofs.lemmas.List.{length-map}
+use Rattle.std.proofs.Common.{◌≡◌, ◌<◌, ◌≤◌, ◌++◌, ◌∷◌, [], length, map, append_assoc, append-nil, refl, sym, ◌∙◌, ap, subst, arith, vec_capacity}
+use Rattle.std.proofs.lemmas.List.{length-map, map-append, nil_from_length}
 use Rattle.mx_engine.specs.Lanes.{berths_of, told_of_lanes}
 use Rattle.mx_engine.specs.declared.lanes.Lane.{Lane}
 use Rattle.mx_engine.proofs.RowLemmas.{next-fits}
@@ -18,16 +18,18 @@ pub push_reserved-requires : goal.push_reserved-requires
 push_reserved-requires g c =
     let i = c.loop-lane.invariant in
     let lane : Lane g.row.K.Denot = c.in-Some.lane in
-    next-fits (λ (x : Lane g.row.K.Denot). x.berth) c.args.lanes.items c.loop-lane.yielded c.next.new.self.rest.items lane c.loop-lane.berths.items (vec_capacity c.loop-lane.berths)
-    (i.split ∙ ap (λ ls. c.loop-lane.yielded ++ ls) c.in-Some.ensures.steps.0) i.berths (subst (λ n. length c.args.lanes.items ≤ n) (sym i.room) c.requires.room)
+    let fits : length c.loop-lane.berths.items < vec_capacity c.loop-lane.berths = next-fits (λ (x : Lane g.row.K.Denot). x.berth) c.args.lanes.items c.loop-lane.yielded c.next.new.self.rest.items lane c.loop-lane.berths.items (vec_capacity c.loop-lane.berths)
+    (i.split ∙ ap (λ ls. c.loop-lane.yielded ++ ls) c.in-Some.ensures.steps.0) i.berths (subst (λ n. length c.args.lanes.items ≤ n) (sym i.room) c.requires.room) in
+    omega (arith, fits, c.loop-lane.berths.ok.0)
 
-pub push_reserved-requires-2 : goal.push_reserved-requires-2
-push_reserved-requires-2 g c =
+pub push_reserved-requires-in-loop-lane : goal.push_reserved-requires-in-loop-lane
+push_reserved-requires-in-loop-lane g c =
     let i = c.loop-lane.invariant in
     let lane : Lane g.row.K.Denot = c.in-Some.lane in
-    subst (λ n. n < vec_capacity c.loop-lane.told) (length-map c.loop-lane.told.items (λ q. q.items))
-    (next-fits (λ (x : Lane g.row.K.Denot). x.told.items) c.args.lanes.items c.loop-lane.yielded c.next.new.self.rest.items lane (map (λ q. q.items) c.loop-lane.told.items) (vec_capacity c.loop-lane.told)
-    (i.split ∙ ap (λ ls. c.loop-lane.yielded ++ ls) c.in-Some.ensures.steps.0) i.told (subst (λ n. length c.args.lanes.items ≤ n) (sym i.told_room) c.requires.told_room))
+    let fits : length (map (λ q. q.items) c.loop-lane.told.items) < vec_capacity c.loop-lane.told =
+    next-fits (λ (x : Lane g.row.K.Denot). x.told.items) c.args.lanes.items c.loop-lane.yielded c.next.new.self.rest.items lane (map (λ q. q.items) c.loop-lane.told.items) (vec_capacity c.loop-lane.told)
+    (i.split ∙ ap (λ ls. c.loop-lane.yielded ++ ls) c.in-Some.ensures.steps.0) i.told (subst (λ n. length c.args.lanes.items ≤ n) (sym i.told_room) c.requires.told_room) in
+    omega (arith, fits, length-map c.loop-lane.told.items (λ q. q.items), c.loop-lane.told.ok.0)
 
 pub loop-lane-preserved : goal.loop-lane-preserved
 loop-lane-preserved g c =
@@ -37,13 +39,13 @@ loop-lane-preserved g c =
     record {
       split = i.split ∙ ap (λ rest. done ++ rest) c.in-Some.ensures.steps.0 ∙ sym (append_assoc done (lane ∷ []) c.next.new.self.rest.items);
       berths = c.push_reserved.ensures.items ∙ ap (λ bs. bs ++ lane.berth ∷ []) i.berths ∙ sym (map-append (λ (x : Lane g.row.K.Denot). x.berth) done (lane ∷ []));
-      told = ap (map (λ q. q.items)) c.push_reserved-2.ensures.items ∙ map-append (λ q. q.items) c.loop-lane.told.items (lane.told ∷ []) ∙ ap (λ ts. ts ++ lane.told.items ∷ []) i.told ∙ sym (map-append (λ (x : Lane g.row.K.Denot). x.told.items) done (lane ∷ []));
+      told = ap (map (λ q. q.items)) c.push_reserved-in-loop-lane.ensures.items ∙ map-append (λ q. q.items) c.loop-lane.told.items (lane.told ∷ []) ∙ ap (λ ts. ts ++ lane.told.items ∷ []) i.told ∙ sym (map-append (λ (x : Lane g.row.K.Denot). x.told.items) done (lane ∷ []));
       room = c.push_reserved.ensures.capacity ∙ i.room;
-      told_room = c.push_reserved-2.ensures.capacity ∙ i.told_room;
+      told_room = c.push_reserved-in-loop-lane.ensures.capacity ∙ i.told_room;
     }
 
 pub returns : goal.returns
 returns g c =
     let i = c.loop-lane.invariant in
-    let whole = i.split ∙ ap (λ rest. c.loop-lane.yielded ++ rest) c.in-None.ensures.steps.0 ∙ append-nil c.loop-lane.yielded in
+    let whole = i.split ∙ ap (λ rest. c.loop-lane.yielded ++ rest) (nil_from_length c.loop-lane.lane-iterator.rest.items (omega (arith, c.loop-lane.lane-iterator.rest.ok.0, c.in-None.ensures.steps.0))) ∙ append-nil c.loop-lane.yielded in
     record { berths = i.berths ∙ ap berths_of (sym whole); told = i.told ∙ ap told_of_lanes (sym whole) }
