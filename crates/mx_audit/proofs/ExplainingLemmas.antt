@@ -1,5 +1,5 @@
 -- The check that decides, beside the verdict.
-use Rattle.std.proofs.Common.{◌≡◌, ◌+◌, ◌++◌, ◌∷◌, ◌∙◌, ℕ, zero, suc, List, [], Option, None, Some, length, refl, ap, sym, arith, absurd}
+use Rattle.std.proofs.Common.{◌≡◌, ap₂, ◌+◌, ◌++◌, ◌∷◌, ◌∙◌, ℕ, zero, suc, List, [], Option, None, Some, length, refl, ap, sym, arith}
 use Rattle.std.proofs.lemmas.List.{length-append}
 use Rattle.mx_redact.specs.Fields.{Event}
 use Rattle.mx_auth.specs.Rules.{Key, rules, needed_keys}
@@ -7,9 +7,10 @@ use Rattle.mx_auth.specs.declared.refusals.Rule.{Rule}
 use Rattle.mx_auth.specs.declared.versions.RoomVersion.{RoomVersion}
 use Rattle.mx_graph.specs.Record.{auth_events, event}
 use Rattle.mx_orders.specs.StateMap.{state_of}
-use Rattle.mx_receipt.specs.Receipt.{Kept, accept_or, verdict, rows_of, version_in, kept_at, state_before, state_before_next, current_state, auth_failure}
+use Rattle.mx_receipt.specs.Receipt.{Kept, accept_or, verdict, judged, installed, rows_of, version_in, kept_at, state_before, state_before_next, current_state, auth_failure}
 use Rattle.mx_receipt.specs.declared.verdicts.Verdict.{Verdict}
 use Rattle.mx_receipt.specs.declared.verdicts.Verdict.TheVariants.{Accepted, SoftFailed, Rejected}
+use Rattle.mx_receipt.specs.TimelineView.{TimelineView}
 use Rattle.mx_receipt.proofs.RecordLemmas.{at-seam, state_before-new}
 use Rattle.mx_audit.specs.declared.checks.Check.{Check}
 use Rattle.mx_audit.specs.declared.checks.Check.TheVariants.{AuthEvents, StateBefore, CurrentState}
@@ -79,3 +80,12 @@ told-asked kept k =
     ap (λ f. told_of (told_check f) by_auth (last_entries v (kept ++ k ∷ [])) by_current) (failed_by-verdict kept k.event)
     ∙ ap (λ before. told_of (told_check (deciding_check kept k.event)) by_auth before by_current) (last-new v kept k)
     ∙ told-checked kept k.event keys (told_check (deciding_check kept k.event))
+
+-- what is told of an event that is prepared, by what was noted before it
+pub told-whole : (kept : List Kept) (id : List ℕ) (e : Event) (t : TimelineView) (failure : Option Rule) (v : Verdict) (by_auth by_current asked : List (Key × Option ℕ)) → t ≡ record { kept = kept; prepared = Some (judged kept id e) } → failure ≡ auth_failure (rows_of kept) e → v ≡ verdict kept e → by_auth ≡ entries_at (state_of (rows_of kept) (auth_events (rows_of kept) e)) (needed_keys (version_in (rows_of kept)) e) → by_current ≡ entries_at (current_state kept) (needed_keys (version_in (rows_of kept)) e) → asked ≡ told_of (told_check (failed_by failure v)) by_auth (last_entries (version_in (rows_of t.kept)) (installed t.kept t.prepared)) by_current → asked ≡ entries_asked kept e
+told-whole kept id e t failure v by_auth by_current asked is_prepared is_failure is_verdict is_auth is_current told =
+    told
+    ∙ ap₂ (λ (f : Option Rule) (u : Verdict). told_of (told_check (failed_by f u)) by_auth (last_entries (version_in (rows_of t.kept)) (installed t.kept t.prepared)) by_current) is_failure is_verdict
+    ∙ ap (λ (u : TimelineView). told_of (told_check (failed_by (auth_failure (rows_of kept) e) (verdict kept e))) by_auth (last_entries (version_in (rows_of u.kept)) (installed u.kept u.prepared)) by_current) is_prepared
+    ∙ ap₂ (λ (a b : List (Key × Option ℕ)). told_of (told_check (failed_by (auth_failure (rows_of kept) e) (verdict kept e))) a (last_entries (version_in (rows_of kept)) (kept ++ judged kept id e ∷ [])) b) is_auth is_current
+    ∙ told-asked kept (judged kept id e)

@@ -1,2 +1,4 @@
 pub mod ExplainingLemmas
 pub mod StepLemmas
+pub mod SoundLemmas
+pub mod ResolutionLemmas

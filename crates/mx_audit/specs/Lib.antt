@@ -4,3 +4,4 @@ pub mod Resolutions
 pub mod Noting
 pub mod EventsCode
 pub mod AuditErrors
+pub mod SoundTest

@@ -34,14 +34,20 @@ fn conflicted_in(alloc: Global, agreed: &StateMap, state: &StateMap) -> Result<S
 {
     let mut found = StateMap::new(alloc);
     for entry in state.entries() {
-        if !has_entry(agreed, entry) {
+        if lacks(agreed, entry) {
             found.insert(entry.kind(), entry.state_key(), entry.event())?;
         }
     }
     Ok(found)
 }
 
-// Whether a state has an entry.
+// Whether a state does not have an entry.
+fn lacks(state: &StateMap, entry: &StateEntry) -> bool
+    ensures { result ≡ not (definition.has_entry entry.now state.now) }
+{
+    !has_entry(state, entry)
+}
+
 fn has_entry(state: &StateMap, entry: &StateEntry) -> bool
     ensures { result ≡ definition.has_entry entry.now state.now }
 {

@@ -1,6 +1,5 @@
 // How the state before an event was resolved.
 ghost use Rattle.std.specs.Prelude.{◌≡◌, ◌<◌, ◌++◌, ◌∷◌, [], All, IfOk, OnOk, length, map};
-ghost use Rattle.mx_graph.specs.Record.{row as row_at};
 ghost use Rattle.mx_receipt.specs.Receipt.{rows_of, state_after, version_in};
 ghost use Rattle.mx_audit.specs.Steps as definition;
 ghost use Rattle.mx_audit.specs.Resolutions.{states_before};
@@ -30,6 +29,7 @@ pub fn resolution_before(
     ensures others { IfOk result (λ steps. steps.others.items ≡ definition.other_steps
         (version_in (rows_of timeline.now.kept)) (rows_of timeline.now.kept) (states_before timeline.now.kept number)) }
 {
+    timeline_is_sound(timeline);
     let graph = graph_of(alloc, timeline)?;
     let prev_events = rising(alloc, timeline.prev_events(number))?;
     let states = states_after(alloc, timeline, &prev_events)?;
@@ -45,10 +45,8 @@ fn states_after(
     numbers: &[EventNo],
 ) -> Result<Vec<StateMap>, AllocError>
     requires { All (λ number. number < length timeline.now.kept) numbers.now }
-    ensures states { IfOk result (λ states. states.items ≡ map (state_after timeline.now.kept) numbers.now) }
-    ensures known { IfOk result (λ states. All (λ s. All (λ e. e.1 < length timeline.now.kept) s) states.items) }
+    ensures { IfOk result (λ states. states.items ≡ map (state_after timeline.now.kept) numbers.now) }
 {
-    timeline_is_sound(timeline);
     let mut states = Vec::with_capacity(alloc, numbers.len())?;
     for number in numbers {
         states.push(timeline.state_after(*number).map(alloc)?)?;

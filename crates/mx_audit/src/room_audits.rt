@@ -1,6 +1,11 @@
 // A room's events, each with why it was received as it was.
-ghost use Rattle.std.specs.Prelude.{◌≡◌, true, IfOk, OnOk};
-ghost use Rattle.mx_receipt.specs.Receipt.{begun, received};
+ghost use Rattle.std.specs.Prelude.{◌≡◌, ◌&&◌, [], codes, is_none, true, IfOk, OnOk};
+ghost use Rattle.mx_redact.specs.Fields.{is_text};
+ghost use Rattle.mx_pdu.specs.Event.{auth_ids, has_kind, state_key_of};
+ghost use Rattle.mx_auth.specs.Rules.{rules};
+ghost use Rattle.mx_orders.specs.StateMap.{view};
+ghost use Rattle.mx_receipt.specs.Receipt.{begun, created_version as created_version_of, received};
+ghost use Rattle.mx_audit.specs.SoundTest.{has_none, sound_test};
 ghost use Rattle.mx_receipt.specs.TimelineView.{IsSoundCreate};
 
 use crate::audit_errors::AuditError;
@@ -96,8 +101,32 @@ impl RoomAudit {
 fn is_sound_create(event: &Pdu) -> bool
     ensures { result ≡ true → IsSoundCreate event.now }
 {
-    event.kind() == "m.room.create"
-        && event.state_key() == Some("")
-        && event.auth_events().is_empty()
-        && judge(created_version(event), event, &NoState).is_ok()
+    passes_sound_test(event)
+}
+
+#[tactic(auto, unfolding(crate::specs::SoundTest::sound_test))]
+fn passes_sound_test(event: &Pdu) -> bool
+    ensures { result ≡ sound_test event.now }
+{
+    is_create(event) && (cites_nothing(event) && is_allowed(event))
+}
+
+// A create event, with the empty state key.
+fn is_create(event: &Pdu) -> bool
+    ensures { result ≡ (has_kind (codes "m.room.create") event.now && is_text [] (state_key_of event.now)) }
+{
+    event.kind() == "m.room.create" && event.state_key() == Some("")
+}
+
+fn cites_nothing(event: &Pdu) -> bool
+    ensures { result ≡ has_none (auth_ids event.now) }
+{
+    event.auth_events().is_empty()
+}
+
+// Whether the rules allow it as the first event of a room.
+fn is_allowed(event: &Pdu) -> bool
+    ensures { result ≡ is_none (rules (created_version_of event.now) event.now (view [] [])) }
+{
+    judge(created_version(event), event, &NoState).is_ok()
 }

@@ -1,7 +1,5 @@
 // The steps of a resolution of states.
 ghost use Rattle.std.specs.Prelude.{◌≡◌, ◌<◌, All, IfOk, OnOk, length, map};
-ghost use Rattle.mx_graph.specs.Record as record_of;
-ghost use Rattle.mx_orders.specs.PowerOrder.{power_order as power_order_of};
 ghost use Rattle.mx_state_res.specs.Resolution as resolution;
 ghost use Rattle.mx_audit.specs.Steps as definition;
 
@@ -90,8 +88,8 @@ fn checked(
     Ok(steps)
 }
 
-// At an error the state stays.
-#[tactic(auto, unfolding(mx_state_res::specs::Resolution::after_check, mx_state_res::specs::Resolution::is_allowed, crate::specs::Steps::refusal_at))]
+// The check of an event in the state so far, which gets it where it is a state event that is allowed. At an error the
+// state stays.
 fn check(
     version: RoomVersion,
     graph: &Graph,
@@ -105,15 +103,32 @@ fn check(
     ensures state { OnOk result (state.new ≡ resolution.after_check version graph.now state.old number) }
     ensures known { OnOk result (All (λ e. e.1 < length graph.now) state.new) }
 {
-    let event = &graph.row(number).event;
     let refusal = refusal_in(version, graph, state, number);
+    put_unless(graph, state, number, refusal)?;
+    Ok(ResolutionStep {
+        event: number,
+        refusal,
+    })
+}
+
+// Puts an event at its key, if it is a state event and no line does not allow it. At an error the state stays.
+fn put_unless(
+    graph: &Graph,
+    state: &mut StateMap,
+    number: EventNo,
+    refusal: Option<Rule>,
+) -> Result<(), AllocError>
+    requires number { number < length graph.now }
+    requires known { All (λ e. e.1 < length graph.now) state.old }
+    ensures state { OnOk result (state.new
+        ≡ definition.with_step graph.now state.old (record { event = number; refusal = refusal })) }
+    ensures known { OnOk result (All (λ e. e.1 < length graph.now) state.new) }
+{
+    let event = &graph.row(number).event;
     if let Some(state_key) = event.state_key() {
         if refusal.is_none() {
             state.insert(event.kind(), state_key, number)?;
         }
     }
-    Ok(ResolutionStep {
-        event: number,
-        refusal,
-    })
+    Ok(())
 }

@@ -1,11 +1,11 @@
-use Rattle.std.proofs.Common.{◌<◌, length, sym, subst}
-use Rattle.std.specs.List.{All}
-use Rattle.mx_orders.specs.StateMap.{State, key_cmp}
-use Rattle.mx_state_res.proofs.KnownLemmas.{put-known}
+use Rattle.std.proofs.Common.{Option, ap, ◌∙◌}
+use Rattle.mx_auth.specs.declared.refusals.Rule.{Rule}
+use Rattle.mx_audit.specs.Steps.{with_step}
+use Rattle.mx_audit.proofs.StepLemmas.{step-checked}
 use Rattle.mx_audit.proofs.steps.check.Goals as goal
 
--- the event that is put is known, and so were the others
-pub returns-in_ok-insert-clause-known : goal.returns-in_ok-insert-clause-known
-returns-in_ok-insert-clause-known c =
-    subst (λ (s : State). All (λ e. e.1 < length c.args.graph.now) s) (sym c.in_ok-insert.ensures.ok)
-    (put-known key_cmp (λ n. n < length c.args.graph.now) _ _ _ c.requires.number c.requires.known)
+pub returns-clause-state : goal.returns-clause-state
+returns-clause-state c =
+    c.in_ok-put_unless.ensures.state
+    ∙ ap (λ (r : Option Rule). with_step c.args.graph.now c.args.state.now (record { event = c.args.number; refusal = r })) c.refusal_in-refusal.ensures
+    ∙ step-checked c.args.version c.args.graph.now c.args.state.now c.args.number
