@@ -1,8 +1,8 @@
 -- The check that decides, beside the verdict.
-use Rattle.std.proofs.Common.{◌≡◌, ap₂, ◌+◌, ◌++◌, ◌∷◌, ◌∙◌, ℕ, zero, suc, List, [], Option, None, Some, length, refl, ap, sym, arith}
+use Rattle.std.proofs.Common.{◌≡◌, ap₂, ◌+◌, ◌++◌, ◌∷◌, ◌∙◌, ℕ, zero, suc, List, [], Option, None, Some, length, refl, ap, arith}
 use Rattle.std.proofs.lemmas.List.{length-append}
 use Rattle.mx_redact.specs.Fields.{Event}
-use Rattle.mx_auth.specs.Rules.{Key, rules, needed_keys}
+use Rattle.mx_auth.specs.Rules.{Key, needed_keys}
 use Rattle.mx_auth.specs.declared.refusals.Rule.{Rule}
 use Rattle.mx_auth.specs.declared.versions.RoomVersion.{RoomVersion}
 use Rattle.mx_graph.specs.Record.{auth_events, event}

@@ -2,7 +2,7 @@ use Rattle.std.proofs.Common.{◌≡◌, ◌+◌, ℕ, Bool, not, drop, filter, 
 use Rattle.std.proofs.lemmas.List.{drop_more}
 use Rattle.std.specs.FinMap.Entries.{put}
 use Rattle.mx_auth.specs.Rules.{Key}
-use Rattle.mx_orders.specs.StateMap.{State, key_cmp}
+use Rattle.mx_orders.specs.StateMap.{key_cmp}
 use Rattle.mx_state_res.specs.Resolution.{has_entry, overwritten}
 use Rattle.mx_state_res.proofs.KeyLemmas.{Sorted, sorted-filter}
 use Rattle.mx_state_res.proofs.AgreedLemmas.{overwritten-empty, put-kept, put-other}

@@ -1,9 +1,9 @@
-use Rattle.std.proofs.Common.{ℕ, List, ◌≡◌, ◌<◌, ◌||◌, length, filter, sym, ap, ap₂, subst, ◌∙◌}
+use Rattle.std.proofs.Common.{ℕ, List, ◌<◌, ◌||◌, length, filter, sym, ap, ap₂, subst, ◌∙◌}
 use Rattle.std.specs.List.{All}
 use Rattle.mx_graph.specs.Edges.{Rises}
 use Rattle.mx_graph.specs.Graph.{auth_chain}
-use Rattle.mx_graph.specs.Record.{is_in, event}
-use Rattle.mx_state_res.specs.Resolution.{is_power_event, power_events}
+use Rattle.mx_graph.specs.Record.{is_in}
+use Rattle.mx_state_res.specs.Resolution.{power_events}
 use Rattle.mx_state_res.proofs.SetLemmas.{rises-filter}
 use Rattle.mx_state_res.proofs.OrderLemmas.{filter-all}
 use Rattle.mx_audit.proofs.conflicting.power_events.Goals as goal

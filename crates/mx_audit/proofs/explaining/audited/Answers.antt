@@ -1,5 +1,4 @@
-use Rattle.std.proofs.Common.{List, ap, ap₂, ◌∙◌}
-use Rattle.mx_receipt.specs.Receipt.{Kept}
+use Rattle.std.proofs.Common.{ap, ap₂, ◌∙◌}
 use Rattle.mx_receipt.specs.TimelineView.{TimelineView}
 use Rattle.mx_audit.specs.Explaining.{deciding_check, entries_asked}
 use Rattle.mx_audit.specs.Noting.{failed_by}

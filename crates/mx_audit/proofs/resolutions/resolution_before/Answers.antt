@@ -1,7 +1,6 @@
-use Rattle.std.proofs.Common.{◌≡◌, ◌<◌, List, length, map, sym, ap, ap₂, subst, ◌∙◌}
+use Rattle.std.proofs.Common.{◌≡◌, ◌<◌, length, map, sym, ap, ap₂, subst, ◌∙◌}
 use Rattle.std.proofs.lemmas.List.{length-map}
 use Rattle.std.specs.List.{All}
-use Rattle.mx_orders.specs.StateMap.{State}
 use Rattle.mx_receipt.specs.Receipt.{rows_of, version_in, state_after}
 use Rattle.mx_audit.specs.Steps.{conflicted_entries, power_steps, other_steps}
 use Rattle.mx_audit.specs.Resolutions.{states_before}
@@ -23,8 +22,8 @@ resolution_steps-requires c =
     let count : length kept ≡ length c.in_ok-graph.graph = sym (length-map kept _) ∙ ap length (sym c.in_ok-graph.ensures) in
     record {
       known = subst (λ n. All (λ s. All (λ e. e.1 < n) s.now) c.deref-3.result.now) count
-        (lent-known (length kept) (map (state_after kept) found) c.deref-3.result.now lent
-        (states-known kept c.args.number c.requires c.prev_events.result.now found c.prev_events.ensures.cited c.prev_events.ensures.lower c.in_ok-prev_events.ensures.rises c.in_ok-prev_events.ensures.same c.timeline_is_sound.ensures.after))
+          (lent-known (length kept) (map (state_after kept) found) c.deref-3.result.now lent
+          (states-known kept c.args.number c.requires c.prev_events.result.now found c.prev_events.ensures.cited c.prev_events.ensures.lower c.in_ok-prev_events.ensures.rises c.in_ok-prev_events.ensures.same c.timeline_is_sound.ensures.after));
     }
 
 pub returns-clause-conflicted : goal.returns-clause-conflicted
