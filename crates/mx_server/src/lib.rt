@@ -3,6 +3,7 @@
 
 mod directories;
 mod errors;
+mod file_keepers;
 mod losses;
 mod options;
 mod serving;
