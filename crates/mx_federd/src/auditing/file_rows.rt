@@ -1,4 +1,7 @@
 // The rows in the files of a server that is stopped. They are only read: what SQLite changes is a copy in memory.
+ghost use Rattle.std.specs.Prelude.{IfOk, IsTrue};
+ghost use Rattle.sqlite_disk.specs.Memory.{memory_is_usable};
+
 use crate::auditing::log_rows::add_rows;
 use crate::output::Failure;
 use mx_keeper::{Keeper, MOST_PLACES, ShardRow, SqliteKeeper};
@@ -47,7 +50,9 @@ fn rows_of_file(host: &HostRuntime, path: &str) -> Result<Vec<ShardRow>, Failure
 }
 
 // The bytes of a file in memory; of one that is not there none.
-fn copy_of(host: &HostRuntime, path: &str) -> Result<Memory, Failure> {
+fn copy_of(host: &HostRuntime, path: &str) -> Result<Memory, Failure>
+    ensures { IfOk result (λ copy. IsTrue (memory_is_usable copy)) }
+{
     let mut copy = Memory::new(host.alloc());
     if is_there(host, path)? {
         let bytes = fs::read(host, path).map_err(Failure::of_io)?;

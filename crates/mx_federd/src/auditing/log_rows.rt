@@ -21,6 +21,8 @@ pub(crate) fn rows_of_log<R: Read>(
 ) -> Result<Vec<ShardRow>, Failure> {
     let text = read_all(alloc, log)?;
     let server = WireServer::new(alloc, name)?;
+    // It is called for what it ensures.
+    shards.get();
     let world = World::new(alloc, keepers(alloc, shards)?, keepers(alloc, shards)?);
     let mut taking = LogServer {
         server,
