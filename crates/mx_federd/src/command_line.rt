@@ -242,14 +242,26 @@ fn room_of(alloc: Global, given: &ArgMatches) -> Result<Option<RoomId>, CommandL
 // Where the events are, where that is told once.
 fn source_of(alloc: Global, given: &ArgMatches) -> Result<Option<AuditSource>, CommandLineError> {
     let directory = text_of(alloc, given, "data")?;
-    let (name, shards) = (name_of(alloc, given)?, shards_of(given));
-    match (directory, name, shards) {
-        (None, Some(name), Some(shards)) => Ok(Some(AuditSource::Log { name, shards })),
-        (Some(directory), None, _) if !directory.is_empty() => {
-            Ok(Some(AuditSource::Directory(directory)))
-        }
-        _ => Ok(None),
+    let name = name_of(alloc, given)?;
+    match directory {
+        Some(directory) => Ok(directory_alone(directory, name)),
+        None => Ok(log_of(name, shards_of(given))),
     }
+}
+
+// A directory, where no server is named beside it.
+fn directory_alone(directory: String, name: Option<ServerName>) -> Option<AuditSource> {
+    if directory.is_empty() || name.is_some() {
+        return None;
+    }
+    Some(AuditSource::Directory(directory))
+}
+
+// A log, where its server has a name and a number of shards that there may be.
+fn log_of(name: Option<ServerName>, shards: Option<ShardCount>) -> Option<AuditSource> {
+    let name = name?;
+    let shards = shards?;
+    Some(AuditSource::Log { name, shards })
 }
 
 // What is asked, where it is one thing.

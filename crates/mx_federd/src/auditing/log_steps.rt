@@ -30,8 +30,13 @@ pub(crate) fn take_line(alloc: Global, taking: &mut LogServer, line: &[u8]) -> R
     match Value::from_slice(alloc, line) {
         Ok(Value::Object(members)) => take_members(alloc, taking, members),
         Ok(_) => Ok(()),
-        Err(error) if error.is_memory() => Err(Failure::Memory),
-        Err(_) => Ok(()),
+        Err(error) => {
+            if error.is_memory() {
+                Err(Failure::Memory)
+            } else {
+                Ok(())
+            }
+        }
     }
 }
 
