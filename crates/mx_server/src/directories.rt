@@ -2,14 +2,12 @@
 ghost use Rattle.std.specs.Prelude.{◌≡◌, ◌≤◌, ◌+◌, IfOk, OnOk, length};
 
 use crate::errors::{ServerError, StartError};
-use crate::file_keepers::{FileKeeper, RowFile};
 use mx_keeper::{BookRow, Keeper, KeeperFault, MOST_PLACES, ShardRow, SqliteKeeper, TableRow};
 use mx_wire::ShardCount;
 use sqlite::{Alter, Connection, Error, ErrorCode, File, FileStore};
 use std::alloc::{AllocError, Global};
 use std::fs::{self, DirBuilder, OpenOptions};
 use std::os::unix::fs::{DirBuilderExt, OpenOptionsExt};
-use std::sync::Arc;
 
 // Who may look at a directory of rows: its owner, who may change it too.
 const OWNER_ALONE: u32 = 0o700;
@@ -20,16 +18,14 @@ const OWNER_READS_AND_WRITES: u32 = 0o600;
 // A log of so many bytes at most has nothing: it is cut to so many once it is copied.
 const LENGTH_OF_EMPTY_LOG: u64 = 41;
 
-/// Rows of one kind in a file that lies in this store.
-pub type FileRows<S, R> = FileKeeper<SqliteKeeper<S, R>>;
+/// Rows of one kind in a file.
+pub type FileRows<R> = SqliteKeeper<FileStore<File>, R>;
 
-/// The files of a server, each taken by a keeper: one for each shard, and one for each book. And what each is called, with
-/// why it failed once it has.
+/// The files of a server, each taken by a keeper: one for each shard, and one for each book.
 #[derive(Drop)]
-pub struct ServerFiles<S: Alter + Drop> {
-    pub shards: Vec<FileRows<S, ShardRow>>,
-    pub books: Vec<FileRows<S, BookRow>>,
-    pub files: Vec<Arc<RowFile>>,
+pub struct ServerFiles {
+    pub shards: Vec<FileRows<ShardRow>>,
+    pub books: Vec<FileRows<BookRow>>,
 }
 
 /// The files `shard-0.db`, `book-0.db` and so on of a directory. Those that it lacks are made, where no file that it has
@@ -42,7 +38,7 @@ pub fn open_directory(
     host: &HostRuntime,
     directory: &str,
     shards: ShardCount,
-) -> Result<ServerFiles<FileStore<File>>, StartError>
+) -> Result<ServerFiles, StartError>
     ensures some_shard { IfOk result (λ files. 1 ≤ length files.shards.items) }
     ensures few_shards { IfOk result (λ files. length files.shards.items ≤ MOST_PLACES) }
     ensures some_book { IfOk result (λ files. 1 ≤ length files.books.items) }
@@ -56,13 +52,11 @@ pub fn open_directory(
         refuse_rows::<ShardRow>(host, directory, "shard", count)?;
         refuse_rows::<BookRow>(host, directory, "book", count)?;
     }
-    let mut files = Vec::new(host.alloc());
-    let rooms = keepers(host, directory, "shard", count, &mut files)?;
-    let replies = keepers(host, directory, "book", count, &mut files)?;
+    let rooms = keepers(host, directory, "shard", count)?;
+    let replies = keepers(host, directory, "book", count)?;
     Ok(ServerFiles {
         shards: rooms,
         books: replies,
-        files,
     })
 }
 
@@ -168,23 +162,20 @@ fn path_of(
     Ok(format!(in alloc; "{directory}/{kind}-{number}.db")?)
 }
 
-// The rows of the first files of a kind, each of which is added to the files.
+// The rows of the first files of a kind.
 fn keepers<R: TableRow>(
     host: &HostRuntime,
     directory: &str,
     kind: &str,
     count: usize,
-    files: &mut Vec<Arc<RowFile>>,
-) -> Result<Vec<FileRows<FileStore<File>, R>>, StartError>
+) -> Result<Vec<FileRows<R>>, StartError>
     ensures { IfOk result (λ keepers. length keepers.items ≡ count) }
 {
     let mut keepers = Vec::new(host.alloc());
     for number in 0..count {
         let path = path_of(host.alloc(), directory, kind, number)?;
         let keeper = keeper_at(host, &path)?;
-        let file = Arc::new(host.alloc(), RowFile::new(host.alloc(), path))?;
-        files.push(Arc::try_clone(&file)?)?;
-        push(&mut keepers, FileKeeper::new(host.alloc(), keeper, file))?;
+        push(&mut keepers, keeper)?;
     }
     Ok(keepers)
 }
@@ -209,10 +200,7 @@ fn make_file(host: &HostRuntime, path: &str) {
 }
 
 // The rows of a file. What SQLite's log beside it has is copied into it first, so that it is whole alone.
-fn keeper_at<R: TableRow>(
-    host: &HostRuntime,
-    path: &str,
-) -> Result<SqliteKeeper<FileStore<File>, R>, StartError> {
+fn keeper_at<R: TableRow>(host: &HostRuntime, path: &str) -> Result<FileRows<R>, StartError> {
     make_file(host, path);
     copy_log(host, path)?;
     let connection = connection_at(host, path)?;

@@ -3,7 +3,6 @@
 
 mod directories;
 mod errors;
-mod file_keepers;
 mod losses;
 mod options;
 mod serving;

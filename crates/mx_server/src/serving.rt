@@ -3,18 +3,17 @@ ghost use Rattle.std.specs.Prelude.{◌≡◌, ◌≤◌, IfOk, length};
 
 use crate::directories::{ServerFiles, open_directory};
 use crate::errors::{ServerError, StartError};
-use crate::file_keepers::{RowFile, RowFiles};
 use crate::losses::check_losses;
 use crate::options::{SeatCount, ServeOptions};
 use crate::workers::{ServerEngine, Shared, Worker, workers_of};
 use mx_engine::{Engine, OpenGate};
 use mx_http::{Announcer, Limits, ServeError, ServerRuntime, serve_on};
 use mx_ident::ServerName;
-use mx_keeper::{BookRow, CallError, Keeper, MOST_PLACES, ShardRow};
+use mx_keeper::{BookRow, CallError, Keeper, MOST_PLACES, ShardRow, SqliteKeeper};
 use mx_pdu::PresenceVerifier;
 use mx_wire::{HostLineOutcome, LARGEST_BODY, WireServer, first_line, host_by_line, read_all};
 use mx_world::World;
-use sqlite::{Alter, File, FileStore};
+use sqlite::Alter;
 use std::alloc::{AllocError, AllocGlobal, Global};
 use std::fs;
 use std::io::{self, Write};
@@ -40,14 +39,15 @@ pub fn serve<R: ServerRuntime, W: Write, E: Write>(
     err: &mut E,
 ) -> Result<(), StartError> {
     let (files, rooms) = rows_and_rooms(host, &options)?;
-    serve_rows(rt, files, &rooms, options, out, err)
+    let ServerFiles { shards, books } = files;
+    serve_rows(rt, shards, books, &rooms, options, out, err)
 }
 
 // The files of the server's directory, and the bytes of its file of rooms.
 fn rows_and_rooms(
     host: &HostRuntime,
     options: &ServeOptions,
-) -> Result<(ServerFiles<FileStore<File>>, Vec<u8>), StartError>
+) -> Result<(ServerFiles, Vec<u8>), StartError>
     ensures some_shard { IfOk result (λ found. 1 ≤ length found.0.shards.items) }
     ensures few_shards { IfOk result (λ found. length found.0.shards.items ≤ MOST_PLACES) }
     ensures some_book { IfOk result (λ found. 1 ≤ length found.0.books.items) }
@@ -88,7 +88,8 @@ fn lines_of(host: &HostRuntime, path: &str) -> Result<Vec<u8>, StartError> {
 // Of which store the rows are does not matter here, and for one that is not known the proofs are found.
 fn serve_rows<S, R, W: Write, E: Write>(
     rt: &R,
-    files: ServerFiles<S>,
+    shards: Vec<SqliteKeeper<S, ShardRow>>,
+    books: Vec<SqliteKeeper<S, BookRow>>,
     rooms: &[u8],
     options: ServeOptions,
     out: &mut W,
@@ -97,17 +98,12 @@ fn serve_rows<S, R, W: Write, E: Write>(
 where
     S: Alter + Drop + Send,
     R: ServerRuntime,
-    requires some_shard { 1 ≤ length files.shards.items }
-    requires few_shards { length files.shards.items ≤ MOST_PLACES }
-    requires some_book { 1 ≤ length files.books.items }
-    requires few_books { length files.books.items ≤ MOST_PLACES }
+    requires some_shard { 1 ≤ length shards.items }
+    requires few_shards { length shards.items ≤ MOST_PLACES }
+    requires some_book { 1 ≤ length books.items }
+    requires few_books { length books.items ≤ MOST_PLACES }
 {
     let alloc = rt.alloc();
-    let ServerFiles {
-        shards,
-        books,
-        files,
-    } = files;
     let count = books.len();
     let mut server = match World::reopen(alloc, shards, books) {
         Ok(server) => server,
@@ -116,7 +112,7 @@ where
     let is_accepted = options.accept_loss;
     check_losses(alloc, &server, count, &options.data, is_accepted, err)?;
     host_rooms(alloc, &mut server, rooms, file_of_rooms(&options), err)?;
-    listen(rt, server, files, options, out, err)
+    listen(rt, server, options, out, err)
 }
 
 // Files whose rows are read, and are none that a server can have.
@@ -204,7 +200,6 @@ impl<'a, W: Write, E: Write> Announcer for Opening<'a, W, E> {
 fn listen<K, L, R, W: Write, E: Write>(
     rt: &R,
     server: World<K, L>,
-    files: Vec<Arc<RowFile>>,
     options: ServeOptions,
     out: &mut W,
     err: &mut E,
@@ -225,11 +220,7 @@ where
         stop_on_storage,
         ..
     } = options;
-    let files = RowFiles {
-        files,
-        stop_on_failure: stop_on_storage,
-    };
-    let workers = workers(rt, server, threads, name, files)?;
+    let workers = workers(rt, server, threads, name, stop_on_storage)?;
     let mut opening = Opening {
         out,
         err,
@@ -286,7 +277,7 @@ fn workers<K: Keeper<Row = ShardRow>, L: Keeper<Row = BookRow>, R: Wait + AllocG
     server: World<K, L>,
     threads: SeatCount,
     name: ServerName,
-    files: RowFiles,
+    stop_on_storage: bool,
 ) -> Result<Vec<Worker<K, L>>, StartError> {
     let alloc = rt.alloc();
     let wire_server = WireServer::new(alloc, name)?;
@@ -301,7 +292,7 @@ fn workers<K: Keeper<Row = ShardRow>, L: Keeper<Row = BookRow>, R: Wait + AllocG
         OpenGate,
         threads.count,
     )?;
-    let shared = shared_of(alloc, engine, wire_server, files)?;
+    let shared = shared_of(alloc, engine, wire_server, stop_on_storage)?;
     Ok(workers_of(alloc, &shared, seats)?)
 }
 
@@ -310,14 +301,14 @@ fn shared_of<K: Keeper<Row = ShardRow>, L: Keeper<Row = BookRow>>(
     alloc: Global,
     engine: ServerEngine<K, L>,
     server: WireServer,
-    files: RowFiles,
+    stop_on_storage: bool,
 ) -> Result<Arc<Shared<K, L>>, AllocError>
     ensures { IfOk result (λ shared. shared.value.engine ≡ engine) }
 {
     let shared = Shared {
         engine,
         server,
-        files,
+        stop_on_storage,
     };
     let shared = Arc::new(alloc, shared)?;
     Ok(shared)
