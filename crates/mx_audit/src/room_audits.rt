@@ -1,5 +1,5 @@
 // A room's events, each with why it was received as it was.
-ghost use Rattle.std.specs.Prelude.{◌≡◌, ◌&&◌, [], codes, is_none, true, IfOk, OnOk};
+ghost use Rattle.std.specs.Prelude.{◌≡◌, ◌↔◌, ◌&&◌, [], codes, is_none, true, false, IfOk, IsErrOf, OnOk};
 ghost use Rattle.mx_redact.specs.Fields.{is_text};
 ghost use Rattle.mx_pdu.specs.Event.{auth_ids, has_kind, state_key_of};
 ghost use Rattle.mx_auth.specs.Rules.{rules};
@@ -62,7 +62,8 @@ impl RoomAudit {
     ///
     /// `NotACreateEvent` where the event makes no room, and `Memory`.
     pub fn begin(alloc: Global, event: Pdu, id: EventId) -> Result<RoomAudit, AuditError>
-        ensures { IfOk result (λ audit. audit ≡ begun id event) }
+        ensures begun { IfOk result (λ audit. audit ≡ begun id event) }
+        ensures refused { IsErrOf result AuditError.NotACreateEvent ↔ (sound_test event ≡ false) }
     {
         if !is_sound_create(&event) {
             return Err(AuditError::NotACreateEvent);
@@ -99,7 +100,8 @@ impl RoomAudit {
 
 // Whether an event is a create event that the rules allow and that cites no auth event.
 fn is_sound_create(event: &Pdu) -> bool
-    ensures { result ≡ true → IsSoundCreate event.now }
+    ensures sound { result ≡ true → IsSoundCreate event.now }
+    ensures test { result ≡ sound_test event.now }
 {
     passes_sound_test(event)
 }

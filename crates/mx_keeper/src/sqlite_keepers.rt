@@ -13,7 +13,7 @@ use crate::keepers::Keeper;
 use crate::schemas::has_nothing;
 use crate::statements::{Doubts, counted, idle_statement, told};
 use crate::table_rows::{TableRow, all_rows};
-use sqlite::{Alter, Connection, Error, Statement};
+use sqlite::{Alter, Connection, Statement};
 use std::alloc::Global;
 use std::marker::Model;
 
@@ -33,8 +33,6 @@ pub struct SqliteKeeper<S: Alter + Drop, R: TableRow> {
     unsure: Doubts,
     // The rows that were read when the connection was adopted, until they are asked for, or one is added.
     found: Option<Vec<R>>,
-    // What SQLite said of the last row that it refused.
-    words: Option<Error>,
 }
 
 impl<S: Alter + Drop, R: TableRow> Model for SqliteKeeper<S, R> {
@@ -111,7 +109,6 @@ impl<S: Alter + Drop, R: TableRow> SqliteKeeper<S, R> {
                 failures: 0,
                 unsure: Doubts::none(),
                 found: Some(rows),
-                words: None,
             }),
             Err(fault) => Err(NotAdopted { fault, connection }),
         }
@@ -136,14 +133,8 @@ impl<S: Alter + Drop, R: TableRow> SqliteKeeper<S, R> {
             failures: _,
             unsure: _,
             found: _,
-            words: _,
         } = self;
         connection
-    }
-
-    /// What SQLite said of the last row that it refused, for who runs the program.
-    pub fn words(&self) -> Option<Error> {
-        self.words
     }
 }
 
@@ -240,7 +231,7 @@ impl<S: Alter + Drop, R: TableRow> Keeper for SqliteKeeper<S, R> {
 
     fn append(&mut self, row: &R) -> Result<(), KeeperFault> {
         self.found = None;
-        match row.insert(&mut self.connection, self.count, &mut self.words) {
+        match row.insert(&mut self.connection, self.count) {
             Ok(()) => {
                 self.count += 1;
                 Ok(())
