@@ -34,6 +34,9 @@ impl StateChange {
 
 /// What makes, of `base` or another state, that state without the keys of `taken` and with the entries of `puts` put over
 /// it. Without those keys the others are `base` without them. It is of the state in which the fewest keys are changed.
+///
+/// The first and the last state are looked at first, as often one of them is what is to be made. Where a change is of no
+/// key, no other one is less, and the rest is not looked at.
 pub(crate) fn least_change(
     alloc: Global,
     states: &States,
@@ -52,8 +55,47 @@ pub(crate) fn least_change(
     ensures least { IfOk result (λ change. All (λ number. length change.taken + length change.puts
         ≤ change_size taken.now (state_at states.now number) puts.now) (base ∷ others.now)) }
 {
-    let mut least = change_of(alloc, states, base, taken, puts)?;
+    let first = change_of(alloc, states, base, taken, puts)?;
+    let Some((last, _)) = others.split_last() else {
+        return Ok(first);
+    };
+    if first.is_empty() {
+        return Ok(first);
+    }
+    let newest = change_of(alloc, states, *last, taken, puts)?;
+    let lesser = lesser(first, newest);
+    lesser_change(alloc, states, lesser, base, others, taken, puts)
+}
+
+// The change of the fewest keys, where one is known that is no more than that of `base`.
+fn lesser_change(
+    alloc: Global,
+    states: &States,
+    known: StateChange,
+    base: StateNo,
+    others: &[StateNo],
+    taken: &StateMap,
+    puts: &StateMap,
+) -> Result<StateChange, AllocError>
+    requires others { All (λ number. number < length states.now) others.now }
+    requires alike { All (λ number. without taken.now (state_at states.now number)
+        ≡ without taken.now (state_at states.now base)) others.now }
+    requires parent { known.parent < length states.now }
+    requires made { edited known.taken (state_at states.now known.parent) known.puts
+        ≡ edited taken.now (state_at states.now base) puts.now }
+    requires no_more { length known.taken + length known.puts
+        ≤ change_size taken.now (state_at states.now base) puts.now }
+    ensures parent { IfOk result (λ change. change.parent < length states.now) }
+    ensures made { IfOk result (λ change. edited change.taken (state_at states.now change.parent) change.puts
+        ≡ edited taken.now (state_at states.now base) puts.now) }
+    ensures least { IfOk result (λ change. All (λ number. length change.taken + length change.puts
+        ≤ change_size taken.now (state_at states.now number) puts.now) (base ∷ others.now)) }
+{
+    let mut least = known;
     for number in others {
+        if least.is_empty() {
+            return Ok(least);
+        }
         let change = change_of(alloc, states, *number, taken, puts)?;
         least = lesser(least, change);
     }

@@ -5,7 +5,7 @@ use Rattle.mx_state_res.specs.Numbered.{change_size, edited, state_at, without}
 use Rattle.mx_state_res.specs.Resolution.{overwritten}
 use Rattle.mx_state_res.proofs.ChangeLemmas.{least-step}
 use Rattle.mx_state_res.proofs.DifferingLemmas.{all-only}
-use Rattle.mx_state_res.proofs.states.state_changes.least_change.Goals as goal
+use Rattle.mx_state_res.proofs.states.state_changes.lesser_change.Goals as goal
 
 pub loop-number-preserved : goal.loop-number-preserved
 loop-number-preserved c =
@@ -41,10 +41,9 @@ loop-number-preserved c =
 
 pub loop-number-init : goal.loop-number-init
 loop-number-init c = record {
-  parent = subst (λ p. p < length c.args.states.now) (sym c.in_ok-least.ensures.parent) c.requires.base;
-  made = ap (λ p. edited c.in_ok-least.least.taken (state_at c.args.states.now p) c.in_ok-least.least.puts) c.in_ok-least.ensures.parent ∙ c.in_ok-least.ensures.made;
-  least = all-only (λ x. length c.in_ok-least.least.taken + length c.in_ok-least.least.puts ≤ change_size c.args.taken.now (state_at c.args.states.now x) c.args.puts.now) c.args.base
-      (let e = c.in_ok-least.ensures.size in omega (arith, e));
+  parent = c.requires.parent;
+  made = c.requires.made;
+  least = all-only (λ x. length c.args.known.taken + length c.args.known.puts ≤ change_size c.args.taken.now (state_at c.args.states.now x) c.args.puts.now) c.args.base c.requires.no_more;
 }
 
 pub returns-clause-least : goal.returns-clause-least

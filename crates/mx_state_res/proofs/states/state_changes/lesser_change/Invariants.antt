@@ -1,7 +1,7 @@
 use Rattle.std.proofs.Common.{◌≡◌, ◌<◌, ◌≤◌, ◌+◌, ◌∷◌, length, take}
 use Rattle.std.specs.List.{All}
 use Rattle.mx_state_res.specs.Numbered.{change_size, edited, state_at}
-use Rattle.mx_state_res.proofs.states.state_changes.least_change.Given as goal
+use Rattle.mx_state_res.proofs.states.state_changes.lesser_change.Given as goal
 
 -- the least so far makes the state
 abbrev pub invariant-loop-number : goal.invariant-loop-number
