@@ -32,12 +32,12 @@ module _ {A : Type 0} (test : A → Bool) where
     | inr k ↦ (let r = any-from xs k in (r.0, inr r.1, r.2))
   ]
 
-  any-to : (xs : List A) (x : A) → In x xs → test x ≡ true → list_any test xs ≡ true
+  pub any-to : (xs : List A) (x : A) → In x xs → test x ≡ true → list_any test xs ≡ true
   any-to [] x m e = absurd m
   any-to (y ∷ ys) x (inl k) e = or_left (test y) _ (ap test (sym k) ∙ e)
   any-to (y ∷ ys) x (inr m) e = or_right (test y) _ (any-to ys x m e)
 
-  all-from : (xs : List A) → list_all test xs ≡ true → (x : A) → In x xs → test x ≡ true
+  pub all-from : (xs : List A) → list_all test xs ≡ true → (x : A) → In x xs → test x ≡ true
   all-from [] e x m = absurd m
   all-from (y ∷ ys) e x (inl k) = ap test k ∙ and-first (test y) _ e
   all-from (y ∷ ys) e x (inr m) = all-from ys (and-second (test y) _ e) x m
@@ -58,7 +58,7 @@ within-map f xs ys h y m = let r = in_map-from f y xs m in subst (λ z. In z (ma
 
 -- ---- states
 
-entry-same : (s t : State) → ((e : Key × ℕ) → has_entry e s ≡ has_entry e t) → (k : Key) → entry s k ≡ entry t k
+pub entry-same : (s t : State) → ((e : Key × ℕ) → has_entry e s ≡ has_entry e t) → (k : Key) → entry s k ≡ entry t k
 entry-same s t h k = by (entry s k) refl (entry t k) refl
   where
     to : (x y : State) → ((e : Key × ℕ) → has_entry e x ≡ has_entry e y) → (p : ℕ) → entry x k ≡ Some p → entry y k ≡ Some p
@@ -69,7 +69,7 @@ entry-same s t h k = by (entry s k) refl (entry t k) refl
     by None e (Some p) f = to t s (λ e. sym (h e)) p f ∙ sym f
     by None e None f = e ∙ sym f
 
-sorted-unconflicted : (ss : List State) → ((s : State) → In s ss → Sorted s) → Sorted (unconflicted ss)
+pub sorted-unconflicted : (ss : List State) → ((s : State) → In s ss → Sorted s) → Sorted (unconflicted ss)
 unfolding unconflicted
 sorted-unconflicted [] h = tt
 sorted-unconflicted (s ∷ ss) h = sorted-filter (in_every ss) s (h s (inl refl))

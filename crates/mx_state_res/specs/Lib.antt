@@ -11,3 +11,4 @@ pub mod MemberKeys
 pub mod MemberLists
 pub mod KeyNumbers
 pub mod RowSets
+pub mod LaterResolution

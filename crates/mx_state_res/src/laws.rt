@@ -2,10 +2,11 @@
 ghost use Rattle.std.specs.Prelude.{◌≡◌, [], ◌∷◌, All, List};
 ghost use Rattle.mx_orders.specs.StateMap.{State};
 ghost use Rattle.mx_state_res.specs.Resolution as definition;
+ghost use Rattle.mx_state_res.specs.LaterResolution.{ResolvesFromTheOneBefore};
 
 use crate::state_maps::StateMap;
 use mx_auth::RoomVersion;
-use mx_graph::Graph;
+use mx_graph::{Graph, graph_is_sound};
 
 /// A law: of equal states the resolution is that state, whatever events they have. It changes nothing: this is what it
 /// ensures.
@@ -25,4 +26,15 @@ pub fn one_state_resolves_to_itself(version: RoomVersion, graph: &Graph, state: 
     ensures { definition.resolve version graph.now (state.now ∷ []) ≡ state.now }
 {
     equal_states_resolve_to_themselves(version, graph, state);
+}
+
+/// A law: where a state is added that has, at a key at which states differ already, a new event with the auth events of
+/// one that stands there, the resolution follows from the one before, unless another event is judged otherwise because of
+/// it. It changes nothing: this is what it ensures.
+///
+/// Source: the Matrix specification, Room Version 2, "State resolution".
+pub fn resolutions_follow_from_the_one_before(graph: &Graph)
+    ensures { ResolvesFromTheOneBefore graph.now }
+{
+    graph_is_sound(graph);
 }

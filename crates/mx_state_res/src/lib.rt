@@ -18,7 +18,10 @@ pub use chains::chain_difference::sparse_chain_difference;
 pub use chains::dense_difference::dense_chain_difference;
 pub use conflicts::{full_conflicted, unconflicted};
 pub use entries::StateEntry;
-pub use laws::{equal_states_resolve_to_themselves, one_state_resolves_to_itself};
+pub use laws::{
+    equal_states_resolve_to_themselves, one_state_resolves_to_itself,
+    resolutions_follow_from_the_one_before,
+};
 pub use numbered_resolution::resolve_numbered;
 pub use resolving::resolve;
 pub use state_maps::StateMap;
