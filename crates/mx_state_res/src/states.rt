@@ -26,7 +26,9 @@ use crate::snapshots::Snapshots;
 use crate::state_maps::StateMap;
 use crate::states::event_tests::EventTest;
 use crate::states::member_search::has_passing_member;
-use crate::states::numbered_entries::{changes_of, entries_of, map_of, put_differing};
+use crate::states::numbered_entries::{
+    changes_of, entries_of, events_in_order, map_of, put_differing,
+};
 use crate::states::shared_events::events_at_other_keys;
 use crate::states::state_keys::Keys;
 use crate::states::state_numbers::StateNo;
@@ -169,6 +171,15 @@ impl States {
     {
         let entries = self.snapshots.entries(alloc, number)?;
         map_of(alloc, &self.keys, &entries)
+    }
+
+    // The events of a state, in the order of their keys.
+    pub(crate) fn events(&self, alloc: Global, number: StateNo) -> Result<Vec<EventNo>, AllocError>
+        requires { number < length self.now }
+        ensures { IfOk result (λ events. events.items ≡ events_of (state_at self.now number)) }
+    {
+        let entries = self.snapshots.entries(alloc, number)?;
+        events_in_order(alloc, &self.keys, &entries)
     }
 
     // The events of a state at the keys that a map lacks, in no order that is told.

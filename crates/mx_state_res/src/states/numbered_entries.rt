@@ -1,10 +1,10 @@
 // The entries of states by the numbers of their keys.
-ghost use Rattle.std.specs.Prelude.{◌≡◌, ◌<◌, ◌||◌, All, IfOk, None, OnOk, Option, Some, T, is_some, length, option_map, ℕ};
-ghost use Rattle.std.specs.FinMap.Entries.{is_sorted};
+ghost use Rattle.std.specs.Prelude.{◌≡◌, ◌<◌, ◌||◌, All, IfOk, None, OnOk, Option, Some, T, filter_map, is_some, length, option_map, ℕ};
+ghost use Rattle.std.specs.FinMap.Entries.{find, is_sorted};
 ghost use Rattle.std.specs.Ordering.{nat_cmp};
 ghost use Rattle.std.specs.Option.{option_or};
 ghost use Rattle.mx_auth.specs.Rules.{Key};
-ghost use Rattle.mx_orders.specs.StateMap.{entry as entry_at, key_cmp};
+ghost use Rattle.mx_orders.specs.StateMap.{entry as entry_at, events_of as events_in, key_cmp};
 ghost use Rattle.mx_state_res.specs.KeyNumbers.{AllBelow, AreChanges, AreDistinct, AreGrown, AreShown, changes_at, has_number_in, shown};
 ghost use Rattle.mx_state_res.specs.SnapshotEntries.{DifferAt, snapshot};
 
@@ -58,6 +58,36 @@ pub(crate) fn map_of(
         }
     }
     Ok(map)
+}
+
+// The events of the state with these entries, in the order of the keys.
+pub(crate) fn events_in_order(
+    alloc: Global,
+    keys: &Keys,
+    entries: &[(KeyNo, EventNo)],
+) -> Result<Vec<EventNo>, AllocError>
+    requires distinct { AreDistinct keys.now }
+    requires below { AllBelow (length keys.now) entries.now }
+    requires sorted { T (is_sorted nat_cmp entries.now) }
+    ensures { IfOk result (λ events. events.items ≡ events_in (shown keys.now entries.now)) }
+{
+    let events = values_at(alloc, entries, keys.in_order())?;
+    Ok(events)
+}
+
+// What stands at keys with these numbers, where something does, in their order.
+fn values_at(
+    alloc: Global,
+    entries: &[(KeyNo, EventNo)],
+    numbers: &[KeyNo],
+) -> Result<Vec<EventNo>, AllocError>
+    requires { T (is_sorted nat_cmp entries.now) }
+    ensures { IfOk result (λ values. values.items ≡ filter_map (λ number. find nat_cmp number entries.now) numbers.now) }
+{
+    numbers
+        .iter()
+        .filter_map(|number| value_in(entries, *number))
+        .collect(alloc)
 }
 
 // Puts an event at each key at which two snapshots differ: that of the first, or else that of the other. At an error

@@ -5,7 +5,6 @@ ghost use Rattle.mx_orders.specs.StateMap.{entry, events_of as events_in};
 ghost use Rattle.mx_state_res.specs.MemberKeys.{is_member_key};
 ghost use Rattle.mx_state_res.specs.Numbered.{state_at};
 
-use crate::conflicts::events_of;
 use crate::state_maps::StateMap;
 use crate::states::States;
 use crate::states::event_tests::EventTest;
@@ -79,8 +78,7 @@ impl<'s> StateRef<'s> {
         ensures known { (bound : ℕ) → All (λ e. e.1 < bound) self.now
             → IfOk result (λ found. All (λ event. event < bound) found.items) }
     {
-        let map = self.map(alloc)?;
-        let events = events_of(alloc, &map)?;
+        let events = self.states.events(alloc, self.number)?;
         Ok(events)
     }
 }

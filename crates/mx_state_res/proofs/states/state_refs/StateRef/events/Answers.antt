@@ -1,10 +1,10 @@
 use Rattle.std.proofs.Common.{◌<◌, ℕ, All, sym, ap, subst, ◌∙◌}
 use Rattle.std.proofs.lemmas.List.Elements.{All-map}
 use Rattle.mx_auth.specs.Rules.{Key}
-use Rattle.mx_orders.specs.StateMap.{events_of as events_in}
+use Rattle.mx_orders.specs.StateMap.{events_of}
 use Rattle.mx_state_res.proofs.states.state_refs.StateRef.events.Goals as goal
 
 pub returns-clause-known : goal.returns-clause-known
 returns-clause-known c bound known =
-    subst (All (λ event. event < bound)) (sym (c.in_ok-events.ensures ∙ ap events_in c.in_ok-map.ensures))
+    subst (All (λ event. event < bound)) (sym (c.in_ok-events.ensures ∙ ap events_of c.self.view_is))
     (All-map (λ event. event < bound) (λ (e : Key × ℕ). e.1) _ known)
