@@ -1,12 +1,12 @@
 -- The entries of a state in the order of their keys, from the numbers of all keys in that order.
-use Rattle.std.proofs.Common.{◌≡◌, ℕ, ◌<◌, T, Bool, true, false, cond, length, map, List, [], ◌∷◌, Some, None, refl, sym, ap, subst, ◌∙◌}
+use Rattle.std.proofs.Common.{◌≡◌, ℕ, T, false, cond, length, List, [], ◌∷◌, Some, None, refl, sym, ap, subst, ◌∙◌}
 use Rattle.std.specs.Prelude.{Option, filter_map}
 use Rattle.std.specs.declared.cmp.Ordering.{Ordering}
 use Rattle.std.specs.declared.cmp.Ordering.TheVariants.{Less, Equal, Greater}
 use Rattle.std.specs.List.{cons_option}
 use Rattle.std.specs.Option.{option_and_then}
 use Rattle.std.specs.Ordering.{nat_cmp, is_eq}
-use Rattle.std.specs.FinMap.Entries.{find, below_all, is_sorted}
+use Rattle.std.specs.FinMap.Entries.{find, below_all}
 use Rattle.mx_auth.specs.Rules.{Key}
 use Rattle.mx_orders.specs.StateMap.{State, key_cmp, events_of}
 use Rattle.mx_state_res.specs.KeyNumbers.{key_at, AreDistinct, shown, AllBelow, AreInOrder, in_order}
