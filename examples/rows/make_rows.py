@@ -375,6 +375,39 @@ def ban_and_invite_rules(log):
     )
 
 
+def kicks_and_bans_by_outsiders(log):
+    """Kicks and bans by users who are not joined, and an unban below the level that a ban asks for."""
+    base = Base(log)
+    raised = levels(A, [base.join_c], base.of_a, {A: 100, B: 50, C: 50}, ban=60)
+    join_e = join(E, [raised], [base.create, raised, base.rules])
+    ban = member(A, C, "ban", [join_e], [base.create, raised, base.join_a, base.join_c])
+    outside = [base.create, raised, join_e]
+    log.transaction(
+        "a.example", "t1",
+        (raised, ACCEPTED),
+        (join_e, ACCEPTED),
+        (member(D, E, "leave", [join_e], outside), rejected("A4.4.2")),
+        (member(D, E, "ban", [join_e], outside), rejected("A4.5.1")),
+        (ban, ACCEPTED),
+        (member(B, C, "leave", [ban], [base.create, raised, base.join_b, ban]), rejected("A4.4.3")),
+        # What these cite allows them: there C is joined, and a ban asks for 50. In the state before them C is banned.
+        (member(C, E, "leave", [ban], [base.create, raised, base.join_c, join_e]), rejected("A4.4.2")),
+        (member(C, E, "ban", [ban], [base.create, base.levels, base.join_c, join_e]), rejected("A4.5.1")),
+    )
+
+
+def event_without_prev_events(log):
+    """The state before an event that follows none is empty, and so is the one after it."""
+    base = Base(log)
+    alone = message(B, [], base.of_b)
+    log.transaction(
+        "b.example", "t1",
+        (alone, rejected("A0")),
+        (message(B, [alone], base.of_b), rejected("A0")),
+        (message(B, [base.join_c, alone], base.of_b), ACCEPTED),
+    )
+
+
 def auth_events_check(log):
     """What an event may cite as its auth events."""
     base = Base(log)
@@ -641,7 +674,7 @@ ROWS = (
     host_refusals, join_before_join_rules, child_before_parent, steps_out_of_turn, last_text_stands, altered_content,
     two_rooms_one_transaction, one_of_two_rooms_alone, refusals_in_their_order, access_list, malformed_events,
     format_limits, signatures, level_texts, power_level_changes, notification_levels, join_on_an_invite,
-    ban_and_invite_rules, auth_events_check, closed_to_other_servers, other_rules, demotion_race,
+    ban_and_invite_rules, kicks_and_bans_by_outsiders, event_without_prev_events, auth_events_check, closed_to_other_servers, other_rules, demotion_race,
     demotion_before_the_topic, soft_failure, soft_failed_invite, rejected_parent, state_before_rejects,
     create_in_the_auth_difference, invited_after_leaving, left_after_the_invite, invited_by_newer_power_levels,
     invited_by_equal_power_levels, resolution_of_65_states, bad_lines, *REQUEST_ROWS, *STATE_ROWS,

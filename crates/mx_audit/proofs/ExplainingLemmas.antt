@@ -1,20 +1,20 @@
 -- The check that decides, beside the verdict.
-use Rattle.std.proofs.Common.{◌≡◌, ap₂, ◌+◌, ◌++◌, ◌∷◌, ◌∙◌, ℕ, zero, suc, List, [], Option, None, Some, length, refl, ap, arith}
+use Rattle.std.proofs.Common.{◌≡◌, ap₂, ◌++◌, ◌∷◌, ◌∙◌, ℕ, zero, suc, List, [], Option, None, Some, length, refl, ap, arith}
 use Rattle.std.proofs.lemmas.List.{length-append}
 use Rattle.mx_redact.specs.Fields.{Event}
 use Rattle.mx_auth.specs.Rules.{Key, needed_keys}
 use Rattle.mx_auth.specs.declared.refusals.Rule.{Rule}
 use Rattle.mx_auth.specs.declared.versions.RoomVersion.{RoomVersion}
-use Rattle.mx_graph.specs.Record.{auth_events, event}
-use Rattle.mx_orders.specs.StateMap.{state_of}
-use Rattle.mx_receipt.specs.Receipt.{Kept, accept_or, verdict, judged, installed, rows_of, version_in, kept_at, state_before, state_before_next, current_state, auth_failure}
+use Rattle.mx_graph.specs.Record.{event}
+use Rattle.mx_receipt.specs.Receipt.{Kept, accept_or, verdict, judged, installed, rows_of, version_in, kept_at, state_before, state_before_next, auth_failure}
 use Rattle.mx_receipt.specs.declared.verdicts.Verdict.{Verdict}
 use Rattle.mx_receipt.specs.declared.verdicts.Verdict.TheVariants.{Accepted, SoftFailed, Rejected}
 use Rattle.mx_receipt.specs.TimelineView.{TimelineView}
 use Rattle.mx_receipt.proofs.RecordLemmas.{at-seam, state_before-new}
 use Rattle.mx_audit.specs.declared.checks.Check.{Check}
 use Rattle.mx_audit.specs.declared.checks.Check.TheVariants.{AuthEvents, StateBefore, CurrentState}
-use Rattle.mx_audit.specs.Explaining.{failed_or, verdict_by, deciding_check, entries_asked, entries_at, checked_state, told_check}
+use Rattle.mx_audit.specs.declared.checks.FailedCheck.{FailedCheck}
+use Rattle.mx_audit.specs.Explaining.{failed_or, verdict_by, deciding_check, entries_asked, entries_at, checked_entries, told_check}
 use Rattle.mx_audit.specs.Noting.{failed_by, told_of, entries_before, last_entries}
 
 -- ---- three checks, one after another
@@ -25,7 +25,7 @@ verdict-failed None (Some rule) c = refl
 verdict-failed None None (Some rule) = refl
 verdict-failed None None None = refl
 
-failed-by : (a b c : Option Rule) → failed_by a (accept_or Rejected a (accept_or Rejected b (accept_or SoftFailed c Accepted))) ≡ failed_or AuthEvents a (failed_or StateBefore b (failed_or CurrentState c None))
+failed-by : (a b c : Option Rule) → failed_by (accept_or Rejected a (accept_or Rejected b (accept_or SoftFailed c Accepted))) a ≡ failed_or AuthEvents a (failed_or StateBefore b (failed_or CurrentState c None))
 failed-by (Some rule) b c = refl
 failed-by None (Some rule) c = refl
 failed-by None None (Some rule) = refl
@@ -35,7 +35,7 @@ pub verdict-by : (kept : List Kept) (e : Event) → verdict kept e ≡ verdict_b
 unfolding verdict deciding_check
 verdict-by kept e = verdict-failed _ _ _
 
-pub failed_by-verdict : (kept : List Kept) (e : Event) → failed_by (auth_failure (rows_of kept) e) (verdict kept e) ≡ deciding_check kept e
+failed_by-verdict : (kept : List Kept) (e : Event) → failed_by (verdict kept e) (auth_failure (rows_of kept) e) ≡ deciding_check kept e
 unfolding verdict deciding_check
 failed_by-verdict kept e = failed-by _ _ _
 
@@ -65,27 +65,32 @@ last-new v (j ∷ kept) k =
     let count : length (kept ++ k ∷ []) ≡ suc (length kept) = length-append kept (k ∷ []) ∙ omega arith in
     ap (entries_before v (j ∷ kept ++ k ∷ [])) count ∙ entries_before-new v (j ∷ kept) k
 
-told-checked : (kept : List Kept) (e : Event) (keys : List Key) (check : Check) → told_of check (entries_at (state_of (rows_of kept) (auth_events (rows_of kept) e)) keys) (entries_at (state_before_next kept e) keys) (entries_at (current_state kept) keys) ≡ entries_at (checked_state kept e check) keys
-told-checked kept e keys AuthEvents = refl
-told-checked kept e keys StateBefore = refl
-told-checked kept e keys CurrentState = refl
+told-checked : (kept : List Kept) (e : Event) (check : Check) → told_of check (checked_entries kept e AuthEvents) (checked_entries kept e StateBefore) (checked_entries kept e CurrentState) ≡ checked_entries kept e check
+told-checked kept e AuthEvents = refl
+told-checked kept e StateBefore = refl
+told-checked kept e CurrentState = refl
 
-pub told-asked : (kept : List Kept) (k : Kept) → told_of (told_check (failed_by (auth_failure (rows_of kept) k.event) (verdict kept k.event))) (entries_at (state_of (rows_of kept) (auth_events (rows_of kept) k.event)) (needed_keys (version_in (rows_of kept)) k.event)) (last_entries (version_in (rows_of kept)) (kept ++ k ∷ [])) (entries_at (current_state kept) (needed_keys (version_in (rows_of kept)) k.event)) ≡ entries_asked kept k.event
+told-asked : (kept : List Kept) (k : Kept) → told_of (told_check (failed_by (verdict kept k.event) (auth_failure (rows_of kept) k.event))) (checked_entries kept k.event AuthEvents) (last_entries (version_in (rows_of kept)) (kept ++ k ∷ [])) (checked_entries kept k.event CurrentState) ≡ entries_asked kept k.event
 unfolding entries_asked
 told-asked kept k =
     let v : RoomVersion = version_in (rows_of kept) in
-    let keys : List Key = needed_keys v k.event in
-    let by_auth : List (Key × Option ℕ) = entries_at (state_of (rows_of kept) (auth_events (rows_of kept) k.event)) keys in
-    let by_current : List (Key × Option ℕ) = entries_at (current_state kept) keys in
-    ap (λ f. told_of (told_check f) by_auth (last_entries v (kept ++ k ∷ [])) by_current) (failed_by-verdict kept k.event)
-    ∙ ap (λ before. told_of (told_check (deciding_check kept k.event)) by_auth before by_current) (last-new v kept k)
-    ∙ told-checked kept k.event keys (told_check (deciding_check kept k.event))
+    let e = k.event in
+    ap (λ f. told_of (told_check f) (checked_entries kept e AuthEvents) (last_entries v (kept ++ k ∷ [])) (checked_entries kept e CurrentState)) (failed_by-verdict kept e)
+    ∙ ap (λ before. told_of (told_check (deciding_check kept e)) (checked_entries kept e AuthEvents) before (checked_entries kept e CurrentState)) (last-new v kept k)
+    ∙ told-checked kept e (told_check (deciding_check kept e))
 
--- what is told of an event that is prepared, by what was noted before it
-pub told-whole : (kept : List Kept) (id : List ℕ) (e : Event) (t : TimelineView) (failure : Option Rule) (v : Verdict) (by_auth by_current asked : List (Key × Option ℕ)) → t ≡ record { kept = kept; prepared = Some (judged kept id e) } → failure ≡ auth_failure (rows_of kept) e → v ≡ verdict kept e → by_auth ≡ entries_at (state_of (rows_of kept) (auth_events (rows_of kept) e)) (needed_keys (version_in (rows_of kept)) e) → by_current ≡ entries_at (current_state kept) (needed_keys (version_in (rows_of kept)) e) → asked ≡ told_of (told_check (failed_by failure v)) by_auth (last_entries (version_in (rows_of t.kept)) (installed t.kept t.prepared)) by_current → asked ≡ entries_asked kept e
-told-whole kept id e t failure v by_auth by_current asked is_prepared is_failure is_verdict is_auth is_current told =
+-- what is told of an event that is prepared, under its verdict, by a copy of it
+pub told-whole : (kept : List Kept) (id : List ℕ) (e f : Event) (t : TimelineView) (v : Verdict) (asked : List (Key × Option ℕ)) → f ≡ e → t ≡ record { kept = kept; prepared = Some (judged kept id e) } → v ≡ verdict kept e → asked ≡ told_of (told_check (failed_by v (auth_failure (rows_of t.kept) f))) (checked_entries t.kept f AuthEvents) (last_entries (version_in (rows_of t.kept)) (installed t.kept t.prepared)) (checked_entries t.kept f CurrentState) → asked ≡ entries_asked kept e
+told-whole kept id e f t v asked is_copy is_prepared is_verdict told =
     told
-    ∙ ap₂ (λ (f : Option Rule) (u : Verdict). told_of (told_check (failed_by f u)) by_auth (last_entries (version_in (rows_of t.kept)) (installed t.kept t.prepared)) by_current) is_failure is_verdict
-    ∙ ap (λ (u : TimelineView). told_of (told_check (failed_by (auth_failure (rows_of kept) e) (verdict kept e))) by_auth (last_entries (version_in (rows_of u.kept)) (installed u.kept u.prepared)) by_current) is_prepared
-    ∙ ap₂ (λ (a b : List (Key × Option ℕ)). told_of (told_check (failed_by (auth_failure (rows_of kept) e) (verdict kept e))) a (last_entries (version_in (rows_of kept)) (kept ++ judged kept id e ∷ [])) b) is_auth is_current
+    ∙ ap (λ (g : Event). told_of (told_check (failed_by v (auth_failure (rows_of t.kept) g))) (checked_entries t.kept g AuthEvents) (last_entries (version_in (rows_of t.kept)) (installed t.kept t.prepared)) (checked_entries t.kept g CurrentState)) is_copy
+    ∙ ap₂ (λ (u : TimelineView) (w : Verdict). told_of (told_check (failed_by w (auth_failure (rows_of u.kept) e))) (checked_entries u.kept e AuthEvents) (last_entries (version_in (rows_of u.kept)) (installed u.kept u.prepared)) (checked_entries u.kept e CurrentState)) is_prepared is_verdict
     ∙ told-asked kept (judged kept id e)
+
+-- the check that is told of it
+pub failed-whole : (kept : List Kept) (id : List ℕ) (e f : Event) (t : TimelineView) (v : Verdict) (failed : Option FailedCheck) → f ≡ e → t ≡ record { kept = kept; prepared = Some (judged kept id e) } → v ≡ verdict kept e → failed ≡ failed_by v (auth_failure (rows_of t.kept) f) → failed ≡ deciding_check kept e
+failed-whole kept id e f t v failed is_copy is_prepared is_verdict told =
+    told
+    ∙ ap (λ (g : Event). failed_by v (auth_failure (rows_of t.kept) g)) is_copy
+    ∙ ap₂ (λ (u : TimelineView) (w : Verdict). failed_by w (auth_failure (rows_of u.kept) e)) is_prepared is_verdict
+    ∙ failed_by-verdict kept e

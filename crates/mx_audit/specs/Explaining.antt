@@ -52,8 +52,11 @@ checked_state kept e CurrentState = current_state kept
 abbrev pub entries_at : State → List Key → List (Key × Option ℕ)
 entries_at s keys = map (λ key. (key, entry s key)) keys
 
--- what stands in the state that decided, at the keys that the rules ask for (Matrix specification, Server-Server API,
--- auth events selection)
+-- what stands in the state that a check judges an event on, at the keys that the rules ask for (Matrix specification,
+-- Server-Server API, auth events selection)
+abbrev pub checked_entries : List Kept → Event → Check → List (Key × Option ℕ)
+checked_entries kept e check = entries_at (checked_state kept e check) (needed_keys (version_in (rows_of kept)) e)
+
+-- what stands there in the state that decided
 unfoldable pub entries_asked : List Kept → Event → List (Key × Option ℕ)
-entries_asked kept e =
-    entries_at (checked_state kept e (told_check (deciding_check kept e))) (needed_keys (version_in (rows_of kept)) e)
+entries_asked kept e = checked_entries kept e (told_check (deciding_check kept e))

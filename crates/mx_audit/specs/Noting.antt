@@ -1,5 +1,5 @@
 -- For proofs and private clauses alone.
--- What is noted of an event before it is received, and what is told by it.
+-- What is told of an event by the verdict on it.
 use Rattle.std.specs.Prelude.{ℕ, List, [], ◌∷◌, Option, None, Some, length}
 use Rattle.mx_auth.specs.Rules.{Key, needed_keys}
 use Rattle.mx_auth.specs.declared.refusals.Rule.{Rule}
@@ -12,15 +12,16 @@ use Rattle.mx_audit.specs.declared.checks.Check.TheVariants.{AuthEvents, StateBe
 use Rattle.mx_audit.specs.declared.checks.FailedCheck.{FailedCheck}
 use Rattle.mx_audit.specs.Explaining.{entries_at}
 
--- the check that a verdict tells, where the one by the auth events does not fail
-abbrev pub later_failed : Verdict → Option FailedCheck
-later_failed Accepted = None
-later_failed (Rejected rule) = Some (record { check = StateBefore; rule = rule })
-later_failed (SoftFailed rule) = Some (record { check = CurrentState; rule = rule })
+-- the check that a rejected event fails, by the line that does not allow it by its auth events, if any
+abbrev pub rejected_by : Option Rule → Rule → FailedCheck
+rejected_by (Some rule) later = record { check = AuthEvents; rule = rule }
+rejected_by None later = record { check = StateBefore; rule = later }
 
-abbrev pub failed_by : Option Rule → Verdict → Option FailedCheck
-failed_by None verdict = later_failed verdict
-failed_by (Some rule) verdict = Some (record { check = AuthEvents; rule = rule })
+-- the check that an event fails which is received under a verdict
+abbrev pub failed_by : Verdict → Option Rule → Option FailedCheck
+failed_by Accepted auth = None
+failed_by (Rejected rule) auth = Some (rejected_by auth rule)
+failed_by (SoftFailed rule) auth = Some (record { check = CurrentState; rule = rule })
 
 -- of what is told of each check, what is told of this one
 abbrev pub told_of : {A : Type 0} → Check → A → A → A → A

@@ -1,5 +1,5 @@
 -- The steps by which states of a room are resolved (Matrix specification, Room Version 2, state resolution).
-use Rattle.std.specs.Prelude.{ℕ, Bool, not, ◌&&◌, if◌then◌else◌, List, [], ◌∷◌, map, filter, fold, Option, is_none}
+use Rattle.std.specs.Prelude.{ℕ, not, ◌&&◌, if◌then◌else◌, List, [], ◌∷◌, map, filter, fold, Option, is_none}
 use Rattle.mx_pdu.specs.Event.{is_state}
 use Rattle.mx_auth.specs.Rules.{rules}
 use Rattle.mx_auth.specs.declared.refusals.Rule.{Rule}

@@ -1,13 +1,9 @@
 // Why an event is received as it is.
 ghost use Rattle.std.specs.Prelude.{◌≡◌, ◌↔◌, IfOk, IsErrOf, None, OnErr, OnOk, Some, length};
-ghost use Rattle.mx_auth.specs.Rules.{needed_keys as needed_keys_of};
-ghost use Rattle.mx_graph.specs.Record as record_of;
-ghost use Rattle.mx_orders.specs.StateMap.{state_of};
 ghost use Rattle.mx_receipt.specs.Receipt as receipt;
 ghost use Rattle.mx_receipt.specs.declared.refusals.NotReceived.{NotReceived as Cause};
 ghost use Rattle.mx_audit.specs.Explaining as definition;
-ghost use Rattle.mx_audit.specs.Explaining.{entries_at};
-ghost use Rattle.mx_audit.specs.Noting.{failed_by, last_entries, told_of};
+ghost use Rattle.mx_audit.specs.Noting.{failed_by, last_entries, rejected_by, told_of};
 
 use crate::asking::{AskedEntry, entries_of};
 use crate::auth_checks::{StateOfEvents, auth_events_of, auth_failure};
@@ -30,22 +26,14 @@ pub struct Explanation {
     pub asked: Vec<AskedEntry>,
 }
 
-// What is told of an event before it is received, since it can't be told afterwards: the line that does not allow it by
-// its auth events, and what stands in their state and in the current state at the keys that the rules ask for.
-#[derive(Debug, Drop)]
-struct Noted {
-    auth_failure: Option<Rule>,
-    by_auth_events: Vec<AskedEntry>,
-    by_current_state: Vec<AskedEntry>,
-}
-
-/// Receives an event, and tells why it is received as it is.
+/// Prepares an event to be received, and tells why it is received as it is. An event that was prepared before is given up.
 ///
-/// `NotReceived` with the first cause that holds, and `Memory`; at an error the room stays. The time is that of
-/// [`Timeline::offer`], and of one more judgement of the event by its auth events.
+/// `NotReceived` with the first cause that holds, and `Memory`; at an error none is prepared. The time is that of
+/// [`Timeline::prepare`], and of a look-up for each key that the rules ask for; of an event that is rejected also of one
+/// more judgement by its auth events.
 ///
 /// Source: the Matrix specification, Server-Server API, "Checks performed on receipt of a PDU".
-pub fn audited(
+pub(crate) fn prepared_explanation(
     alloc: Global,
     timeline: &mut Timeline,
     event: Pdu,
@@ -54,7 +42,10 @@ pub fn audited(
     ensures number { IfOk result (λ told. told.number ≡ length timeline.old.kept) }
     ensures failed { IfOk result (λ told. told.failed ≡ definition.deciding_check timeline.old.kept event) }
     ensures asked { IfOk result (λ told. told.asked.items ≡ definition.entries_asked timeline.old.kept event) }
-    ensures received { OnOk result (timeline.new ≡ record { kept = receipt.received timeline.old.kept (id, event); prepared = None }) }
+    ensures prepared { OnOk result (timeline.new ≡ record {
+      kept = timeline.old.kept;
+      prepared = Some (receipt.judged timeline.old.kept id event);
+    }) }
     ensures free { OnOk result (receipt.offer_error (receipt.rows_of timeline.old.kept) id event ≡ None) }
     ensures refused { (cause : Cause) → (IsErrOf result (OfferError.NotReceived cause)
         ↔ (receipt.offer_error (receipt.rows_of timeline.old.kept) id event ≡ Some cause)) }
@@ -62,13 +53,10 @@ pub fn audited(
 {
     timeline.discard();
     timeline.check(&event, &id)?;
-    let noted = note(alloc, timeline, &event)?;
+    let offered = event.clone()?;
     let verdict = timeline.prepare_checked(event, id)?;
-    match explained(alloc, timeline, noted, verdict) {
-        Ok(explanation) => {
-            timeline.install();
-            Ok(explanation)
-        }
+    match explained(alloc, timeline, &offered, verdict) {
+        Ok(explanation) => Ok(explanation),
         Err(refused) => {
             timeline.discard();
             Err(OfferError::from(refused))
@@ -76,55 +64,30 @@ pub fn audited(
     }
 }
 
-fn note(alloc: Global, timeline: &Timeline, event: &Pdu) -> Result<Noted, AllocError>
-    ensures failure { IfOk result (λ made. made.auth_failure
-        ≡ receipt.auth_failure (receipt.rows_of timeline.now.kept) event.now) }
-    ensures auth { IfOk result (λ made. made.by_auth_events.items
-        ≡ entries_at (state_of (receipt.rows_of timeline.now.kept) (record_of.auth_events (receipt.rows_of timeline.now.kept) event.now))
-        (needed_keys_of (receipt.version_in (receipt.rows_of timeline.now.kept)) event.now)) }
-    ensures current { IfOk result (λ made. made.by_current_state.items
-        ≡ entries_at (receipt.current_state timeline.now.kept)
-        (needed_keys_of (receipt.version_in (receipt.rows_of timeline.now.kept)) event.now)) }
-{
-    let auth_events = auth_events_of(alloc, timeline, event)?;
-    let auth_failure = auth_failure(alloc, timeline, event, &auth_events)?;
-    let keys = needed_keys(timeline.version(), event);
-    let by_auth_events = entries_of(alloc, &keys, &StateOfEvents::of(timeline, &auth_events))?;
-    let by_current_state = entries_of(alloc, &keys, &timeline.current())?;
-    Ok(Noted {
-        auth_failure,
-        by_auth_events,
-        by_current_state,
-    })
-}
-
-// Why the event that is prepared is received as it is.
+// Why the event that is prepared, under this verdict, is received as it is.
 fn explained(
     alloc: Global,
     timeline: &mut Timeline,
-    noted: Noted,
+    event: &Pdu,
     verdict: Verdict,
 ) -> Result<Explanation, AllocError>
     ensures number { IfOk result (λ told. told.number ≡ length timeline.old.kept) }
-    ensures failed { IfOk result (λ told. told.failed ≡ failed_by noted.auth_failure verdict) }
-    ensures asked { IfOk result (λ told. told.asked.items ≡ told_of (definition.told_check (failed_by noted.auth_failure verdict))
-        noted.by_auth_events.items
+    ensures failed { IfOk result (λ told. told.failed
+        ≡ failed_by verdict (receipt.auth_failure (receipt.rows_of timeline.old.kept) event.now)) }
+    ensures asked { IfOk result (λ told. told.asked.items ≡ told_of
+        (definition.told_check (failed_by verdict (receipt.auth_failure (receipt.rows_of timeline.old.kept) event.now)))
+        (definition.checked_entries timeline.old.kept event.now Check.AuthEvents)
         (last_entries (receipt.version_in (receipt.rows_of timeline.old.kept)) (receipt.installed timeline.old.kept timeline.old.prepared))
-        noted.by_current_state.items) }
+        (definition.checked_entries timeline.old.kept event.now Check.CurrentState)) }
     ensures stays { timeline.new ≡ timeline.old }
 {
-    let Noted {
-        auth_failure,
-        by_auth_events,
-        by_current_state,
-    } = noted;
     timeline_is_sound(timeline);
-    let failed = failed_check(auth_failure, verdict);
+    let failed = failed_check(alloc, timeline, event, verdict)?;
     let number = EventNo::at(timeline.len() as u32);
     let asked = match told_check(failed) {
-        Check::AuthEvents => by_auth_events,
+        Check::AuthEvents => asked_of_auth_events(alloc, timeline, event)?,
         Check::StateBefore => asked_before(alloc, timeline)?,
-        Check::CurrentState => by_current_state,
+        Check::CurrentState => asked_of_current_state(alloc, timeline, event)?,
     };
     Ok(Explanation {
         number,
@@ -133,26 +96,43 @@ fn explained(
     })
 }
 
-// The check that an event failed, by the line that does not allow it by its auth events, and by the verdict on it.
-fn failed_check(auth_failure: Option<Rule>, verdict: Verdict) -> Option<FailedCheck>
-    ensures { result ≡ failed_by auth_failure verdict }
+// The check that an event fails which is received under this verdict. A rejected event fails the one by its auth events
+// where that does not allow it, and else the one by the state before it.
+fn failed_check(
+    alloc: Global,
+    timeline: &Timeline,
+    event: &Pdu,
+    verdict: Verdict,
+) -> Result<Option<FailedCheck>, AllocError>
+    ensures { IfOk result (λ failed. failed
+        ≡ failed_by verdict (receipt.auth_failure (receipt.rows_of timeline.now.kept) event.now)) }
 {
-    if let Some(rule) = auth_failure {
-        return Some(FailedCheck {
-            check: Check::AuthEvents,
-            rule,
-        });
-    }
     match verdict {
-        Verdict::Accepted => None,
-        Verdict::Rejected(rule) => Some(FailedCheck {
-            check: Check::StateBefore,
-            rule,
-        }),
-        Verdict::SoftFailed(rule) => Some(FailedCheck {
+        Verdict::Accepted => Ok(None),
+        Verdict::Rejected(rule) => {
+            let auth_events = auth_events_of(alloc, timeline, event)?;
+            let failure = auth_failure(alloc, timeline, event, &auth_events)?;
+            Ok(Some(rejecting_check(failure, rule)))
+        }
+        Verdict::SoftFailed(rule) => Ok(Some(FailedCheck {
             check: Check::CurrentState,
             rule,
-        }),
+        })),
+    }
+}
+
+fn rejecting_check(auth_failure: Option<Rule>, rule: Rule) -> FailedCheck
+    ensures { result ≡ rejected_by auth_failure rule }
+{
+    match auth_failure {
+        Some(rule) => FailedCheck {
+            check: Check::AuthEvents,
+            rule,
+        },
+        None => FailedCheck {
+            check: Check::StateBefore,
+            rule,
+        },
     }
 }
 
@@ -164,6 +144,33 @@ fn told_check(failed: Option<FailedCheck>) -> Check
         Some(failed) => failed.check,
         None => Check::StateBefore,
     }
+}
+
+// What stands in the state of an event's auth events at the keys that the rules ask for.
+fn asked_of_auth_events(
+    alloc: Global,
+    timeline: &Timeline,
+    event: &Pdu,
+) -> Result<Vec<AskedEntry>, AllocError>
+    ensures { IfOk result (λ asked. asked.items ≡ definition.checked_entries timeline.now.kept event.now Check.AuthEvents) }
+{
+    let auth_events = auth_events_of(alloc, timeline, event)?;
+    let keys = needed_keys(timeline.version(), event);
+    let asked = entries_of(alloc, &keys, &StateOfEvents::of(timeline, &auth_events))?;
+    Ok(asked)
+}
+
+// What stands in the current state, before the event comes, at the keys that the rules ask for.
+fn asked_of_current_state(
+    alloc: Global,
+    timeline: &Timeline,
+    event: &Pdu,
+) -> Result<Vec<AskedEntry>, AllocError>
+    ensures { IfOk result (λ asked. asked.items ≡ definition.checked_entries timeline.now.kept event.now Check.CurrentState) }
+{
+    let keys = needed_keys(timeline.version(), event);
+    let asked = entries_of(alloc, &keys, &timeline.current())?;
+    Ok(asked)
 }
 
 // What stands in the state before the event that is prepared at the keys that the rules ask for.

@@ -1,11 +1,18 @@
 // Why the rules do not allow an event, in words.
+ghost use Rattle.std.specs.Prelude.{◌≡◌, option_map};
+ghost use Rattle.mx_auth.specs.Rules.{label_text};
+ghost use Rattle.mx_audit.specs.Reasons as definition;
+
 use mx_auth::Rule;
+use mx_receipt::Verdict;
 
 /// One sentence on the line of the authorization rules that does not allow an event. A membership, a level and the join
 /// rule are those of the state that decided.
 ///
 /// Source: the Matrix specification, Room Version 6 and Room Version 7, "Authorization rules".
-pub fn reason(rule: Rule) -> &'static str {
+pub fn reason(rule: Rule) -> &'static str
+    ensures { result.now ≡ definition.reason_text rule }
+{
     match rule {
         Rule::CreateHasPrevEvents => "a create event has a prev event",
         Rule::CreateOfAnotherServer =>
@@ -64,5 +71,46 @@ pub fn reason(rule: Rule) -> &'static str {
             "an entry of another user is changed or removed, and was not below the sender's level",
         Rule::NewUserAboveSender =>
             "an entry of users is added or changed, and is above the sender's level now",
+    }
+}
+
+/// The sentence on the line that does not allow an event, where one does not.
+pub(crate) fn sentence_of(refusal: Option<Rule>) -> Option<&'static str>
+    ensures { option_map (λ text. text.now) result ≡ option_map definition.reason_text refusal }
+{
+    match refusal {
+        Some(rule) => Some(reason(rule)),
+        None => None,
+    }
+}
+
+/// The label of the line that does not allow an event, where one does not.
+pub(crate) fn label_of(refusal: Option<Rule>) -> Option<&'static str>
+    ensures { option_map (λ text. text.now) result ≡ option_map label_text refusal }
+{
+    match refusal {
+        Some(rule) => Some(rule.label()),
+        None => None,
+    }
+}
+
+/// The line of the rules that a verdict tells.
+pub(crate) fn refusal_of(verdict: Verdict) -> Option<Rule>
+    ensures { result ≡ definition.refusal_of verdict }
+{
+    match verdict {
+        Verdict::Accepted => None,
+        Verdict::SoftFailed(rule) | Verdict::Rejected(rule) => Some(rule),
+    }
+}
+
+/// The verdict, as lines name it.
+pub(crate) fn verdict_name(verdict: Verdict) -> &'static str
+    ensures { result.now ≡ definition.verdict_text verdict }
+{
+    match verdict {
+        Verdict::Accepted => "accepted",
+        Verdict::SoftFailed(_) => "soft failed",
+        Verdict::Rejected(_) => "rejected",
     }
 }

@@ -1,83 +1,101 @@
 // The lines that tell of a resolution.
-use crate::event_lines::id_at;
-use crate::members::Members;
-use crate::reasons::reason;
+ghost use Rattle.std.specs.Prelude.{◌≡◌, ◌++◌, ℕ, IfOk, List, Some, flat_map};
+ghost use Rattle.mx_orders.specs.StateMap.{State};
+ghost use Rattle.mx_audit.specs.EventLines as definition;
+
+use crate::entry_lines::{id_at, write_rest};
+use crate::line_writing::{end_line, open_line, write_flag, write_id, write_number, write_text_if};
+use crate::reasons::{label_of, sentence_of};
 use crate::steps::{ResolutionStep, ResolutionSteps};
+use mx_canon::{TextBuffer, TextSink, write_key, write_string};
 use mx_receipt::Timeline;
 use mx_state_res::{StateEntry, StateMap};
-use serde_json::Value;
 use std::alloc::{AllocError, Global};
 
 /// A resolution in lines: the entries in conflict of each state, by the state's place from 0, then the checks of the power
 /// events in power order, and those of the other events in mainline order, each with the line of the rules that does not
-/// allow the event, where there is one.
+/// allow the event, where there is one. `AllocError` where no memory is left.
 pub fn lines_of_resolution(
     alloc: Global,
     timeline: &Timeline,
     steps: &ResolutionSteps,
-) -> Result<Vec<String>, AllocError> {
-    let mut lines = Vec::new(alloc);
-    for (place, state) in steps.conflicted.iter().enumerate() {
-        push_conflicted(alloc, &mut lines, timeline, place, state)?;
-    }
-    push_steps(alloc, &mut lines, timeline, "power", &steps.power)?;
-    push_steps(alloc, &mut lines, timeline, "mainline", &steps.others)?;
-    Ok(lines)
+) -> Result<Vec<u8>, AllocError>
+    ensures { IfOk result (λ lines. lines.items ≡ definition.resolution_text timeline.now.kept
+        steps.now.conflicted.items steps.now.power.items steps.now.others.items) }
+{
+    let mut lines = TextBuffer::new(alloc);
+    write_conflicts(&mut lines, timeline, &steps.conflicted);
+    write_steps(&mut lines, timeline, "power", &steps.power);
+    write_steps(&mut lines, timeline, "mainline", &steps.others);
+    let bytes = lines.into_bytes()?;
+    Ok(bytes)
 }
 
-fn push_conflicted(
-    alloc: Global,
-    lines: &mut Vec<String>,
+fn write_conflicts<S: TextSink>(sink: &mut S, timeline: &Timeline, states: &[StateMap])
+    ensures { (taken : List ℕ) → S.has_taken sink.old taken
+        → S.has_taken sink.new (taken ++ definition.conflicts_text timeline.now.kept 0 states.now) }
+{
+    for (place, state) in states.iter().enumerate() {
+        write_conflict(sink, timeline, place, state.entries());
+    }
+}
+
+fn write_conflict<S: TextSink>(
+    sink: &mut S,
     timeline: &Timeline,
     place: usize,
-    state: &StateMap,
-) -> Result<(), AllocError> {
-    for entry in state.entries() {
-        lines.push(conflicted_line(alloc, timeline, place, entry)?)?;
+    entries: &[StateEntry],
+)
+    ensures { (taken : List ℕ) → S.has_taken sink.old taken
+        → S.has_taken sink.new (taken ++ definition.conflict_text timeline.now.kept place entries.now) }
+{
+    for entry in entries {
+        write_conflicted(sink, timeline, place, entry);
     }
-    Ok(())
 }
 
-fn conflicted_line(
-    alloc: Global,
+fn write_conflicted<S: TextSink>(
+    sink: &mut S,
     timeline: &Timeline,
     place: usize,
     entry: &StateEntry,
-) -> Result<String, AllocError> {
-    let mut line = Members::new(alloc);
-    line.put("conflicted", Value::from(place))?;
-    line.put_text("type", entry.kind())?;
-    line.put_text("state_key", entry.state_key())?;
-    line.put_id("event_id", id_at(timeline, Some(entry.event())))?;
-    line.into_line()
+)
+    ensures { (taken : List ℕ) → S.has_taken sink.old taken
+        → S.has_taken sink.new (taken ++ definition.conflict_line timeline.now.kept place entry.now) }
+{
+    open_line(sink, b"conflicted");
+    write_number(sink, place as u64);
+    write_key(sink, true, b"event_id");
+    write_id(sink, id_at(timeline, Some(entry.event())));
+    write_rest(sink, entry.kind(), entry.state_key());
+    sink.put(b"\n");
 }
 
-fn push_steps(
-    alloc: Global,
-    lines: &mut Vec<String>,
+fn write_steps<S: TextSink>(
+    sink: &mut S,
     timeline: &Timeline,
     order: &str,
     steps: &[ResolutionStep],
-) -> Result<(), AllocError> {
+)
+    ensures { (taken : List ℕ) → S.has_taken sink.old taken
+        → S.has_taken sink.new (taken ++ flat_map (definition.step_text timeline.now.kept order.now) steps.now) }
+{
     for step in steps {
-        lines.push(step_line(alloc, timeline, order, *step)?)?;
+        write_step(sink, timeline, order, *step);
     }
-    Ok(())
 }
 
-fn step_line(
-    alloc: Global,
-    timeline: &Timeline,
-    order: &str,
-    step: ResolutionStep,
-) -> Result<String, AllocError> {
-    let mut line = Members::new(alloc);
-    line.put_text("order", order)?;
-    line.put_id("event_id", id_at(timeline, Some(step.event)))?;
-    line.put("allowed", Value::from(step.refusal.is_none()))?;
-    if let Some(rule) = step.refusal {
-        line.put_text("rule", rule.label())?;
-        line.put_text("because", reason(rule))?;
-    }
-    line.into_line()
+fn write_step<S: TextSink>(sink: &mut S, timeline: &Timeline, order: &str, step: ResolutionStep)
+    ensures { (taken : List ℕ) → S.has_taken sink.old taken
+        → S.has_taken sink.new (taken ++ definition.step_text timeline.now.kept order.now step) }
+{
+    open_line(sink, b"allowed");
+    write_flag(sink, step.refusal.is_none());
+    write_text_if(sink, b"because", sentence_of(step.refusal));
+    write_key(sink, true, b"event_id");
+    write_id(sink, id_at(timeline, Some(step.event)));
+    write_key(sink, true, b"order");
+    write_string(sink, order.as_bytes());
+    write_text_if(sink, b"rule", label_of(step.refusal));
+    end_line(sink);
 }

@@ -1,15 +1,17 @@
 // A room's events, each with why it was received as it was.
-ghost use Rattle.std.specs.Prelude.{◌≡◌, ◌↔◌, ◌&&◌, [], codes, is_none, true, false, IfOk, IsErrOf, OnOk};
+ghost use Rattle.std.specs.Prelude.{◌≡◌, ◌↔◌, ◌&&◌, [], codes, is_none, true, false, IfOk, IsErrOf, None, OnErr, OnOk, Some, option_map};
 ghost use Rattle.mx_redact.specs.Fields.{is_text};
 ghost use Rattle.mx_pdu.specs.Event.{auth_ids, has_kind, state_key_of};
 ghost use Rattle.mx_auth.specs.Rules.{rules};
 ghost use Rattle.mx_orders.specs.StateMap.{view};
-ghost use Rattle.mx_receipt.specs.Receipt.{begun, created_version as created_version_of, received};
+ghost use Rattle.mx_receipt.specs.Receipt.{begun, created_version as created_version_of, offer_error, received, rows_of};
+ghost use Rattle.mx_receipt.specs.declared.refusals.NotReceived.{NotReceived as Cause};
+ghost use Rattle.mx_audit.specs.Told.{AreTold, told, told_shown};
 ghost use Rattle.mx_audit.specs.SoundTest.{has_none, sound_test};
 ghost use Rattle.mx_receipt.specs.TimelineView.{IsSoundCreate};
 
 use crate::audit_errors::AuditError;
-use crate::explaining::{Explanation, audited};
+use crate::explaining::{Explanation, prepared_explanation};
 use mx_auth::{RoomState, judge};
 use mx_graph::EventNo;
 use mx_ident::EventId;
@@ -18,7 +20,8 @@ use mx_receipt::{Timeline, created_version};
 use std::alloc::Global;
 use std::marker::Model;
 
-/// The events of a room in the order of their arrival, each with why it was received as it was.
+/// The events of a room in the order of their arrival, each with why it was received as it was. Contracts see it as the
+/// record of its events: what is told of each follows from that.
 #[derive(Debug, Drop)]
 pub struct RoomAudit {
     timeline: Timeline,
@@ -30,12 +33,15 @@ impl Model for RoomAudit {
     ghost use Rattle.std.specs.Prelude.{List};
     ghost use Rattle.mx_receipt.specs.KeptCode.{record_code};
     ghost use Rattle.mx_receipt.specs.Receipt.{Kept};
+    ghost use Rattle.mx_audit.specs.Told.{AreTold};
 
     ghost Value = { List Kept };
 
     ghost coded = { record_code };
 
     ghost view = { λ audit. audit.timeline.kept };
+
+    ghost invariant = { λ audit. AreTold audit.timeline.kept audit.explanations.items };
 }
 
 // The state of a room that has no event.
@@ -75,13 +81,22 @@ impl RoomAudit {
         })
     }
 
-    /// Receives the room's next event. The errors are those of [`audited`]; after one the audit is not to be used.
+    /// Receives the room's next event: it judges it, and keeps why it is received as it is.
+    ///
+    /// `NotReceived` with the first cause that holds, and `Memory`; at an error the room stays. The time is that of
+    /// [`Timeline::offer`], and of a look-up for each key that the rules ask for; of an event that is rejected also of one
+    /// more judgement by its auth events.
+    ///
+    /// Source: the Matrix specification, Server-Server API, "Checks performed on receipt of a PDU".
     pub fn receive(&mut self, alloc: Global, event: Pdu, id: EventId) -> Result<(), AuditError>
-        ensures { OnOk result (self.new ≡ received self.old (id, event)) }
+        ensures received { OnOk result (self.new ≡ received self.old (id, event)) }
+        ensures free { OnOk result (offer_error (rows_of self.old) id event ≡ None) }
+        ensures refused { (cause : Cause) → (IsErrOf result (AuditError.NotReceived cause)
+            ↔ (offer_error (rows_of self.old) id event ≡ Some cause)) }
+        ensures begun { ¬ IsErrOf result AuditError.NotACreateEvent }
+        ensures err { OnErr result (self.new ≡ self.old) }
     {
-        let explanation = audited(alloc, &mut self.timeline, event, id)?;
-        self.explanations.push(explanation)?;
-        Ok(())
+        receive_in(alloc, &mut self.timeline, &mut self.explanations, event, id)
     }
 
     /// The events under their verdicts.
@@ -91,10 +106,44 @@ impl RoomAudit {
         &self.timeline
     }
 
-    /// Why the event with this number was received as it was; none for the create event, which begins the room.
-    pub fn explanation(&self, number: EventNo) -> Option<&Explanation> {
+    /// Why the event with this number was received as it was: by the check that decides on it after the events that came
+    /// before it, and what stood in that check's state. None for the create event, which begins the room, and where there
+    /// is no such event.
+    pub fn explanation(&self, number: EventNo) -> Option<&Explanation>
+        ensures { option_map (λ e. told_shown e.now) result ≡ told self.now number }
+    {
         let place = number.index().checked_sub(1)?;
         self.explanations.get(place)
+    }
+}
+
+// Receives an event, and adds why it is received as it is to what is told of the others.
+fn receive_in(
+    alloc: Global,
+    timeline: &mut Timeline,
+    explanations: &mut Vec<Explanation>,
+    event: Pdu,
+    id: EventId,
+) -> Result<(), AuditError>
+    requires { AreTold timeline.old.kept explanations.old.items }
+    ensures received { OnOk result (timeline.new.kept ≡ received timeline.old.kept (id, event)) }
+    ensures free { OnOk result (offer_error (rows_of timeline.old.kept) id event ≡ None) }
+    ensures refused { (cause : Cause) → (IsErrOf result (AuditError.NotReceived cause)
+        ↔ (offer_error (rows_of timeline.old.kept) id event ≡ Some cause)) }
+    ensures begun { ¬ IsErrOf result AuditError.NotACreateEvent }
+    ensures err { OnErr result (timeline.new.kept ≡ timeline.old.kept) }
+    ensures told { AreTold timeline.new.kept explanations.new.items }
+{
+    let explanation = prepared_explanation(alloc, timeline, event, id)?;
+    match explanations.push(explanation) {
+        Ok(()) => {
+            timeline.install();
+            Ok(())
+        }
+        Err(refused) => {
+            timeline.discard();
+            Err(AuditError::from(refused))
+        }
     }
 }
 

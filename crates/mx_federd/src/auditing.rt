@@ -8,6 +8,7 @@ use crate::auditing::file_rows::rows_of_directory;
 use crate::auditing::log_rows::rows_of_log;
 use crate::auditing::telling::tell;
 use crate::output::{Failure, flushed};
+use crate::progress::Progress;
 use mx_audit::{AuditError, RoomAudit};
 use mx_ident::{EventId, RoomId, ServerName};
 use mx_keeper::ShardRow;
@@ -52,7 +53,8 @@ pub struct AuditOptions {
     pub question: AuditQuestion,
 }
 
-/// Answers what is asked of a room. The log is read only where the events are in one.
+/// Answers what is asked of a room. The log is read only where the events are in one. Where standard error is a terminal it
+/// tells how far it is.
 pub fn audit<R: Read, W: Write>(
     host: &HostRuntime,
     options: AuditOptions,
@@ -65,20 +67,29 @@ pub fn audit<R: Read, W: Write>(
         question,
     } = options;
     let alloc = host.alloc();
+    let mut progress = Progress::new(host);
     let rows = match source {
-        AuditSource::Log { name, shards } => rows_of_log(alloc, name, shards, log)?,
-        AuditSource::Directory(directory) => rows_of_directory(host, &directory)?,
+        AuditSource::Log { name, shards } => rows_of_log(alloc, name, shards, log, &mut progress)?,
+        AuditSource::Directory(directory) => rows_of_directory(host, &directory, &mut progress)?,
     };
-    let audit = audit_of(alloc, &room, rows)?;
+    let audit = audit_of(alloc, &room, rows, &mut progress)?;
     let mut lines = BufWriter::new(alloc, out).map_err(Failure::of_io)?;
     tell(alloc, &audit, &question, &mut lines)?;
     flushed(&mut lines)
 }
 
 // The audit of the events of a room among these rows.
-fn audit_of(alloc: Global, room: &RoomId, rows: Vec<ShardRow>) -> Result<RoomAudit, Failure> {
+fn audit_of(
+    alloc: Global,
+    room: &RoomId,
+    rows: Vec<ShardRow>,
+    progress: &mut Progress<'_>,
+) -> Result<RoomAudit, Failure> {
     let mut audit = None;
+    let mut count: u64 = 0;
     for row in rows {
+        count = count.saturating_add(1);
+        progress.tell(count, "rows judged");
         if &row.room == room {
             receive_row(alloc, &mut audit, row)?;
         }

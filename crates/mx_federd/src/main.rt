@@ -9,6 +9,7 @@ mod auditing;
 mod checking;
 mod command_line;
 mod output;
+mod progress;
 mod replaying;
 
 use auditing::{AuditOptions, audit};
@@ -17,6 +18,7 @@ use command_line::{Command, CommandLineError};
 use mx_server::{ServeOptions, serve};
 use mx_wire::read_all;
 use output::{Failure, MISUSED, SUCCESS, lines_of, report, report_server, write_to};
+use progress::{CountedInput, Progress};
 use replaying::replay;
 use std::alloc::{AllocError, AllocGlobal, Global};
 use std::env;
@@ -109,7 +111,7 @@ fn words_of(rt: &HostRuntime) -> io::Result<Vec<String>> {
     Ok(words)
 }
 
-// Does what the words ask for, and gives the exit status.
+// Does what the words ask for, and gives the exit status. Where standard error is a terminal it tells how much was read.
 fn status_by<R, I: Read, W: Write, E: Write>(
     rt: &R,
     host: &HostRuntime,
@@ -131,13 +133,14 @@ where
         + Send
         + Sync,
 {
-    match main_with(rt.alloc(), words, input, out, err) {
+    let mut counted = CountedInput::new(input, Progress::new(host));
+    match main_with(rt.alloc(), words, &mut counted, out, err) {
         Asked::Ended(status) => status,
         Asked::Serve(options) => match serve(rt, host, options, out, err) {
             Ok(()) => SUCCESS,
             Err(error) => report_server(error, err),
         },
-        Asked::Audit(options) => status_of(audit(host, options, input, out), err),
+        Asked::Audit(options) => status_of(audit(host, options, &mut counted, out), err),
     }
 }
 

@@ -4,6 +4,7 @@ ghost use Rattle.sqlite_disk.specs.Memory.{memory_is_usable};
 
 use crate::auditing::log_rows::add_rows;
 use crate::output::Failure;
+use crate::progress::Progress;
 use mx_keeper::{Keeper, MOST_PLACES, ShardRow, SqliteKeeper};
 use sqlite::{Connection, Error, ErrorCode, FileStore, Files, Options};
 use sqlite_disk::{Disk, Memory};
@@ -17,6 +18,7 @@ use std::fs;
 pub(crate) fn rows_of_directory(
     host: &HostRuntime,
     directory: &str,
+    progress: &mut Progress<'_>,
 ) -> Result<Vec<ShardRow>, Failure> {
     let alloc = host.alloc();
     let mut all = Vec::new(alloc);
@@ -29,6 +31,7 @@ pub(crate) fn rows_of_directory(
             break;
         }
         add_rows(&mut all, rows_of_file(host, &path)?)?;
+        progress.tell(all.len() as u64, "rows read");
     }
     Ok(all)
 }

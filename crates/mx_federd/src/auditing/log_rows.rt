@@ -3,6 +3,7 @@ ghost use Rattle.std.specs.Prelude.{◌≡◌, ◌≤◌, IfOk, length};
 
 use crate::auditing::log_steps::{LogServer, take_line};
 use crate::output::Failure;
+use crate::progress::Progress;
 use mx_ident::ServerName;
 use mx_keeper::{BookRow, CallError, Keeper, KeeperFault, MemoryKeeper, ShardRow, Storable};
 use mx_requests::WireServer;
@@ -18,6 +19,7 @@ pub(crate) fn rows_of_log<R: Read>(
     name: ServerName,
     shards: ShardCount,
     log: &mut R,
+    progress: &mut Progress<'_>,
 ) -> Result<Vec<ShardRow>, Failure> {
     let text = read_all(alloc, log)?;
     let server = WireServer::new(alloc, name)?;
@@ -29,9 +31,12 @@ pub(crate) fn rows_of_log<R: Read>(
         world: world.map_err(Failure::of_call)?,
     };
     let mut rest = text.as_slice();
+    let mut count: u64 = 0;
     while !rest.is_empty() {
         let (line, after) = first_line(rest);
         take_line(alloc, &mut taking, line)?;
+        count = count.saturating_add(1);
+        progress.tell(count, "lines taken");
         rest = after;
     }
     rows_of(alloc, taking)

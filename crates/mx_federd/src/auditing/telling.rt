@@ -68,7 +68,7 @@ fn tell_event<W: Write>(
     out: &mut W,
 ) -> Result<(), Failure> {
     match event_line(alloc, audit, number)? {
-        Some(line) => write_text(out, &line),
+        Some(line) => write_bytes(out, &line),
         None => Ok(()),
     }
 }
@@ -79,10 +79,8 @@ fn tell_state<W: Write>(
     state: &StateRef<'_>,
     out: &mut W,
 ) -> Result<(), Failure> {
-    for line in state_lines(alloc, audit.timeline(), state)? {
-        write_text(out, &line)?;
-    }
-    Ok(())
+    let lines = state_lines(alloc, audit.timeline(), state)?;
+    write_bytes(out, &lines)
 }
 
 fn tell_resolution<W: Write>(
@@ -98,23 +96,21 @@ fn tell_resolution<W: Write>(
         Err(GraphError::Memory) => return Err(Failure::Memory),
         Err(GraphError::NotAdded(_)) => return Err(Failure::Storage),
     };
-    for line in lines_of_resolution(alloc, audit.timeline(), &steps)? {
-        write_text(out, &line)?;
-    }
-    Ok(())
+    let lines = lines_of_resolution(alloc, audit.timeline(), &steps)?;
+    write_bytes(out, &lines)
 }
 
 fn tell_picture<W: Write>(alloc: Global, audit: &RoomAudit, out: &mut W) -> Result<(), Failure> {
     timeline_is_sound(audit.timeline());
-    write_text(out, picture_head())?;
+    write_bytes(out, picture_head().as_bytes())?;
     for number in 0..audit.timeline().len() {
         if let Some(lines) = picture_lines(alloc, audit, EventNo::at(number as u32))? {
-            write_text(out, &lines)?;
+            write_bytes(out, &lines)?;
         }
     }
-    write_text(out, picture_end())
+    write_bytes(out, picture_end().as_bytes())
 }
 
-fn write_text<W: Write>(out: &mut W, text: &str) -> Result<(), Failure> {
-    out.write_all(text.as_bytes()).map_err(Failure::of_io)
+fn write_bytes<W: Write>(out: &mut W, bytes: &[u8]) -> Result<(), Failure> {
+    out.write_all(bytes).map_err(Failure::of_io)
 }

@@ -1,0 +1,37 @@
+-- What is told of the events of a room (Matrix specification, Server-Server API, checks performed on receipt of a PDU).
+use Rattle.std.specs.Prelude.{◌≡◌, ◌<◌, ℕ, zero, suc, ◌-◌, ◌++◌, List, [], ◌∷◌, length, map, take, slice_get, Option, None, option_map}
+use Rattle.mx_auth.specs.Rules.{Key}
+use Rattle.mx_receipt.specs.Receipt.{Kept, kept_at}
+use Rattle.mx_audit.specs.Explaining.{deciding_check, entries_asked}
+use Rattle.mx_audit.specs.declared.checks.FailedCheck.{FailedCheck}
+use Rattle.mx_audit.specs.declared.explaining.Explanation.{Explanation}
+
+-- the number of an event, the check that it failed, and what stood in the state that decided
+pub record Told : Type 0 where
+  pub number : ℕ
+  pub failed : Option FailedCheck
+  pub asked : List (Key × Option ℕ)
+
+abbrev pub told_shown : Explanation → Told
+told_shown e = record { number = e.number; failed = e.failed; asked = e.asked.items }
+
+-- of an event of a record, by the events that came before it
+abbrev pub told_at : List Kept → ℕ → Told
+told_at kept p =
+    let before = take p kept in
+    let e = (kept_at kept p).event in
+    record { number = p; failed = deciding_check before e; asked = entries_asked before e }
+
+-- of each event but the create event, which begins the room
+abbrev pub told : List Kept → ℕ → Option Told
+told kept zero = None
+told kept (suc p) = option_map (λ _. told_at kept (suc p)) (slice_get kept (suc p))
+
+-- of the events from the second on, so many of them
+abbrev pub told_first : List Kept → ℕ → List Told
+told_first kept zero = []
+told_first kept (suc n) = told_first kept n ++ told_at kept (suc n) ∷ []
+
+-- these were told of a room that has begun
+abbrev pub AreTold : List Kept → List Explanation → Type 0
+AreTold kept explanations = (0 < length kept) × (map told_shown explanations ≡ told_first kept (length kept - 1))
