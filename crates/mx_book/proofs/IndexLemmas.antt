@@ -1,6 +1,6 @@
--- The maps beside a journal.
-use Rattle.std.proofs.Common.{◌≡◌, ℕ, suc, zero, ◌+◌, ◌<◌, ◌≤◌, Bool, true, false, cond, IsTrue, List, [], ◌∷◌, ◌++◌, length, Option, Some, None, refl, sym, ◌∙◌, ap, subst, arith, length-append}
-use Rattle.std.specs.Prelude.{slice_get, is_some, IsSome, ◌==◌, ◌≢◌}
+-- What finds the transactions of a journal.
+use Rattle.std.proofs.Common.{◌≡◌, ℕ, suc, zero, ◌+◌, ◌<◌, Bool, true, false, cond, IsTrue, List, [], ◌∷◌, ◌++◌, length, Option, Some, None, refl, sym, ◌∙◌, ap, subst, arith, length-append, append-nil}
+use Rattle.std.specs.Prelude.{slice_get, is_some, ◌==◌, ◌≢◌, ◌↔◌}
 use Rattle.std.specs.declared.cmp.Ordering.TheVariants.{Equal}
 use Rattle.std.specs.Ordering.{is_eq}
 use Rattle.std.specs.Map.{lookup}
@@ -8,29 +8,30 @@ use Rattle.std.specs.BTreeMap.{BTreeMap, get, Updates, IsUnchanged, btree_map_le
 use Rattle.std.proofs.lemmas.Bool.{false≢true}
 use Rattle.std.proofs.lemmas.Cmp.{tied_itself}
 use Rattle.std.proofs.lemmas.Bool.Decides.{nat_tests}
-use Rattle.std.proofs.lemmas.List.Elements.{All-append}
+use Rattle.std.specs.List.{filter_map}
+use Rattle.std.proofs.lemmas.List.Elements.{All-append, filter_map-append}
 use Rattle.mx_keeper.specs.Places.{PlaceView, is_at}
 use Rattle.mx_book.specs.Transactions.{same, transaction_cmp}
 use Rattle.mx_book.specs.TransactionLaws.{transaction_total, transaction_ties}
-use Rattle.mx_book.specs.Journal.{transaction_of, last_of, Hold, free, begun, kept, hold_after, hold_of, opening_of, follows}
+use Rattle.mx_book.specs.Journal.{transaction_of, last_of, Hold, free, begun, kept, hold_after, hold_of, opening_of, follows, reply_in}
 use Rattle.mx_book.specs.declared.entries.BookEntry.TheVariants.{Begun, Kept, GivenUp}
 use Rattle.mx_book.specs.declared.openings.Opening.{Opening}
 use Rattle.mx_book.specs.declared.openings.Opening.TheVariants as opening
-use Rattle.mx_book.specs.Inside.{hold_at, is_kept, reply_of, hold_found, IsMoved, IsSameMap, IsIndexed, IsSound}
+use Rattle.mx_book.specs.Inside.{reply_at, hold_kept, hold_at, is_kept, hold_found, IsMoved, IsSameMap, IsIndexed, IsSound}
 use Rattle.mx_book.specs.declared.transaction_keys.TransactionKey.{TransactionKey}
 use Rattle.mx_book.specs.declared.entries.BookEntry.{BookEntry}
 use Rattle.mx_book.proofs.JournalLemmas.{same-self, same-eq, hold_of-here, hold_of-there, is_legal-push, all_one}
 
--- ---- entries and their places
+-- ---- replies and their places
 
-pub slice_get-before : (journal more : List BookEntry) (n : ℕ) → n < length journal → slice_get (journal ++ more) n ≡ slice_get journal n
+slice_get-before : (replies more : List (List ℕ)) (n : ℕ) → n < length replies → slice_get (replies ++ more) n ≡ slice_get replies n
 slice_get-before [] more n l = absurd (omega arith)
-slice_get-before (e ∷ es) more zero l = refl
-slice_get-before (e ∷ es) more (suc n) l = slice_get-before es more n (omega arith)
+slice_get-before (r ∷ rs) more zero l = refl
+slice_get-before (r ∷ rs) more (suc n) l = slice_get-before rs more n (omega arith)
 
-pub slice_get-last : (journal : List BookEntry) (entry : BookEntry) → slice_get (journal ++ entry ∷ []) (length journal) ≡ Some entry
-slice_get-last [] entry = refl
-slice_get-last (e ∷ es) entry = slice_get-last es entry
+slice_get-last : (replies : List (List ℕ)) (reply : List ℕ) → slice_get (replies ++ reply ∷ []) (length replies) ≡ Some reply
+slice_get-last [] reply = refl
+slice_get-last (r ∷ rs) reply = slice_get-last rs reply
 
 -- ---- a map that changes at one transaction
 
@@ -64,157 +65,164 @@ moved_back first second third key w none there back = λ p.
       | false ↦ λ h. back.there p h ∙ there.there p h
     ] refl
 
-pub indexed_same : (journal : List BookEntry) (callers callers' replies replies' : BTreeMap TransactionKey ℕ) → IsIndexed journal callers replies → IsSameMap callers callers' → IsSameMap replies replies' → IsIndexed journal callers' replies'
-indexed_same journal callers callers' replies replies' index cs rs = record {
-  states = λ p. index.states p ∙ ap (λ o. hold_found o (hold_at journal (get transaction_cmp replies p))) (sym (cs p)) ∙ ap (λ o. hold_found (get transaction_cmp callers' p) (hold_at journal o)) (sym (rs p));
-  apart = λ p caller h. rs p ∙ index.apart p caller (sym (cs p) ∙ h);
-  within = λ p n h. index.within p n (sym (rs p) ∙ h);
-  replied = λ p n h. index.replied p n (sym (rs p) ∙ h);
+pub indexed_same : (journal : List BookEntry) (callers callers' places places' : BTreeMap TransactionKey ℕ) (replies : List (List ℕ)) → IsIndexed journal callers places replies → IsSameMap callers callers' → IsSameMap places places' → IsIndexed journal callers' places' replies
+indexed_same journal callers callers' places places' replies index cs ps = record {
+  states = λ p. index.states p ∙ ap (λ o. hold_found o (hold_at replies (get transaction_cmp places p))) (sym (cs p)) ∙ ap (λ o. hold_found (get transaction_cmp callers' p) (hold_at replies o)) (sym (ps p));
+  apart = λ p caller h. ps p ∙ index.apart p caller (sym (cs p) ∙ h);
+  within = λ p n h. index.within p n (sym (ps p) ∙ h);
+  replied = λ p n h. index.replied p n (sym (ps p) ∙ h);
+  all = index.all;
 }
+
+pub indexed_replies : (journal : List BookEntry) (callers places : BTreeMap TransactionKey ℕ) (replies replies' : List (List ℕ)) → replies ≡ replies' → IsIndexed journal callers places replies → IsIndexed journal callers places replies'
+indexed_replies journal callers places replies replies' is index = subst (IsIndexed journal callers places) is index
 
 -- ---- what the maps say
 
-pub free_means : (journal : List BookEntry) (callers replies : BTreeMap TransactionKey ℕ) (p : TransactionKey) → IsIndexed journal callers replies → hold_of journal p ≡ free →
-    (get transaction_cmp callers p ≡ None) × (get transaction_cmp replies p ≡ None)
-free_means journal callers replies p index h = cases (get transaction_cmp callers p) (get transaction_cmp replies p) (sym h ∙ index.states p) (λ n. index.replied p n)
-  where
-    cases : (o r : Option ℕ) → free ≡ hold_found o (hold_at journal r) → ((n : ℕ) → r ≡ Some n → is_kept (hold_at journal (Some n)) ≡ true) → (o ≡ None) × (r ≡ None)
-    cases (Some caller) r e k = absurd (let e' : free ≡ begun caller = e in cc)
-    cases None None e k = (refl, refl)
-    cases None (Some n) e k = absurd (false≢true (ap is_kept e ∙ k n refl))
+module _ (journal : List BookEntry) (callers places : BTreeMap TransactionKey ℕ) (replies : List (List ℕ)) (p : TransactionKey) (index : IsIndexed journal callers places replies) where
+  pub free_means : hold_of journal p ≡ free → (get transaction_cmp callers p ≡ None) × (get transaction_cmp places p ≡ None)
+  free_means h = cases (get transaction_cmp callers p) (get transaction_cmp places p) (sym h ∙ index.states p) (λ n. index.replied p n)
+    where
+      cases : (o r : Option ℕ) → free ≡ hold_found o (hold_at replies r) → ((n : ℕ) → r ≡ Some n → is_kept (hold_at replies (Some n)) ≡ true) → (o ≡ None) × (r ≡ None)
+      cases (Some caller) r e k = absurd (let e' : free ≡ begun caller = e in cc)
+      cases None None e k = (refl, refl)
+      cases None (Some n) e k = absurd (false≢true (ap is_kept e ∙ k n refl))
 
-pub begun_means : (journal : List BookEntry) (callers replies : BTreeMap TransactionKey ℕ) (p : TransactionKey) (caller : ℕ) → IsIndexed journal callers replies → hold_of journal p ≡ begun caller →
-    get transaction_cmp callers p ≡ Some caller
-begun_means journal callers replies p caller index h = cases (get transaction_cmp callers p) (get transaction_cmp replies p) (sym h ∙ index.states p) (λ n. index.replied p n)
-  where
-    cases : (o r : Option ℕ) → begun caller ≡ hold_found o (hold_at journal r) → ((n : ℕ) → r ≡ Some n → is_kept (hold_at journal (Some n)) ≡ true) → o ≡ Some caller
-    cases (Some other) r e k = let e' : begun caller ≡ begun other = e in cc
-    cases None None e k = absurd (let e' : begun caller ≡ free = e in cc)
-    cases None (Some n) e k = absurd (false≢true (ap is_kept e ∙ k n refl))
+  pub begun_means : (caller : ℕ) → hold_of journal p ≡ begun caller → get transaction_cmp callers p ≡ Some caller
+  begun_means caller h = cases (get transaction_cmp callers p) (get transaction_cmp places p) (sym h ∙ index.states p) (λ n. index.replied p n)
+    where
+      cases : (o r : Option ℕ) → begun caller ≡ hold_found o (hold_at replies r) → ((n : ℕ) → r ≡ Some n → is_kept (hold_at replies (Some n)) ≡ true) → o ≡ Some caller
+      cases (Some other) r e k = let e' : begun caller ≡ begun other = e in cc
+      cases None None e k = absurd (let e' : begun caller ≡ free = e in cc)
+      cases None (Some n) e k = absurd (false≢true (ap is_kept e ∙ k n refl))
 
-unfoldable pub opening_with : Option (List ℕ) → Opening
-opening_with None = opening.Fresh
-opening_with (Some reply) = opening.Kept reply
+  pub begun_iff : (caller : ℕ) → get transaction_cmp callers p ≡ Some caller → hold_of journal p ≡ begun caller
+  begun_iff caller h = index.states p ∙ ap (λ o. hold_found o (hold_at replies (get transaction_cmp places p))) h
 
-pub opening_busy : (journal : List BookEntry) (callers replies : BTreeMap TransactionKey ℕ) (p : TransactionKey) → IsIndexed journal callers replies → is_some (get transaction_cmp callers p) ≡ true → opening_of (hold_of journal p) ≡ opening.Busy
-opening_busy journal callers replies p index h = ap opening_of (index.states p) ∙ cases (get transaction_cmp callers p) (hold_at journal (get transaction_cmp replies p)) h
-  where
-    cases : (o : Option ℕ) (state : Hold) → is_some o ≡ true → opening_of (hold_found o state) ≡ opening.Busy
-    cases None state h = absurd (false≢true h)
-    cases (Some caller) state h = refl
+  pub opening_busy : is_some (get transaction_cmp callers p) ≡ true → opening_of (hold_of journal p) ≡ opening.Busy
+  opening_busy h = ap opening_of (index.states p) ∙ cases (get transaction_cmp callers p) (hold_at replies (get transaction_cmp places p)) h
+    where
+      cases : (o : Option ℕ) (state : Hold) → is_some o ≡ true → opening_of (hold_found o state) ≡ opening.Busy
+      cases None state h = absurd (false≢true h)
+      cases (Some caller) state h = refl
 
-pub opening_found : (journal : List BookEntry) (callers replies : BTreeMap TransactionKey ℕ) (p : TransactionKey) (found : Option (List ℕ)) → IsIndexed journal callers replies → is_some (get transaction_cmp callers p) ≡ false →
-    found ≡ reply_of (hold_at journal (get transaction_cmp replies p)) → opening_of (hold_of journal p) ≡ opening_with found
-unfolding opening_with
-opening_found journal callers replies p found index h is =
-    ap opening_of (index.states p) ∙ cases (get transaction_cmp callers p) (get transaction_cmp replies p) h (λ n. index.replied p n) ∙ ap opening_with (sym is)
-  where
-    by_state : (state : Hold) → is_kept state ≡ true → opening_of state ≡ opening_with (reply_of state)
-    by_state free h = absurd (false≢true h)
-    by_state (begun caller) h = absurd (false≢true h)
-    by_state (kept reply) h = refl
+  -- what is not begun is as its reply says
+  not_begun : is_some (get transaction_cmp callers p) ≡ false → hold_of journal p ≡ hold_kept (reply_at replies (get transaction_cmp places p))
+  not_begun h = index.states p ∙ cases (get transaction_cmp callers p) (hold_at replies (get transaction_cmp places p)) h
+    where
+      cases : (o : Option ℕ) (state : Hold) → is_some o ≡ false → hold_found o state ≡ state
+      cases None state h = refl
+      cases (Some caller) state h = absurd (false≢true (sym h))
 
-    cases : (o r : Option ℕ) → is_some o ≡ false → ((n : ℕ) → r ≡ Some n → is_kept (hold_at journal (Some n)) ≡ true) → opening_of (hold_found o (hold_at journal r)) ≡ opening_with (reply_of (hold_at journal r))
-    cases (Some caller) r h k = absurd (false≢true (sym h))
-    cases None None h k = refl
-    cases None (Some n) h k = by_state (hold_at journal (Some n)) (k n refl)
+  pub opening_fresh : is_some (get transaction_cmp callers p) ≡ false → None ≡ reply_at replies (get transaction_cmp places p) → opening_of (hold_of journal p) ≡ opening.Fresh
+  opening_fresh h is = ap opening_of (not_begun h ∙ ap hold_kept (sym is))
 
-pub begun_iff : (journal : List BookEntry) (callers replies : BTreeMap TransactionKey ℕ) (p : TransactionKey) (caller : ℕ) → IsIndexed journal callers replies → get transaction_cmp callers p ≡ Some caller → hold_of journal p ≡ begun caller
-begun_iff journal callers replies p caller index h = index.states p ∙ ap (λ o. hold_found o (hold_at journal (get transaction_cmp replies p))) h
+  pub opening_kept : (reply : List ℕ) → is_some (get transaction_cmp callers p) ≡ false → Some reply ≡ reply_at replies (get transaction_cmp places p) → opening_of (hold_of journal p) ≡ opening.Kept reply
+  opening_kept reply h is = ap opening_of (not_begun h ∙ ap hold_kept (sym is))
+
+  pub kept_not_begun : (other : ℕ) → is_some (get transaction_cmp callers p) ≡ false → hold_of journal p ≢ begun other
+  kept_not_begun other h e = cases (get transaction_cmp callers p) h (begun_means other e)
+    where
+      cases : (o : Option ℕ) → is_some o ≡ false → o ≡ Some other → ⊥
+      cases None h e = cc
+      cases (Some caller) h e = false≢true (sym h)
 
 -- ---- one entry more
 
-pub indexed_more : (journal : List BookEntry) (callers callers' replies replies' : BTreeMap TransactionKey ℕ) (entry : BookEntry) (c r : Option ℕ) → IsIndexed journal callers replies →
-    IsMoved callers callers' (transaction_of entry) c → IsMoved replies replies' (transaction_of entry) r →
-    hold_after (Some entry) ≡ hold_found c (hold_at (journal ++ entry ∷ []) r) → ((caller : ℕ) → c ≡ Some caller → r ≡ None) →
-    ((n : ℕ) → r ≡ Some n → (n ≡ length journal) × (is_kept (hold_after (Some entry)) ≡ true)) → IsIndexed (journal ++ entry ∷ []) callers' replies'
-indexed_more journal callers callers' replies replies' entry c r index cs rs here apart kept_here =
-    let long : length (journal ++ entry ∷ []) ≡ length journal + 1 = length-append journal (entry ∷ []) in
+-- the replies that an entry adds
+abbrev pub added : BookEntry → List (List ℕ)
+added entry = filter_map reply_in (entry ∷ [])
+
+pub indexed_more : (journal : List BookEntry) (callers callers' places places' : BTreeMap TransactionKey ℕ) (replies replies' : List (List ℕ)) (entry : BookEntry) (c r : Option ℕ) → IsIndexed journal callers places replies →
+    IsMoved callers callers' (transaction_of entry) c → IsMoved places places' (transaction_of entry) r → replies' ≡ replies ++ added entry →
+    hold_after (Some entry) ≡ hold_found c (hold_at replies' r) → ((caller : ℕ) → c ≡ Some caller → r ≡ None) →
+    ((n : ℕ) → r ≡ Some n → (n < length replies') × (is_kept (hold_at replies' (Some n)) ≡ true)) → IsIndexed (journal ++ entry ∷ []) callers' places' replies'
+indexed_more journal callers callers' places places' replies replies' entry c r index cs ps longer here apart kept_here =
     record {
-      states = λ p. elim (same p (transaction_of entry)) as (λ b. same p (transaction_of entry) ≡ b → hold_of (journal ++ entry ∷ []) p ≡ hold_found (get transaction_cmp callers' p) (hold_at (journal ++ entry ∷ []) (get transaction_cmp replies' p))) [
+      states = λ p. elim (same p (transaction_of entry)) as (λ b. same p (transaction_of entry) ≡ b → hold_of (journal ++ entry ∷ []) p ≡ hold_found (get transaction_cmp callers' p) (hold_at replies' (get transaction_cmp places' p))) [
         | true ↦ λ h.
-            let P : TransactionKey → Type 0 = λ q. hold_of (journal ++ entry ∷ []) q ≡ hold_found (get transaction_cmp callers' q) (hold_at (journal ++ entry ∷ []) (get transaction_cmp replies' q)) in
+            let P : TransactionKey → Type 0 = λ q. hold_of (journal ++ entry ∷ []) q ≡ hold_found (get transaction_cmp callers' q) (hold_at replies' (get transaction_cmp places' q)) in
             subst P (sym (same-eq p (transaction_of entry) h)) (
             hold_of-here journal entry (transaction_of entry) (same-self (transaction_of entry)) ∙ here
-            ∙ ap (λ o. hold_found o (hold_at (journal ++ entry ∷ []) r)) (sym cs.here)
-            ∙ ap (λ o. hold_found (get transaction_cmp callers' (transaction_of entry)) (hold_at (journal ++ entry ∷ []) o)) (sym rs.here))
+            ∙ ap (λ o. hold_found o (hold_at replies' r)) (sym cs.here)
+            ∙ ap (λ o. hold_found (get transaction_cmp callers' (transaction_of entry)) (hold_at replies' o)) (sym ps.here))
         | false ↦ λ h.
             hold_of-there journal entry p h ∙ index.states p
-            ∙ ap (λ o. hold_found o (hold_at journal (get transaction_cmp replies p))) (sym (cs.there p h))
-            ∙ ap (hold_found (get transaction_cmp callers' p)) (sym (hold_at-before (get transaction_cmp replies p) (λ n. index.within p n)) ∙ ap (hold_at (journal ++ entry ∷ [])) (sym (rs.there p h)))
+            ∙ ap (λ o. hold_found o (hold_at replies (get transaction_cmp places p))) (sym (cs.there p h))
+            ∙ ap (hold_found (get transaction_cmp callers' p)) (sym (hold_at-before (get transaction_cmp places p) (λ n. index.within p n)) ∙ ap (hold_at replies') (sym (ps.there p h)))
       ] refl;
-      apart = λ p caller. elim (same p (transaction_of entry)) as (λ b. same p (transaction_of entry) ≡ b → get transaction_cmp callers' p ≡ Some caller → get transaction_cmp replies' p ≡ None) [
+      apart = λ p caller. elim (same p (transaction_of entry)) as (λ b. same p (transaction_of entry) ≡ b → get transaction_cmp callers' p ≡ Some caller → get transaction_cmp places' p ≡ None) [
         | true ↦ λ h.
-            let P : TransactionKey → Type 0 = λ q. get transaction_cmp callers' q ≡ Some caller → get transaction_cmp replies' q ≡ None in
-            subst P (sym (same-eq p (transaction_of entry) h)) (λ k. rs.here ∙ apart caller (sym cs.here ∙ k))
-        | false ↦ λ h k. rs.there p h ∙ index.apart p caller (sym (cs.there p h) ∙ k)
+            let P : TransactionKey → Type 0 = λ q. get transaction_cmp callers' q ≡ Some caller → get transaction_cmp places' q ≡ None in
+            subst P (sym (same-eq p (transaction_of entry) h)) (λ k. ps.here ∙ apart caller (sym cs.here ∙ k))
+        | false ↦ λ h k. ps.there p h ∙ index.apart p caller (sym (cs.there p h) ∙ k)
       ] refl;
-      within = λ p n. elim (same p (transaction_of entry)) as (λ b. same p (transaction_of entry) ≡ b → get transaction_cmp replies' p ≡ Some n → n < length (journal ++ entry ∷ [])) [
+      within = λ p n. elim (same p (transaction_of entry)) as (λ b. same p (transaction_of entry) ≡ b → get transaction_cmp places' p ≡ Some n → n < length replies') [
         | true ↦ λ h.
-            let P : TransactionKey → Type 0 = λ q. get transaction_cmp replies' q ≡ Some n → n < length (journal ++ entry ∷ []) in
-            subst P (sym (same-eq p (transaction_of entry) h)) (λ k. let at : n ≡ length journal = (kept_here n (sym rs.here ∙ k)).0 in omega arith)
-        | false ↦ λ h k. let l : n < length journal = index.within p n (sym (rs.there p h) ∙ k) in omega arith
-      ] refl;
-      replied = λ p n. elim (same p (transaction_of entry)) as (λ b. same p (transaction_of entry) ≡ b → get transaction_cmp replies' p ≡ Some n → is_kept (hold_at (journal ++ entry ∷ []) (Some n)) ≡ true) [
-        | true ↦ λ h.
-            let P : TransactionKey → Type 0 = λ q. get transaction_cmp replies' q ≡ Some n → is_kept (hold_at (journal ++ entry ∷ []) (Some n)) ≡ true in
-            subst P (sym (same-eq p (transaction_of entry) h)) (λ k.
-            let at = kept_here n (sym rs.here ∙ k) in
-            ap (λ m. is_kept (hold_at (journal ++ entry ∷ []) (Some m))) at.0 ∙ ap (λ o. is_kept (hold_after o)) (slice_get-last journal entry) ∙ at.1)
+            let P : TransactionKey → Type 0 = λ q. get transaction_cmp places' q ≡ Some n → n < length replies' in
+            subst P (sym (same-eq p (transaction_of entry) h)) (λ k. (kept_here n (sym ps.here ∙ k)).0)
         | false ↦ λ h k.
-            let was : get transaction_cmp replies p ≡ Some n = sym (rs.there p h) ∙ k in
-            ap (λ o. is_kept (hold_after o)) (slice_get-before journal (entry ∷ []) n (index.within p n was)) ∙ index.replied p n was
+            let l : n < length replies = index.within p n (sym (ps.there p h) ∙ k) in
+            let long : length replies' ≡ length replies + length (added entry) = ap length longer ∙ length-append replies (added entry) in
+            omega arith
       ] refl;
+      replied = λ p n. elim (same p (transaction_of entry)) as (λ b. same p (transaction_of entry) ≡ b → get transaction_cmp places' p ≡ Some n → is_kept (hold_at replies' (Some n)) ≡ true) [
+        | true ↦ λ h.
+            let P : TransactionKey → Type 0 = λ q. get transaction_cmp places' q ≡ Some n → is_kept (hold_at replies' (Some n)) ≡ true in
+            subst P (sym (same-eq p (transaction_of entry) h)) (λ k. (kept_here n (sym ps.here ∙ k)).1)
+        | false ↦ λ h k.
+            let was : get transaction_cmp places p ≡ Some n = sym (ps.there p h) ∙ k in
+            ap (λ o. is_kept (hold_kept o)) (found_before n (index.within p n was)) ∙ index.replied p n was
+      ] refl;
+      all = longer ∙ ap (λ rs. rs ++ added entry) index.all ∙ sym (filter_map-append reply_in journal (entry ∷ []));
     }
   where
-    hold_at-before : (o : Option ℕ) → ((n : ℕ) → o ≡ Some n → n < length journal) → hold_at (journal ++ entry ∷ []) o ≡ hold_at journal o
-    hold_at-before None l = refl
-    hold_at-before (Some n) l = ap hold_after (slice_get-before journal (entry ∷ []) n (l n refl))
+    found_before : (n : ℕ) → n < length replies → slice_get replies' n ≡ slice_get replies n
+    found_before n l = ap (λ rs. slice_get rs n) longer ∙ slice_get-before replies (added entry) n l
 
-pub sound_more : (journal : List BookEntry) (place : PlaceView) (entry : BookEntry) (count capacity count' capacity' : ℕ) → IsSound journal place count capacity → IsTrue (is_at place (transaction_of entry).origin) →
-    follows (last_of (transaction_of entry) journal) entry ≡ true → length (journal ++ entry ∷ []) + count' ≤ capacity' → IsSound (journal ++ entry ∷ []) place count' capacity'
-sound_more journal place entry count capacity count' capacity' sound here may room = record {
+    hold_at-before : (o : Option ℕ) → ((n : ℕ) → o ≡ Some n → n < length replies) → hold_at replies' o ≡ hold_at replies o
+    hold_at-before None l = refl
+    hold_at-before (Some n) l = ap hold_kept (found_before n (l n refl))
+
+pub sound_more : (journal : List BookEntry) (place : PlaceView) (entry : BookEntry) → IsSound journal place → IsTrue (is_at place (transaction_of entry).origin) →
+    follows (last_of (transaction_of entry) journal) entry ≡ true → IsSound (journal ++ entry ∷ []) place
+sound_more journal place entry sound here may = record {
   here = All-append (λ e. IsTrue (is_at place (transaction_of e).origin)) journal (entry ∷ []) sound.here (all_one (λ e. IsTrue (is_at place (transaction_of e).origin)) entry here);
   legal = is_legal-push journal entry sound.legal may;
-  spare = room;
 }
 
-module _ (journal journal' : List BookEntry) (callers callers' replies : BTreeMap TransactionKey ℕ) (p own : TransactionKey) (caller : ℕ) (is : own ≡ p) (index : IsIndexed journal callers replies) where
-  pub indexed_begun : hold_of journal p ≡ free → journal' ≡ journal ++ Begun own caller ∷ [] → IsMoved callers callers' p (Some caller) → IsIndexed journal' callers' replies
+none_some : (n : ℕ) → None ≡ Some n → ⊥
+none_some n k = cc
+
+some_is : (m n : ℕ) → Some m ≡ Some n → m ≡ n
+some_is m n k = cc
+
+module _ (journal journal' : List BookEntry) (callers callers' places : BTreeMap TransactionKey ℕ) (replies : List (List ℕ)) (p : TransactionKey) (caller : ℕ) (index : IsIndexed journal callers places replies) where
+  pub indexed_begun : hold_of journal p ≡ free → journal' ≡ journal ++ Begun p caller ∷ [] → IsMoved callers callers' p (Some caller) → IsIndexed journal' callers' places replies
   indexed_begun h e moved =
-      subst (λ js. IsIndexed js callers' replies) (sym e)
-      (indexed_more journal callers callers' replies replies (Begun own caller) (Some caller) None index (subst (λ q. IsMoved callers callers' q (Some caller)) (sym is) moved)
-      (stays replies own (ap (get transaction_cmp replies) is ∙ (free_means journal callers replies p index h).1)) refl (λ _ _. refl) (λ n k. absurd (none_some n k)))
-    where
-      none_some : (n : ℕ) → None ≡ Some n → ⊥
-      none_some n k = cc
+      subst (λ js. IsIndexed js callers' places replies) (sym e)
+      (indexed_more journal callers callers' places places replies replies (Begun p caller) (Some caller) None index moved
+      (stays places p (free_means journal callers places replies p index h).1) (sym (append-nil replies)) refl (λ _ _. refl) (λ n k. absurd (none_some n k)))
 
-  pub indexed_given_up : hold_of journal p ≡ begun caller → journal' ≡ journal ++ GivenUp own caller ∷ [] → IsMoved callers callers' p None → IsIndexed journal' callers' replies
+  pub indexed_given_up : hold_of journal p ≡ begun caller → journal' ≡ journal ++ GivenUp p caller ∷ [] → IsMoved callers callers' p None → IsIndexed journal' callers' places replies
   indexed_given_up h e moved =
-      subst (λ js. IsIndexed js callers' replies) (sym e)
-      (indexed_more journal callers callers' replies replies (GivenUp own caller) None None index (subst (λ q. IsMoved callers callers' q None) (sym is) moved)
-      (stays replies own (ap (get transaction_cmp replies) is ∙ index.apart p caller (begun_means journal callers replies p caller index h))) refl (λ c k. absurd (none_some c k)) (λ n k. absurd (none_some n k)))
+      subst (λ js. IsIndexed js callers' places replies) (sym e)
+      (indexed_more journal callers callers' places places replies replies (GivenUp p caller) None None index moved
+      (stays places p (index.apart p caller (begun_means journal callers places replies p index caller h))) (sym (append-nil replies)) refl (λ c k. absurd (none_some c k)) (λ n k. absurd (none_some n k)))
+
+  -- also of a transaction whose reply was found when the book was opened
+  pub indexed_reply : (places' : BTreeMap TransactionKey ℕ) (replies' : List (List ℕ)) (reply : List ℕ) → journal' ≡ journal ++ Kept p caller reply ∷ [] → replies' ≡ replies ++ reply ∷ [] → IsMoved callers callers' p None → IsMoved places places' p (Some (length replies)) → IsIndexed journal' callers' places' replies'
+  indexed_reply places' replies' reply e longer moved placed =
+      subst (λ js. IsIndexed js callers' places' replies') (sym e)
+      (indexed_more journal callers callers' places places' replies replies' (Kept p caller reply) None (Some (length replies)) index moved placed longer (sym (ap hold_kept found)) (λ c k. absurd (none_some c k))
+      (λ n k. subst (λ m. (m < length replies') × (is_kept (hold_at replies' (Some m)) ≡ true)) (some_is (length replies) n k) (let long : length replies' ≡ length replies + 1 = ap length longer ∙ length-append replies (reply ∷ []) in omega arith, ap (λ o. is_kept (hold_kept o)) found)))
     where
-      none_some : (n : ℕ) → None ≡ Some n → ⊥
-      none_some n k = cc
+      found : slice_get replies' (length replies) ≡ Some reply
+      found = ap (λ rs. slice_get rs (length replies)) longer ∙ slice_get-last replies reply
 
-  pub indexed_kept : (replies' : BTreeMap TransactionKey ℕ) (reply : List ℕ) → hold_of journal p ≡ begun caller → journal' ≡ journal ++ Kept own caller reply ∷ [] → IsMoved callers callers' p None → IsMoved replies replies' p (Some (length journal)) → IsIndexed journal' callers' replies'
-  indexed_kept replies' reply h e moved added =
-      subst (λ js. IsIndexed js callers' replies') (sym e)
-      (indexed_more journal callers callers' replies replies' (Kept own caller reply) None (Some (length journal)) index (subst (λ q. IsMoved callers callers' q None) (sym is) moved)
-      (subst (λ q. IsMoved replies replies' q (Some (length journal))) (sym is) added) (ap hold_after (sym (slice_get-last journal (Kept own caller reply)))) (λ c k. absurd (none_some c k)) (λ n k. (sym (some_is (length journal) n k), refl)))
-    where
-      none_some : (n : ℕ) → None ≡ Some n → ⊥
-      none_some n k = cc
-
-      some_is : (m n : ℕ) → Some m ≡ Some n → m ≡ n
-      some_is m n k = cc
-
-pub sound_with : (journal journal' : List BookEntry) (place : PlaceView) (entry : BookEntry) (count capacity count' capacity' : ℕ) → journal' ≡ journal ++ entry ∷ [] → IsSound journal place count capacity → IsTrue (is_at place (transaction_of entry).origin) →
-    follows (last_of (transaction_of entry) journal) entry ≡ true → length journal + 1 + count' ≤ capacity' → IsSound journal' place count' capacity'
-sound_with journal journal' place entry count capacity count' capacity' e sound here may room =
-    let long : length (journal ++ entry ∷ []) ≡ length journal + 1 = length-append journal (entry ∷ []) in
-    subst (λ js. IsSound js place count' capacity') (sym e) (sound_more journal place entry count capacity count' capacity' sound here may (let l : length (journal ++ entry ∷ []) + count' ≤ capacity' = omega arith in l))
+pub sound_with : (journal journal' : List BookEntry) (place : PlaceView) (entry : BookEntry) → journal' ≡ journal ++ entry ∷ [] → IsSound journal place → IsTrue (is_at place (transaction_of entry).origin) →
+    follows (last_of (transaction_of entry) journal) entry ≡ true → IsSound journal' place
+sound_with journal journal' place entry e sound here may = subst (λ js. IsSound js place) (sym e) (sound_more journal place entry sound here may)
 
 -- what is free may be begun
 pub may_begin : (last : Option BookEntry) (key : TransactionKey) (caller : ℕ) → hold_after last ≡ free → follows last (Begun key caller) ≡ true
@@ -239,29 +247,39 @@ same_caller caller = grind (arith, nat_tests)
 pub moved_by : (old new : BTreeMap TransactionKey ℕ) (key p : TransactionKey) (w : Option ℕ) → key ≡ p → Updates transaction_cmp old new key w → IsMoved old new p w
 moved_by old new key p w is updates = subst (λ q. IsMoved old new q w) is (moved_by_update old new key w updates)
 
-pub at_most_one : (b : Bool) → cond b 0 1 ≤ 1
-at_most_one true = omega arith
-at_most_one false = omega arith
-
-pub is_some_of : (o : Option ℕ) (n : ℕ) → o ≡ Some n → IsSome o
-is_some_of o n h = subst IsSome (sym h) refl
-
 -- a map with nothing in it
 pub none_in : (entries : List (TransactionKey × ℕ)) (test : TransactionKey → Bool) → length entries ≡ 0 → lookup test entries ≡ None
 none_in [] test h = refl
 none_in (e ∷ es) test h = absurd (omega arith)
 
-pub none_begun : (journal : List BookEntry) (callers replies : BTreeMap TransactionKey ℕ) → IsIndexed journal callers replies → btree_map_len callers ≡ 0 → (p : TransactionKey) (caller : ℕ) → hold_of journal p ≢ begun caller
-none_begun journal callers replies index h p caller is = none_some caller (sym (none_in callers.entries (λ q. is_eq (transaction_cmp p q)) h) ∙ begun_means journal callers replies p caller index is)
-  where
-    none_some : (n : ℕ) → None ≡ Some n → ⊥
-    none_some n k = cc
+module _ (journal : List BookEntry) (callers places : BTreeMap TransactionKey ℕ) (replies : List (List ℕ)) (index : IsIndexed journal callers places replies) where
+  pub none_begun : btree_map_len callers ≡ 0 → (p : TransactionKey) (caller : ℕ) → hold_of journal p ≢ begun caller
+  none_begun h p caller is = none_some caller (sym (none_in callers.entries (λ q. is_eq (transaction_cmp p q)) h) ∙ begun_means journal callers places replies p index caller is)
 
-pub all_ended : (journal : List BookEntry) (callers replies : BTreeMap TransactionKey ℕ) → IsIndexed journal callers replies → ((p : TransactionKey) (caller : ℕ) → hold_of journal p ≢ begun caller) → btree_map_len callers ≡ 0
-all_ended journal callers replies index none = cases callers.entries refl
-  where
-    cases : (entries : List (TransactionKey × ℕ)) → callers.entries ≡ entries → length callers.entries ≡ 0
-    cases [] e = ap length e
-    cases ((p, caller) ∷ es) e =
-        absurd (none p caller (begun_iff journal callers replies p caller index
-        (ap (lookup (λ q. is_eq (transaction_cmp p q))) e ∙ ap (λ b. cond b (Some caller) (lookup (λ q. is_eq (transaction_cmp p q)) es)) (ap is_eq (tied_itself transaction_total p)))))
+  pub all_ended : ((p : TransactionKey) (caller : ℕ) → hold_of journal p ≢ begun caller) → btree_map_len callers ≡ 0
+  all_ended none = cases callers.entries refl
+    where
+      cases : (entries : List (TransactionKey × ℕ)) → callers.entries ≡ entries → length callers.entries ≡ 0
+      cases [] e = ap length e
+      cases ((p, caller) ∷ es) e =
+          absurd (none p caller (begun_iff journal callers places replies p index caller
+          (ap (lookup (λ q. is_eq (transaction_cmp p q))) e ∙ ap (λ b. cond b (Some caller) (lookup (λ q. is_eq (transaction_cmp p q)) es)) (ap is_eq (tied_itself transaction_total p)))))
+
+-- ---- a book that has no entry
+
+module _ (journal journal' : List BookEntry) (entry : BookEntry) (e : journal' ≡ journal ++ entry ∷ []) where
+  not_empty : (js : List BookEntry) → js ++ entry ∷ [] ≡ [] → ⊥
+  not_empty js h = no (sym (length-append js (entry ∷ [])) ∙ ap length h)
+    where
+      no : length js + 1 ≡ 0 → ⊥
+      no k = absurd (omega arith)
+
+  pub blank_begun : IsTrue false ↔ (journal' ≡ [])
+  blank_begun = (λ h. absurd (false≢true h), λ h. absurd (not_empty journal (sym e ∙ h)))
+
+  -- where a transaction is begun there is an entry
+  pub blank_ended : (blank : Bool) (p : TransactionKey) (caller : ℕ) → IsTrue blank ↔ (journal ≡ []) → hold_of journal p ≡ begun caller → IsTrue blank ↔ (journal' ≡ [])
+  blank_ended blank p caller was h = (λ b. absurd (begun_in (was.0 b)), λ k. absurd (not_empty journal (sym e ∙ k)))
+    where
+      begun_in : journal ≡ [] → ⊥
+      begun_in k = let c : free ≡ begun caller = sym (ap (λ js. hold_of js p) k) ∙ h in cc

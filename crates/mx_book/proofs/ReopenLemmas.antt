@@ -1,11 +1,12 @@
 -- A journal of the rows that were found.
 use Rattle.std.proofs.Common.{◌≡◌, ℕ, Bool, true, false, IsTrue, List, [], ◌∷◌, ◌++◌, length, Option, None, Some, refl, sym, ◌∙◌, ap, subst, append_assoc, append-nil, arith}
-use Rattle.std.specs.Prelude.{◌&&◌, is_some, Result, Ok, Err}
+use Rattle.std.specs.Prelude.{◌&&◌, ◌↔◌, ◌<◌, ◌==◌, All, is_some, Result, Ok, Err}
 use Rattle.std.specs.Result.{IsErrAnd}
 use Rattle.std.specs.List.{list_all}
 use Rattle.std.specs.Ordering.{is_eq}
 use Rattle.std.specs.BTreeMap.{BTreeMap, get, btree_map_len}
 use Rattle.std.proofs.lemmas.Bool.{false≢true}
+use Rattle.std.proofs.lemmas.Bool.Decides.{nat_tests}
 use Rattle.std.proofs.lemmas.List.{map-append}
 use Rattle.std.proofs.lemmas.List.Elements.{All-append}
 use Rattle.std.proofs.lemmas.List.Folds.{list_all-append}
@@ -20,7 +21,7 @@ use Rattle.mx_book.specs.declared.transaction_keys.TransactionKey.{TransactionKe
 use Rattle.mx_book.specs.declared.entries.BookEntry.{BookEntry}
 use Rattle.mx_book.specs.declared.entries.BookEntry.TheVariants.{Begun, Kept, GivenUp}
 use Rattle.mx_book.proofs.JournalLemmas.{is_legal-push, all_one, found_is}
-use Rattle.mx_book.proofs.IndexLemmas.{indexed_more, slice_get-last, same_caller, stays, none_in}
+use Rattle.mx_book.proofs.IndexLemmas.{indexed_reply, same_caller, stays, none_in}
 
 -- ---- a transaction that has no entry
 
@@ -31,31 +32,22 @@ may_come_first key reply (Some entry) all h = absurd (false≢true (sym (ap is_k
 
 -- ---- one row more
 
-module _ (place : PlaceView) (journal : List BookEntry) (callers replies : BTreeMap TransactionKey ℕ) (key : TransactionKey) (reply : List ℕ) (was : IsReopened place journal callers replies) where
+module _ (place : PlaceView) (journal : List BookEntry) (callers places : BTreeMap TransactionKey ℕ) (replies : List (List ℕ)) (key : TransactionKey) (reply : List ℕ) (was : IsReopened place journal callers places replies) where
   none-begun : get transaction_cmp callers key ≡ None
   none-begun = none_in callers.entries (λ q. is_eq (transaction_cmp key q)) was.none
 
-  hold-is : hold_of journal key ≡ hold_at journal (get transaction_cmp replies key)
-  hold-is = was.indexed.states key ∙ ap (λ o. hold_found o (hold_at journal (get transaction_cmp replies key))) none-begun
+  hold-is : hold_of journal key ≡ hold_at replies (get transaction_cmp places key)
+  hold-is = was.indexed.states key ∙ ap (λ o. hold_found o (hold_at replies (get transaction_cmp places key))) none-begun
 
-  pub reopen-step : (journal' : List BookEntry) (replies' : BTreeMap TransactionKey ℕ) → IsTrue (is_at place key.origin) → get transaction_cmp replies key ≡ None
-      → journal' ≡ journal ++ Kept key no_caller reply ∷ [] → IsMoved replies replies' key (Some (length journal)) → IsReopened place journal' callers replies'
-  reopen-step journal' replies' here none e moved =
-      subst (λ js. IsReopened place js callers replies') (sym e) record {
-        indexed =
-            indexed_more journal callers callers replies replies' (Kept key no_caller reply) None (Some (length journal)) was.indexed
-            (stays callers key none-begun) moved (ap hold_after (sym (slice_get-last journal (Kept key no_caller reply)))) (λ c k. absurd (none_some c k)) (λ n k. (sym (some_is (length journal) n k), refl));
-        none = was.none;
-        kept = All-append (λ e. is_kept (hold_after (Some e)) ≡ true) journal (Kept key no_caller reply ∷ []) was.kept (all_one (λ e. is_kept (hold_after (Some e)) ≡ true) (Kept key no_caller reply) refl);
-        here = All-append (λ e. IsTrue (is_at place (transaction_of e).origin)) journal (Kept key no_caller reply ∷ []) was.here (all_one (λ e. IsTrue (is_at place (transaction_of e).origin)) (Kept key no_caller reply) here);
-        legal = is_legal-push journal (Kept key no_caller reply) was.legal (may_come_first key reply (last_of key journal) (λ entry is. found_is (λ e. is_kept (hold_after (Some e)) ≡ true) key journal entry was.kept is) (hold-is ∙ ap (hold_at journal) none));
-      }
-    where
-      none_some : (n : ℕ) → None ≡ Some n → ⊥
-      none_some n k = cc
-
-      some_is : (m n : ℕ) → Some m ≡ Some n → m ≡ n
-      some_is m n k = cc
+  pub reopen-step : (journal' : List BookEntry) (places' : BTreeMap TransactionKey ℕ) (replies' : List (List ℕ)) → IsTrue (is_at place key.origin) → get transaction_cmp places key ≡ None
+      → journal' ≡ journal ++ Kept key no_caller reply ∷ [] → replies' ≡ replies ++ reply ∷ [] → IsMoved places places' key (Some (length replies)) → IsReopened place journal' callers places' replies'
+  reopen-step journal' places' replies' here none e longer moved = record {
+    indexed = indexed_reply journal journal' callers callers places replies key no_caller was.indexed places' replies' reply e longer (stays callers key none-begun) moved;
+    none = was.none;
+    kept = subst (All (λ e. is_kept (hold_after (Some e)) ≡ true)) (sym e) (All-append (λ e. is_kept (hold_after (Some e)) ≡ true) journal (Kept key no_caller reply ∷ []) was.kept (all_one (λ e. is_kept (hold_after (Some e)) ≡ true) (Kept key no_caller reply) refl));
+    here = subst (All (λ e. IsTrue (is_at place (transaction_of e).origin))) (sym e) (All-append (λ e. IsTrue (is_at place (transaction_of e).origin)) journal (Kept key no_caller reply ∷ []) was.here (all_one (λ e. IsTrue (is_at place (transaction_of e).origin)) (Kept key no_caller reply) here));
+    legal = subst (λ js. IsTrue (is_legal js)) (sym e) (is_legal-push journal (Kept key no_caller reply) was.legal (may_come_first key reply (last_of key journal) (λ entry is. found_is (λ e. is_kept (hold_after (Some e)) ≡ true) key journal entry was.kept is) (hold-is ∙ ap (hold_at replies) none)));
+  }
 
   kept-follows : (last : Option BookEntry) → is_kept (hold_after last) ≡ true → follows last (Kept key no_caller reply) ≡ false
   kept-follows None h = absurd (false≢true h)
@@ -64,9 +56,9 @@ module _ (place : PlaceView) (journal : List BookEntry) (callers replies : BTree
   kept-follows (Some (GivenUp own caller)) h = absurd (false≢true h)
 
   -- a transaction that has a reply gets no second one
-  pub twice : (n : ℕ) → get transaction_cmp replies key ≡ Some n → follows (last_of key journal) (Kept key no_caller reply) ≡ false
+  pub twice : (n : ℕ) → get transaction_cmp places key ≡ Some n → follows (last_of key journal) (Kept key no_caller reply) ≡ false
   twice n found =
-      kept-follows (last_of key journal) (ap is_kept (hold-is ∙ ap (hold_at journal) found) ∙ was.indexed.replied key n found)
+      kept-follows (last_of key journal) (ap is_kept (hold-is ∙ ap (hold_at replies) found) ∙ was.indexed.replied key n found)
 
 -- ---- rows that no book has
 
@@ -115,14 +107,15 @@ some-of (Some n) h = (n, refl)
 
 -- ---- no rows
 
-pub reopen-none : (place : PlaceView) (journal : List BookEntry) (callers replies : BTreeMap TransactionKey ℕ) → journal ≡ [] → btree_map_len callers ≡ 0 → btree_map_len replies ≡ 0 → IsReopened place journal callers replies
-reopen-none place journal callers replies e no-callers no-replies =
-    subst (λ js. IsReopened place js callers replies) (sym e) record {
+pub reopen-none : (place : PlaceView) (journal : List BookEntry) (callers places : BTreeMap TransactionKey ℕ) (replies : List (List ℕ)) → journal ≡ [] → btree_map_len callers ≡ 0 → btree_map_len places ≡ 0 → replies ≡ [] → IsReopened place journal callers places replies
+reopen-none place journal callers places replies e no-callers no-places no-replies =
+    subst (λ js. IsReopened place js callers places replies) (sym e) record {
       indexed = record {
-        states = λ p. sym (ap (λ o. hold_found o (hold_at [] (get transaction_cmp replies p))) (nothing callers no-callers p) ∙ ap (hold_at []) (nothing replies no-replies p));
-        apart = λ p caller k. nothing replies no-replies p;
-        within = λ p n k. absurd (none_some n (sym (nothing replies no-replies p) ∙ k));
-        replied = λ p n k. absurd (none_some n (sym (nothing replies no-replies p) ∙ k));
+        states = λ p. sym (ap (λ o. hold_found o (hold_at replies (get transaction_cmp places p))) (nothing callers no-callers p) ∙ ap (hold_at replies) (nothing places no-places p));
+        apart = λ p caller k. nothing places no-places p;
+        within = λ p n k. absurd (none_some n (sym (nothing places no-places p) ∙ k));
+        replied = λ p n k. absurd (none_some n (sym (nothing places no-places p) ∙ k));
+        all = no-replies;
       };
       none = no-callers;
       kept = λ k d l. absurd (omega arith);
@@ -135,6 +128,18 @@ reopen-none place journal callers replies e no-callers no-replies =
 
     none_some : (n : ℕ) → None ≡ Some n → ⊥
     none_some n k = cc
+
+-- a book has no entry where there were no rows
+pub blank-reopened : (blank : Bool) (count : ℕ) (rows : List BookRow) (journal : List BookEntry) → blank ≡ (count == 0) → count ≡ length rows → journal ≡ reopened rows → IsTrue blank ↔ (journal ≡ [])
+blank-reopened blank count [] journal is counted e = (λ _. e, λ _. is ∙ none count counted)
+  where
+    none : (n : ℕ) → n ≡ 0 → (n == 0) ≡ true
+    none n l = grind (arith, nat_tests)
+blank-reopened blank count (row ∷ rows) journal is counted e =
+    (λ b. absurd (false≢true (sym (is ∙ some count (omega arith)) ∙ b)), λ k. absurd (let e' : entry_of row ∷ reopened rows ≡ [] = sym e ∙ k in cc))
+  where
+    some : (n : ℕ) → 0 < n → (n == 0) ≡ false
+    some n l = grind (arith, nat_tests)
 
 pub no-more : (rest : List BookRow) → length rest ≡ 0 → rest ≡ []
 no-more [] h = refl

@@ -82,6 +82,16 @@ row_of (GivenUp key caller) = None
 abbrev pub stored : List BookEntry → List BookRow
 stored journal = filter_map row_of journal
 
+-- the reply that an entry keeps
+abbrev pub reply_in : BookEntry → Option (List ℕ)
+reply_in (Begun key caller) = None
+reply_in (Kept key caller reply) = Some reply
+reply_in (GivenUp key caller) = None
+
+-- the replies that are kept, in order
+abbrev pub replies_in : List BookEntry → List (List ℕ)
+replies_in journal = filter_map reply_in journal
+
 -- ---- opening a book again
 
 -- the entry of a row that was found

@@ -2,16 +2,16 @@
 ghost use Rattle.std.specs.Prelude.{◌≡◌, ◌≢◌, ◌≤◌, ◌↔◌, ◌++◌, ◌∷◌, [], ◌⊎◌, Option, Some, None, List, ℕ, true, false, IfOk, OnOk, OnErr, IsErrOf, IsTrue, All};
 ghost use Rattle.mx_keeper.specs.Keeping.{Rose};
 ghost use Rattle.mx_keeper.specs.Places.{is_at};
-ghost use Rattle.mx_book.specs.Journal.{transaction_of, hold_of, begun, opening_of, begins, is_legal, stored, reopened, can_reopen, after_stop, IsEnded};
+ghost use Rattle.mx_book.specs.Journal.{transaction_of, hold_of, begun, opening_of, begins, is_legal, stored, replies_in, reopened, can_reopen, after_stop, IsEnded};
 ghost use Rattle.mx_book.specs.declared.entries.BookEntry.{BookEntry};
 ghost use Rattle.mx_book.specs.declared.transaction_keys.TransactionKey.{TransactionKey};
 ghost use Rattle.mx_keeper.specs.declared.rows.BookRow.{BookRow};
 
-use crate::entries::BookEntry;
+use crate::journals::Journal;
 use crate::openings::Opening;
 use crate::recording::{
-    add_reply, is_begun_in, opening_in, record_beginning, record_giving_up, record_reply,
-    remove_reply, row_for,
+    add_place, is_begun_in, opening_in, record_beginning, record_giving_up, record_reply,
+    remove_place, row_for,
 };
 use crate::reopening::reopened_in;
 use crate::transaction_keys::TransactionKey;
@@ -25,35 +25,39 @@ use std::marker::Model;
 ///
 /// Each call names the number of its caller. Who began a transaction ends it, by keeping its reply or by giving it up;
 /// a reply that is kept is the answer for good. Unless the book was refused for storage, and while its keeper is honest,
-/// the keeper is open and its rows are the kept entries. For each transaction that is begun and not ended there is room
-/// for the entry that ends it.
+/// the keeper is open and its rows are the kept entries. It holds what is begun and not ended and the replies: of a
+/// transaction that was given up nothing is left but in the journal, which clauses alone read.
 #[derive(Drop)]
 pub struct Book<K: Keeper<Row = BookRow>> {
     keeper: K,
     place: Place,
     is_refused: bool,
-    journal: Vec<BookEntry>,
+    // No transaction was ever begun, and none is kept.
+    is_blank: bool,
+    journal: Journal,
     // Who began what is not ended.
     callers: BTreeMap<TransactionKey, Caller>,
-    // Where in the journal the replies stand.
-    replies: BTreeMap<TransactionKey, usize>,
+    // Where among the replies that of a transaction stands.
+    places: BTreeMap<TransactionKey, usize>,
+    // The replies in the order in which they were kept.
+    replies: Vec<Reply>,
 }
 
 impl<K: Keeper<Row = BookRow>> Model for Book<K> {
-    ghost use Rattle.std.specs.Prelude.{◌≡◌, false, Some, vec_capacity};
-    ghost use Rattle.std.specs.BTreeMap.{btree_map_len};
+    ghost use Rattle.std.specs.Prelude.{◌≡◌, ◌↔◌, [], IsTrue, false, Some};
     ghost use Rattle.mx_book.specs.View.{BookView};
     ghost use Rattle.mx_book.specs.Journal.{stored};
     ghost use Rattle.mx_book.specs.Inside.{IsIndexed, IsSound};
 
     ghost Value = { BookView K };
 
-    ghost view = { λ book. record { keeper = book.keeper; journal = book.journal.items; place = book.place; is_refused = book.is_refused } };
+    ghost view = { λ book. record { keeper = book.keeper; journal = book.journal; place = book.place; is_refused = book.is_refused } };
 
     ghost invariant = { λ book.
-        IsIndexed book.journal.items book.callers book.replies
-        × IsSound book.journal.items book.place (btree_map_len book.callers) (vec_capacity book.journal)
-        × (book.is_refused ≡ false → K.is_honest book.keeper → K.is_open book.keeper × (K.rows book.keeper ≡ Some (stored book.journal.items))) };
+        IsIndexed book.journal book.callers book.places book.replies.items
+        × IsSound book.journal book.place
+        × (IsTrue book.is_blank ↔ (book.journal ≡ []))
+        × (book.is_refused ≡ false → K.is_honest book.keeper → K.is_open book.keeper × (K.rows book.keeper ≡ Some (stored book.journal))) };
 }
 
 impl<K: Keeper<Row = BookRow>> Book<K> {
@@ -85,13 +89,16 @@ impl<K: Keeper<Row = BookRow>> Book<K> {
         let mut keeper = keeper;
         match keeper.rows() {
             Ok(rows) => {
+                let is_blank = rows.is_empty();
                 let made = reopened_in(alloc, &place, rows)?;
                 Ok(Book {
                     keeper,
                     place,
                     is_refused: false,
+                    is_blank,
                     journal: made.journal,
                     callers: made.callers,
+                    places: made.places,
                     replies: made.replies,
                 })
             }
@@ -133,16 +140,24 @@ impl<K: Keeper<Row = BookRow>> Book<K> {
         if self.is_refused {
             return Err(CallError::Storage);
         }
-        let opening = opening_in(&self.journal, &self.callers, &self.replies, key)?;
+        let opening = opening_in(
+            &self.journal,
+            &self.callers,
+            &self.places,
+            self.replies.as_slice(),
+            key,
+        )?;
         if let Opening::Fresh = opening {
             record_beginning(
                 &mut self.journal,
                 &mut self.callers,
-                &self.replies,
+                &self.places,
+                self.replies.as_slice(),
                 &self.place,
                 caller,
                 key,
             )?;
+            self.is_blank = false;
         }
         Ok(opening)
     }
@@ -158,14 +173,14 @@ impl<K: Keeper<Row = BookRow>> Book<K> {
     pub fn is_empty(&self) -> bool
         ensures { IsTrue result ↔ (self.now.journal ≡ []) }
     {
-        self.journal.is_empty()
+        self.is_blank
     }
 
-    /// Its journal, in order: what was begun, kept and given up. It takes no memory.
-    pub fn entries(&self) -> &[BookEntry]
-        ensures { result.now ≡ self.now.journal }
+    /// The replies that are kept, in the order in which they were. It takes no memory.
+    pub fn replies(&self) -> &[Reply]
+        ensures { result.now ≡ replies_in self.now.journal }
     {
-        self.journal.as_slice()
+        &self.replies
     }
 
     /// Whether no transaction is begun and not ended.
@@ -207,13 +222,15 @@ impl<K: Keeper<Row = BookRow>> Book<K> {
             return Err(CallError::Storage);
         }
         let row = row_for(key, reply)?;
-        let place = self.journal.as_slice().len();
-        add_reply(&mut self.replies, key, place)?;
+        self.replies.reserve(1)?;
+        let place = self.replies.as_slice().len();
+        add_place(&mut self.places, key, place)?;
         match self.keeper.append(&row) {
             Ok(()) => {
                 record_reply(
                     &mut self.journal,
                     &mut self.callers,
+                    &mut self.replies,
                     &self.place,
                     caller,
                     key,
@@ -222,11 +239,11 @@ impl<K: Keeper<Row = BookRow>> Book<K> {
                 Ok(())
             }
             Err(KeeperFault::Memory) => {
-                remove_reply(&mut self.replies, key);
+                remove_place(&mut self.places, key);
                 Err(CallError::Memory)
             }
             Err(KeeperFault::Store) => {
-                remove_reply(&mut self.replies, key);
+                remove_place(&mut self.places, key);
                 self.is_refused = true;
                 Err(CallError::Storage)
             }
@@ -245,7 +262,8 @@ impl<K: Keeper<Row = BookRow>> Book<K> {
         record_giving_up(
             &mut self.journal,
             &mut self.callers,
-            &self.replies,
+            &self.places,
+            self.replies.as_slice(),
             &self.place,
             caller,
             key,

@@ -3,6 +3,7 @@
 
 mod books;
 mod entries;
+mod journals;
 mod openings;
 mod recording;
 mod reopening;

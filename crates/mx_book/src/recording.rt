@@ -1,13 +1,14 @@
-// Entries of a journal, and the maps that find them.
-ghost use Rattle.std.specs.Prelude.{◌≡◌, ◌≢◌, ◌↔◌, ◌+◌, ◌++◌, ◌∷◌, [], List, ℕ, Some, None, IfOk, OnOk, OnErr, IsSome, IsTrue, length, slice_get, vec_capacity};
+// Entries of a journal, and what finds them.
+ghost use Rattle.std.specs.Prelude.{◌≡◌, ◌≢◌, ◌↔◌, ◌+◌, ◌≤◌, ◌++◌, ◌∷◌, [], List, ℕ, Some, None, IfOk, OnOk, OnErr, IsSome, IsTrue, length, vec_capacity};
 ghost use Rattle.std.specs.Option.{option_copied};
-ghost use Rattle.std.specs.BTreeMap.{btree_map_len, get};
+ghost use Rattle.std.specs.BTreeMap.{get};
 ghost use Rattle.mx_keeper.specs.Places.{is_at};
 ghost use Rattle.mx_book.specs.Transactions.{transaction_cmp};
-ghost use Rattle.mx_book.specs.Journal.{hold_of, hold_after, free, begun, opening_of};
-ghost use Rattle.mx_book.specs.Inside.{hold_at, reply_of, IsMoved, IsSameMap, IsIndexed, IsSound};
+ghost use Rattle.mx_book.specs.Journal.{hold_of, free, begun, opening_of};
+ghost use Rattle.mx_book.specs.Inside.{reply_at, IsMoved, IsSameMap, IsIndexed, IsSound};
+ghost use Rattle.mx_book.specs.declared.entries.BookEntry.{BookEntry};
 
-use crate::entries::BookEntry;
+use crate::journals::Journal;
 use crate::openings::Opening;
 use crate::transaction_keys::TransactionKey;
 use mx_keeper::{BookRow, Caller, Place, Reply};
@@ -18,42 +19,34 @@ use std::collections::BTreeMap;
 
 /// What opening the transaction answers.
 pub(crate) fn opening_in(
-    journal: &[BookEntry],
+    journal: &Journal,
     callers: &BTreeMap<TransactionKey, Caller>,
-    replies: &BTreeMap<TransactionKey, usize>,
+    places: &BTreeMap<TransactionKey, usize>,
+    replies: &[Reply],
     key: &TransactionKey,
 ) -> Result<Opening, AllocError>
-    requires { IsIndexed journal.now callers.now replies.now }
+    requires { IsIndexed journal.now callers.now places.now replies.now }
     ensures ok { IfOk result (λ opening. opening ≡ opening_of (hold_of journal.now key.now)) }
     ensures err { OnErr result ((other : ℕ) → hold_of journal.now key.now ≢ begun other) }
 {
     if callers.contains_key(key) {
         return Ok(Opening::Busy);
     }
-    match reply_in(journal, replies, key) {
+    match reply_in(places, replies, key) {
         Some(reply) => Ok(Opening::Kept(reply.clone()?)),
         None => Ok(Opening::Fresh),
     }
 }
 
 fn reply_in<'a>(
-    journal: &'a [BookEntry],
-    replies: &BTreeMap<TransactionKey, usize>,
+    places: &BTreeMap<TransactionKey, usize>,
+    replies: &'a [Reply],
     key: &TransactionKey,
 ) -> Option<&'a Reply>
-    ensures { option_copied result ≡ reply_of (hold_at journal.now (get transaction_cmp replies.now key.now)) }
+    ensures { option_copied result ≡ reply_at replies.now (get transaction_cmp places.now key.now) }
 {
-    match replies.get(key) {
-        Some(place) => reply_at(journal, *place),
-        None => None,
-    }
-}
-
-fn reply_at(journal: &[BookEntry], place: usize) -> Option<&Reply>
-    ensures { option_copied result ≡ reply_of (hold_after (slice_get journal.now place)) }
-{
-    match journal.get(place) {
-        Some(entry) => entry.reply(),
+    match places.get(key) {
+        Some(place) => replies.get(*place),
         None => None,
     }
 }
@@ -75,108 +68,103 @@ pub(crate) fn is_begun_in(
 // ---- the maps
 
 /// Takes a transaction out of those that are not ended.
-fn take_caller(
-    callers: &mut BTreeMap<TransactionKey, Caller>,
-    key: &TransactionKey,
-) -> TransactionKey
-    requires { IsSome (get transaction_cmp callers.old key.now) }
-    ensures key { result ≡ key.now }
-    ensures moved { IsMoved callers.old callers.new key.now None }
-    ensures len { btree_map_len callers.new + 1 ≡ btree_map_len callers.old }
+fn take_caller(callers: &mut BTreeMap<TransactionKey, Caller>, key: &TransactionKey)
+    ensures { IsMoved callers.old callers.new key.now None }
 {
-    match callers.remove_entry(key) {
-        Some((own, _)) => own,
-        None => unreachable!(),
-    }
+    callers.remove(key);
 }
 
 /// Adds the place of a reply.
-pub(crate) fn add_reply(
-    replies: &mut BTreeMap<TransactionKey, usize>,
+pub(crate) fn add_place(
+    places: &mut BTreeMap<TransactionKey, usize>,
     key: &TransactionKey,
     place: usize,
 ) -> Result<(), AllocError>
-    ensures ok { OnOk result (IsMoved replies.old replies.new key.now (Some place)) }
-    ensures err { OnErr result (IsSameMap replies.old replies.new) }
+    ensures ok { OnOk result (IsMoved places.old places.new key.now (Some place)) }
+    ensures err { OnErr result (IsSameMap places.old places.new) }
 {
     let owned = key.clone()?;
-    replies.insert(owned, place)?;
+    places.insert(owned, place)?;
     Ok(())
 }
 
 /// Takes the place of a reply away again.
-pub(crate) fn remove_reply(replies: &mut BTreeMap<TransactionKey, usize>, key: &TransactionKey)
-    ensures { IsMoved replies.old replies.new key.now None }
+pub(crate) fn remove_place(places: &mut BTreeMap<TransactionKey, usize>, key: &TransactionKey)
+    ensures { IsMoved places.old places.new key.now None }
 {
-    replies.remove(key);
+    places.remove(key);
 }
 
 // ---- the entries
 
-/// Begins a transaction that is free. What can fail comes first; there is room afterwards for the entry that ends it.
+/// Begins a transaction that is free.
 pub(crate) fn record_beginning(
-    journal: &mut Vec<BookEntry>,
+    journal: &mut Journal,
     callers: &mut BTreeMap<TransactionKey, Caller>,
-    replies: &BTreeMap<TransactionKey, usize>,
+    places: &BTreeMap<TransactionKey, usize>,
+    replies: &[Reply],
     place: &Place,
     caller: Caller,
     key: &TransactionKey,
 ) -> Result<(), AllocError>
-    requires indexed { IsIndexed journal.old.items callers.old replies.now }
-    requires sound { IsSound journal.old.items place.now (btree_map_len callers.old) (vec_capacity journal.old) }
+    requires indexed { IsIndexed journal.old callers.old places.now replies.now }
+    requires sound { IsSound journal.old place.now }
     requires here { IsTrue (is_at place.now key.now.origin) }
-    requires free { hold_of journal.old.items key.now ≡ free }
-    ensures journal { OnOk result (journal.new.items ≡ journal.old.items ++ BookEntry.Begun key.now caller ∷ []) }
-    ensures err { OnErr result (journal.new.items ≡ journal.old.items) }
-    ensures indexed { IsIndexed journal.new.items callers.new replies.now }
-    ensures sound { IsSound journal.new.items place.now (btree_map_len callers.new) (vec_capacity journal.new) }
+    requires free { hold_of journal.old key.now ≡ free }
+    ensures journal { OnOk result (journal.new ≡ journal.old ++ BookEntry.Begun key.now caller ∷ []) }
+    ensures err { OnErr result (journal.new ≡ journal.old) }
+    ensures indexed { IsIndexed journal.new callers.new places.now replies.now }
+    ensures sound { IsSound journal.new place.now }
 {
-    let own = key.clone()?;
     let owned = key.clone()?;
-    journal.reserve(callers.len() + 2)?;
     callers.insert(owned, caller)?;
-    journal.push_reserved(BookEntry::Begun(own, caller));
+    *journal = journal.begun(key, caller);
     Ok(())
 }
 
 /// Ends a transaction that this caller began, with no reply.
 pub(crate) fn record_giving_up(
-    journal: &mut Vec<BookEntry>,
+    journal: &mut Journal,
     callers: &mut BTreeMap<TransactionKey, Caller>,
-    replies: &BTreeMap<TransactionKey, usize>,
+    places: &BTreeMap<TransactionKey, usize>,
+    replies: &[Reply],
     place: &Place,
     caller: Caller,
     key: &TransactionKey,
 )
-    requires indexed { IsIndexed journal.old.items callers.old replies.now }
-    requires sound { IsSound journal.old.items place.now (btree_map_len callers.old) (vec_capacity journal.old) }
-    requires begun { hold_of journal.old.items key.now ≡ begun caller }
-    ensures journal { journal.new.items ≡ journal.old.items ++ BookEntry.GivenUp key.now caller ∷ [] }
-    ensures indexed { IsIndexed journal.new.items callers.new replies.now }
-    ensures sound { IsSound journal.new.items place.now (btree_map_len callers.new) (vec_capacity journal.new) }
+    requires indexed { IsIndexed journal.old callers.old places.now replies.now }
+    requires sound { IsSound journal.old place.now }
+    requires begun { hold_of journal.old key.now ≡ begun caller }
+    ensures journal { journal.new ≡ journal.old ++ BookEntry.GivenUp key.now caller ∷ [] }
+    ensures indexed { IsIndexed journal.new callers.new places.now replies.now }
+    ensures sound { IsSound journal.new place.now }
 {
-    let own = take_caller(callers, key);
-    journal.push_reserved(BookEntry::GivenUp(own, caller));
+    take_caller(callers, key);
+    *journal = journal.given_up(key, caller);
 }
 
-/// Ends a transaction that this caller began, with the reply whose place the map has already.
+/// Ends a transaction that this caller began, with the reply whose place the map has already and for which there is
+/// room.
 pub(crate) fn record_reply(
-    journal: &mut Vec<BookEntry>,
+    journal: &mut Journal,
     callers: &mut BTreeMap<TransactionKey, Caller>,
+    replies: &mut Vec<Reply>,
     place: &Place,
     caller: Caller,
     key: &TransactionKey,
     reply: Reply,
 )
-    requires some { IsSome (get transaction_cmp callers.old key.now) }
-    requires sound { IsSound journal.old.items place.now (btree_map_len callers.old) (vec_capacity journal.old) }
-    requires begun { hold_of journal.old.items key.now ≡ begun caller }
-    ensures journal { journal.new.items ≡ journal.old.items ++ BookEntry.Kept key.now caller reply ∷ [] }
+    requires room { length replies.old.items + 1 ≤ vec_capacity replies.old }
+    requires sound { IsSound journal.old place.now }
+    requires begun { hold_of journal.old key.now ≡ begun caller }
+    ensures journal { journal.new ≡ journal.old ++ BookEntry.Kept key.now caller reply ∷ [] }
+    ensures replies { replies.new.items ≡ replies.old.items ++ reply ∷ [] }
     ensures callers { IsMoved callers.old callers.new key.now None }
-    ensures sound { IsSound journal.new.items place.now (btree_map_len callers.new) (vec_capacity journal.new) }
+    ensures sound { IsSound journal.new place.now }
 {
-    let own = take_caller(callers, key);
-    journal.push_reserved(BookEntry::Kept(own, caller, reply));
+    take_caller(callers, key);
+    *journal = journal.kept(key, caller, &reply);
+    replies.push_reserved(reply);
 }
 
 /// The row that is stored of a reply.

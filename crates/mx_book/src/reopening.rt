@@ -4,9 +4,9 @@ ghost use Rattle.mx_keeper.specs.declared.rows.BookRow.{BookRow as Row};
 ghost use Rattle.mx_book.specs.Journal.{entry_of, reopened, can_reopen};
 ghost use Rattle.mx_book.specs.Inside.{IsReopened};
 
-use crate::entries::BookEntry;
+use crate::journals::Journal;
 use crate::transaction_keys::TransactionKey;
-use mx_keeper::{BookRow, CallError, Caller, Place};
+use mx_keeper::{BookRow, CallError, Caller, Place, Reply};
 use std::alloc::Global;
 use std::collections::BTreeMap;
 
@@ -16,11 +16,12 @@ const NO_CALLER: u32 = 0;
 /// What a book finds its transactions by.
 #[derive(Drop)]
 pub(crate) struct Transactions {
-    pub journal: Vec<BookEntry>,
+    pub journal: Journal,
     // Who began what is not ended.
     pub callers: BTreeMap<TransactionKey, Caller>,
-    // Where in the journal the replies stand.
-    pub replies: BTreeMap<TransactionKey, usize>,
+    // Where among the replies that of a transaction stands.
+    pub places: BTreeMap<TransactionKey, usize>,
+    pub replies: Vec<Reply>,
 }
 
 /// The transactions that the rows make.
@@ -31,48 +32,58 @@ pub(crate) fn reopened_in(
     place: &Place,
     rows: Vec<BookRow>,
 ) -> Result<Transactions, CallError>
-    ensures journal { IfOk result (λ made. made.journal.items ≡ reopened rows.items) }
-    ensures made { IfOk result (λ made. IsReopened place.now made.journal.items made.callers made.replies) }
+    ensures journal { IfOk result (λ made. made.journal ≡ reopened rows.items) }
+    ensures made { IfOk result (λ made. IsReopened place.now made.journal made.callers made.places made.replies.items) }
     ensures storage { result ≡ Err CallError.Storage → can_reopen place.now rows.items ≡ false }
 {
     let callers = BTreeMap::new(alloc);
-    let mut journal = Vec::new(alloc);
-    let mut replies = BTreeMap::new(alloc);
+    let mut journal = Journal::new();
+    let mut places = BTreeMap::new(alloc);
+    let mut replies = Vec::new(alloc);
     for row in rows {
-        reopen_row(&mut journal, &callers, &mut replies, place, row)?;
+        reopen_row(
+            &mut journal,
+            &callers,
+            &mut places,
+            &mut replies,
+            place,
+            row,
+        )?;
     }
     Ok(Transactions {
         journal,
         callers,
+        places,
         replies,
     })
 }
 
 // Adds the entry of a row.
 fn reopen_row(
-    journal: &mut Vec<BookEntry>,
+    journal: &mut Journal,
     callers: &BTreeMap<TransactionKey, Caller>,
-    replies: &mut BTreeMap<TransactionKey, usize>,
+    places: &mut BTreeMap<TransactionKey, usize>,
+    replies: &mut Vec<Reply>,
     place: &Place,
     row: BookRow,
 ) -> Result<(), CallError>
-    requires { IsReopened place.now journal.old.items callers.now replies.old }
-    ensures journal { OnOk result (journal.new.items ≡ journal.old.items ++ entry_of row ∷ []) }
-    ensures made { OnOk result (IsReopened place.now journal.new.items callers.now replies.new) }
-    ensures storage { result ≡ Err CallError.Storage → (rows later : List Row) → journal.old.items ≡ reopened rows → can_reopen place.now (rows ++ row ∷ later) ≡ false }
+    requires { IsReopened place.now journal.old callers.now places.old replies.old.items }
+    ensures journal { OnOk result (journal.new ≡ journal.old ++ entry_of row ∷ []) }
+    ensures made { OnOk result (IsReopened place.now journal.new callers.now places.new replies.new.items) }
+    ensures storage { result ≡ Err CallError.Storage → (rows later : List Row) → journal.old ≡ reopened rows → can_reopen place.now (rows ++ row ∷ later) ≡ false }
 {
     let BookRow { origin, txn, reply } = row;
     let key = TransactionKey { origin, txn };
     if !place.has(key.origin.as_str()) {
         return Err(CallError::Storage);
     }
-    if replies.contains_key(&key) {
+    if places.contains_key(&key) {
         return Err(CallError::Storage);
     }
-    let number = journal.as_slice().len();
-    let own = key.clone()?;
-    journal.reserve(1)?;
-    replies.insert(own, number)?;
-    journal.push_reserved(BookEntry::Kept(key, Caller::new(NO_CALLER), reply));
+    let number = replies.as_slice().len();
+    replies.reserve(1)?;
+    *journal = journal.kept(&key, Caller::new(NO_CALLER), &reply);
+    places.insert(key, number)?;
+    replies.push_reserved(reply);
     Ok(())
 }

@@ -9,8 +9,7 @@ use Rattle.mx_ident.specs.Identifier.{is_event_id, event_id_error}
 use Rattle.mx_ident.specs.declared.refusals.NotAnId.{NotAnId}
 use Rattle.mx_shard.specs.View.{ShardView}
 use Rattle.mx_shard.specs.Journal.{Entry, has_id}
-use Rattle.mx_book.specs.declared.entries.BookEntry.{BookEntry}
-use Rattle.mx_world.specs.Losses.{says_kept, kept_ids, ids_by, ids_told, not_held}
+use Rattle.mx_world.specs.Losses.{says_kept, kept_ids, ids_of, ids_among, not_held}
 use Rattle.mx_world.specs.Worlds.{shard_journals}
 
 -- a shard of these has an entry with the id
@@ -28,15 +27,15 @@ module _ (journals : List (List Entry)) where
       ap (λ l. l ++ not_held journals rest) is ∙ append_assoc old (not_held journals ids) (not_held journals rest)
       ∙ ap (λ l. old ++ l) (sym (filter-append (λ id. not (list_any (λ journal. has_id journal id) journals)) ids rest)) ∙ so_far
 
-  pub entry_more : (entries : List BookEntry) (n : ℕ) (e : BookEntry) (old new all : List (List ℕ)) → n < length entries → e ≡ get_or entries n e → new ≡ old ++ not_held journals (ids_by e) →
-      old ++ not_held journals (ids_told (drop n entries)) ≡ all → new ++ not_held journals (ids_told (drop (n + 1) entries)) ≡ all
-  entry_more entries n e old new all lt is added so_far =
-      one_more old new (ids_by e) (ids_told (drop (n + 1) entries)) all added
-      (ap (λ es. old ++ not_held journals (ids_told es)) (ap (λ x. x ∷ drop (n + 1) entries) is ∙ sym (drop_more entries n e lt)) ∙ so_far)
+  pub reply_more : (replies : List (List ℕ)) (n : ℕ) (r : List ℕ) (old new all : List (List ℕ)) → n < length replies → r ≡ get_or replies n r → new ≡ old ++ not_held journals (ids_of r) →
+      old ++ not_held journals (ids_among (drop n replies)) ≡ all → new ++ not_held journals (ids_among (drop (n + 1) replies)) ≡ all
+  reply_more replies n r old new all lt is added so_far =
+      one_more old new (ids_of r) (ids_among (drop (n + 1) replies)) all added
+      (ap (λ rs. old ++ not_held journals (ids_among rs)) (ap (λ x. x ∷ drop (n + 1) replies) is ∙ sym (drop_more replies n r lt)) ∙ so_far)
 
-  pub no_more_entries : (entries : List BookEntry) (n : ℕ) (found all : List (List ℕ)) → length entries ≤ n → found ++ not_held journals (ids_told (drop n entries)) ≡ all → found ≡ all
-  no_more_entries entries n found all past so_far =
-      sym (append-nil found) ∙ ap (λ es. found ++ not_held journals (ids_told es)) (sym (drop_all n entries past)) ∙ so_far
+  pub no_more_replies : (replies : List (List ℕ)) (n : ℕ) (found all : List (List ℕ)) → length replies ≤ n → found ++ not_held journals (ids_among (drop n replies)) ≡ all → found ≡ all
+  no_more_replies replies n found all past so_far =
+      sym (append-nil found) ∙ ap (λ rs. found ++ not_held journals (ids_among rs)) (sym (drop_all n replies past)) ∙ so_far
 
   kept-first : (b : Bool) (id : List ℕ) (rest : List (List ℕ)) → cond b (id ∷ rest) rest ≡ cond b (id ∷ []) [] ++ rest
   kept-first true id rest = refl

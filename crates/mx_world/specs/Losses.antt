@@ -7,8 +7,8 @@ use Rattle.serde_json.specs.Read.{read as read_text}
 use Rattle.mx_ident.specs.Identifier.{is_event_id}
 use Rattle.mx_redact.specs.Fields.{field, is_object, is_some_and, is_none_or}
 use Rattle.mx_shard.specs.Journal.{Entry, has_id}
+use Rattle.mx_book.specs.Journal.{replies_in}
 use Rattle.mx_book.specs.declared.entries.BookEntry.{BookEntry}
-use Rattle.mx_book.specs.declared.entries.BookEntry.TheVariants.{Begun, Kept, GivenUp}
 
 -- the error of an event that was kept, and rejected
 abbrev pub is_rejection : Data → Bool
@@ -35,15 +35,14 @@ ids_under (Some ms) = kept_ids ms
 abbrev pub ids_of : List ℕ → List (List ℕ)
 ids_of reply = ids_under (option_and_then answers_in (read_text reply))
 
-abbrev pub ids_by : BookEntry → List (List ℕ)
-ids_by (Begun key caller) = []
-ids_by (Kept key caller reply) = ids_of reply
-ids_by (GivenUp key caller) = []
+-- those of some replies
+abbrev pub ids_among : List (List ℕ) → List (List ℕ)
+ids_among [] = []
+ids_among (reply ∷ replies) = ids_of reply ++ ids_among replies
 
 -- those of a book's replies
 abbrev pub ids_told : List BookEntry → List (List ℕ)
-ids_told [] = []
-ids_told (entry ∷ entries) = ids_by entry ++ ids_told entries
+ids_told journal = ids_among (replies_in journal)
 
 -- those of them that stand in none of these journals of shards
 abbrev pub not_held : List (List Entry) → List (List ℕ) → List (List ℕ)

@@ -9,7 +9,7 @@ ghost use Rattle.mx_world.specs.Losses as definition;
 ghost use Rattle.mx_world.specs.Losses.{not_held};
 ghost use Rattle.mx_world.specs.Worlds.{shard_journals, book_journals};
 
-use mx_book::{Book, BookEntry};
+use mx_book::Book;
 use mx_ident::{EventId, IdError};
 use mx_keeper::{BookRow, Keeper, Reply, ShardRow};
 use mx_redact::field;
@@ -28,38 +28,24 @@ pub(crate) fn lost_of_book<K: Keeper<Row = ShardRow>, L: Keeper<Row = BookRow>>(
     ensures { IfOk result (λ lost. lost.items ≡ not_held (shard_journals shards.now) (definition.ids_told (get_or (book_journals books.now) number []))) }
 {
     match books.get(number) {
-        Some(book) => lost_by(alloc, shards, book.entries()),
+        Some(book) => lost_by(alloc, shards, book.replies()),
         None => Ok(Vec::new(alloc)),
     }
 }
 
-// The events that the kept replies of these entries call kept and that no shard has.
+// The events that these replies call kept and that no shard has.
 fn lost_by<K: Keeper<Row = ShardRow>>(
     alloc: Global,
     shards: &[Shard<K>],
-    entries: &[BookEntry],
+    replies: &[Reply],
 ) -> Result<Vec<EventId>, AllocError>
-    ensures { IfOk result (λ lost. lost.items ≡ not_held (shard_journals shards.now) (definition.ids_told entries.now)) }
+    ensures { IfOk result (λ lost. lost.items ≡ not_held (shard_journals shards.now) (definition.ids_among replies.now)) }
 {
     let mut lost = Vec::new(alloc);
-    for entry in entries {
-        add_lost_of(alloc, shards, entry, &mut lost)?;
+    for reply in replies {
+        add_lost_by(alloc, shards, reply, &mut lost)?;
     }
     Ok(lost)
-}
-
-fn add_lost_of<K: Keeper<Row = ShardRow>>(
-    alloc: Global,
-    shards: &[Shard<K>],
-    entry: &BookEntry,
-    lost: &mut Vec<EventId>,
-) -> Result<(), AllocError>
-    ensures { OnOk result (lost.new.items ≡ lost.old.items ++ not_held (shard_journals shards.now) (definition.ids_by entry.now)) }
-{
-    match entry {
-        BookEntry::Kept(_, _, reply) => add_lost_by(alloc, shards, reply, lost),
-        BookEntry::Begun(_, _) | BookEntry::GivenUp(_, _) => Ok(()),
-    }
 }
 
 fn add_lost_by<K: Keeper<Row = ShardRow>>(

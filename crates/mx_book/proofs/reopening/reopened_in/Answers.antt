@@ -10,8 +10,8 @@ pub loop-row-init : goal.loop-row-init
 loop-row-init c = record {
   done = [];
   all = c.into_iter-row-iterator.ensures.into_iter_gives.0;
-  journal = c.new-journal.ensures.items;
-  made = reopen-none c.args.place.now c.new-journal.result.items c.new-callers.result c.new-replies.result c.new-journal.ensures.items c.new-callers.ensures.len c.new-replies.ensures.len;
+  journal = c.new-journal.ensures;
+  made = reopen-none c.args.place.now c.new-journal.result c.new-callers.result c.new-places.result c.new-replies.result.items c.new-journal.ensures c.new-callers.ensures.len c.new-places.ensures.len c.new-replies.ensures.items;
 }
 
 pub reopen_row-requires : goal.reopen_row-requires

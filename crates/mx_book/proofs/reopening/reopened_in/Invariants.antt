@@ -9,6 +9,6 @@ abbrev pub invariant-loop-row : goal.invariant-loop-row
 invariant-loop-row l = record {
   done : List BookRow;
   all : done ++ l.row-iterator.rest.items ≡ l.fn.rows.items;
-  journal : l.journal.items ≡ reopened done;
-  made : IsReopened l.fn.place l.journal.items l.callers l.replies;
+  journal : l.journal ≡ reopened done;
+  made : IsReopened l.fn.place l.journal l.callers l.places l.replies.items;
 }

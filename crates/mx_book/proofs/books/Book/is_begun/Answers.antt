@@ -9,6 +9,6 @@ returns g c =
     let b = c.self.inside in
     subst (λ js. (IsTrue c.is_begun_in.result → hold_of js c.args.key.now ≡ begun c.args.caller) × (hold_of js c.args.key.now ≡ begun c.args.caller → IsTrue c.is_begun_in.result))
     (ap (λ (v : BookView _). v.journal) c.self.view_is) (
-      λ h. begun_iff b.journal.items b.callers b.replies c.args.key.now c.args.caller c.self.invariant.0 (c.is_begun_in.ensures.0 h),
-      λ h. c.is_begun_in.ensures.1 (begun_means b.journal.items b.callers b.replies c.args.key.now c.args.caller c.self.invariant.0 h),
+      λ h. begun_iff b.journal b.callers b.places b.replies.items c.args.key.now c.self.invariant.0 c.args.caller (c.is_begun_in.ensures.0 h),
+      λ h. c.is_begun_in.ensures.1 (begun_means b.journal b.callers b.places b.replies.items c.args.key.now c.self.invariant.0 c.args.caller h),
     )

@@ -9,6 +9,6 @@ returns g c =
     let b = c.self.inside in
     subst (λ js. (IsTrue c.is_empty.result → IsEnded js) × (IsEnded js → IsTrue c.is_empty.result))
     (ap (λ (v : BookView _). v.journal) c.self.view_is) (
-      λ h. none_begun b.journal.items b.callers b.replies c.self.invariant.0 (c.is_empty.ensures.0 h),
-      λ h. c.is_empty.ensures.1 (all_ended b.journal.items b.callers b.replies c.self.invariant.0 h),
+      λ h. none_begun b.journal b.callers b.places b.replies.items c.self.invariant.0 (c.is_empty.ensures.0 h),
+      λ h. c.is_empty.ensures.1 (all_ended b.journal b.callers b.places b.replies.items c.self.invariant.0 h),
     )

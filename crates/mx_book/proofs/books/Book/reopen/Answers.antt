@@ -1,7 +1,7 @@
-use Rattle.std.proofs.Common.{◌≡◌, Some, List, sym, ap, ◌∙◌, arith}
+use Rattle.std.proofs.Common.{◌≡◌, Some, List, sym, ap, ◌∙◌}
 use Rattle.mx_keeper.specs.declared.rows.BookRow.{BookRow}
 use Rattle.mx_book.specs.Journal.{hold_of, stored, reopened}
-use Rattle.mx_book.proofs.ReopenLemmas.{stored-reopened}
+use Rattle.mx_book.proofs.ReopenLemmas.{stored-reopened, blank-reopened}
 use Rattle.mx_book.proofs.AgainLemmas.{known-again}
 use Rattle.mx_book.proofs.books.Book.reopen.Goals as goal
 
@@ -9,9 +9,10 @@ pub invariant_of-result : goal.invariant_of-result
 invariant_of-result g c =
     let made = c.in_ok-made-in-Ok.ensures.made in
     let journal = c.in_ok-made-in-Ok.made.journal in
-    let rows : stored journal.items ≡ c.in-Ok.rows.items = ap stored c.in_ok-made-in-Ok.ensures.journal ∙ stored-reopened c.in-Ok.rows.items in (
+    let rows : stored journal ≡ c.in-Ok.rows.items = ap stored c.in_ok-made-in-Ok.ensures.journal ∙ stored-reopened c.in-Ok.rows.items in (
       made.indexed,
-      record { here = made.here; legal = made.legal; spare = omega (arith, made.none, journal.ok.0, journal.ok.1) },
+      record { here = made.here; legal = made.legal },
+      blank-reopened c.is_empty-is_blank.result c.in-Ok.rows.len c.in-Ok.rows.items journal c.is_empty-is_blank.ensures c.in-Ok.rows.ok.0 c.in_ok-made-in-Ok.ensures.journal,
       λ _ honest. let open' = c.in-Ok.ensures.open honest in (
         open',
         c.in-Ok.ensures.stay honest open' ∙ c.in-Ok.ensures.ok honest ∙ ap (λ (rs : List BookRow). Some rs) (sym rows),

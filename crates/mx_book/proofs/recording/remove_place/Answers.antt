@@ -1,0 +1,6 @@
+use Rattle.std.proofs.Common.{None}
+use Rattle.mx_book.proofs.IndexLemmas.{moved_by_update}
+use Rattle.mx_book.proofs.recording.remove_place.Goals as goal
+
+pub returns : goal.returns
+returns c = moved_by_update c.args.places.now c.remove.new.self c.args.key.now None c.remove.ensures.updates
