@@ -43,3 +43,4 @@ pub mod LaterOrderLemmas
 pub mod LaterCheckLemmas
 pub mod LaterResolutionLemmas
 pub mod KeyOrderLemmas
+pub mod KeyEventLemmas

@@ -7,10 +7,11 @@ ghost use Rattle.mx_graph.specs.Record.{is_in};
 ghost use Rattle.mx_orders.specs.StateMap.{entry, events_of, key_cmp};
 ghost use Rattle.mx_state_res.specs.Agreed.{has_missed};
 ghost use Rattle.mx_state_res.specs.MemberKeys.{is_member_key};
-ghost use Rattle.mx_state_res.specs.Numbered.{AllAlike, state_at, without};
+ghost use Rattle.mx_state_res.specs.Numbered.{AllAlike, events_at, state_at, without};
 ghost use Rattle.mx_state_res.specs.Resolution.{overwritten};
 
 pub(crate) mod event_tests;
+mod key_events;
 pub(crate) mod key_numbers;
 pub(crate) mod member_lists;
 mod member_search;
@@ -25,6 +26,7 @@ pub(crate) mod state_refs;
 use crate::snapshots::Snapshots;
 use crate::state_maps::StateMap;
 use crate::states::event_tests::EventTest;
+use crate::states::key_events::events_at_keys;
 use crate::states::member_search::has_passing_member;
 use crate::states::numbered_entries::{
     changes_of, entries_of, events_in_order, map_of, put_differing,
@@ -180,6 +182,21 @@ impl States {
     {
         let entries = self.snapshots.entries(alloc, number)?;
         events_in_order(alloc, &self.keys, &entries)
+    }
+
+    // For each of some states, its events at the keys of a map, in their order.
+    pub(crate) fn events_at_keys(
+        &self,
+        alloc: Global,
+        numbers: &[StateNo],
+        wanted: &StateMap,
+    ) -> Result<Vec<Vec<EventNo>>, AllocError>
+        requires { All (λ number. number < length self.now) numbers.now }
+        ensures { IfOk result (λ found. map (λ events. events.items) found.items
+            ≡ map (λ number. events_at wanted.now (state_at self.now number)) numbers.now) }
+    {
+        let found = events_at_keys(alloc, &self.keys, &self.snapshots, numbers, wanted)?;
+        Ok(found)
     }
 
     // The events of a state at the keys that a map lacks, in no order that is told.

@@ -4,7 +4,7 @@ ghost use Rattle.std.specs.FinMap.Entries.{is_sorted};
 ghost use Rattle.mx_graph.specs.Edges.{Rises};
 ghost use Rattle.mx_orders.specs.StateMap.{events_of as events_in, key_cmp};
 ghost use Rattle.mx_state_res.specs.ChainDifference as differences;
-ghost use Rattle.mx_state_res.specs.Numbered.{AreKnown, IsDiffering, events_at, state_at, without};
+ghost use Rattle.mx_state_res.specs.Numbered.{AreKnown, IsDiffering, state_at, without};
 ghost use Rattle.mx_state_res.specs.Resolution as definition;
 
 use crate::chains::chain_difference::chain_difference;
@@ -39,7 +39,7 @@ pub(crate) fn full_conflicted_at(
     graph_is_sound(graph);
     all_are_sorted(states, numbers);
     let _ = differing.entries();
-    let apart = apart_events(alloc, states, numbers, differing)?;
+    let apart = states.events_at_keys(alloc, numbers, differing)?;
     let difference = apart_chains(alloc, graph, states, base, differing, &apart)?;
     let mut found = joined(alloc, &apart)?;
     found.extend_from_slice(&difference)?;
@@ -55,44 +55,6 @@ pub(crate) fn all_are_sorted(states: &States, numbers: &[StateNo])
     for number in numbers {
         states.state_is_sorted(*number);
     }
-}
-
-// For each state, its events at the keys of another.
-fn apart_events(
-    alloc: Global,
-    states: &States,
-    numbers: &[StateNo],
-    keys: &StateMap,
-) -> Result<Vec<Vec<EventNo>>, AllocError>
-    requires { All (λ number. number < length states.now) numbers.now }
-    ensures { IfOk result (λ found. map (λ events. events.items) found.items
-        ≡ map (λ number. events_at keys.now (state_at states.now number)) numbers.now) }
-{
-    let mut found = Vec::new(alloc);
-    for number in numbers {
-        let events = events_at_keys(alloc, states, *number, keys)?;
-        found.push(events)?;
-    }
-    Ok(found)
-}
-
-// The events of a state at the keys of another.
-fn events_at_keys(
-    alloc: Global,
-    states: &States,
-    number: StateNo,
-    keys: &StateMap,
-) -> Result<Vec<EventNo>, AllocError>
-    requires { number < length states.now }
-    ensures { IfOk result (λ events. events.items ≡ events_at keys.now (state_at states.now number)) }
-{
-    let mut events = Vec::new(alloc);
-    for entry in keys.entries() {
-        if let Some(event) = states.get(number, entry.kind(), entry.state_key()) {
-            events.push(event)?;
-        }
-    }
-    Ok(events)
 }
 
 // The events that are in the auth chains of some sets and not of all, and not in the chain of what the states share.
