@@ -16,6 +16,7 @@ use std::net::Net;
 use std::rc::Rc;
 use std::sync::atomic::{AtomicBool, Ordering};
 use std::sync::{Arc, Mutex, Wait};
+use std::thread::Threads;
 use std::time::Clock;
 use thiserror::Error;
 
@@ -81,7 +82,7 @@ impl<A: Responder> SharedResponder<A> {
     }
 
     // The reply to a request. Where the responder wants no more of them, its listener is to end.
-    fn respond<R: Wait + Clock + Eprint + Net>(
+    fn respond<R: Threads + Wait + Sync + Clock + Eprint + Net>(
         &self,
         rt: &R,
         alloc: Global,
@@ -108,7 +109,7 @@ impl<A: Responder> SharedResponder<A> {
 }
 
 // The reply of a responder, and whether it wants no more requests.
-fn respond_by<R: Wait + Clock + Eprint, A: Responder>(
+fn respond_by<R: Threads + Wait + Sync + Clock + Eprint, A: Responder>(
     rt: &R,
     alloc: Global,
     responder: &Mutex<A>,
@@ -182,7 +183,7 @@ fn has_other_coding<I>(request: &Request<Incoming<I>>) -> bool {
 
 impl<A: Responder> Call<A> {
     // The response to the request with this body.
-    fn reply<R: Wait + Clock + Eprint + Net>(
+    fn reply<R: Threads + Wait + Sync + Clock + Eprint + Net>(
         self,
         rt: &R,
         alloc: Global,
@@ -219,7 +220,7 @@ impl<A: Responder> Call<A> {
 }
 
 // The response to a request, once its body has come or not.
-fn answered<R: Wait + Clock + Eprint + Net, A: Responder>(
+fn answered<R: Threads + Wait + Sync + Clock + Eprint + Net, A: Responder>(
     rt: &R,
     alloc: Global,
     call: Result<Call<A>, AllocError>,
@@ -248,7 +249,7 @@ pub struct Answers<R, A> {
 
 impl<R, I, A> Service<Request<Incoming<I>>> for Answers<R, A>
 where
-    R: Wait + Clock + Eprint + Net + AllocGlobal + Copy + Drop,
+    R: Threads + Wait + Sync + Clock + Eprint + Net + AllocGlobal + Copy + Drop,
     I: Drop,
     A: Responder,
 {
@@ -280,7 +281,7 @@ pub struct Answer<R, A, F> {
 
 impl<R, A, F> Future for Answer<R, A, F>
 where
-    R: Wait + Clock + Eprint + Net + AllocGlobal + Copy + Drop,
+    R: Threads + Wait + Sync + Clock + Eprint + Net + AllocGlobal + Copy + Drop,
     A: Responder,
     F: Future<Output = Result<Vec<u8>, BodyError>>,
 {

@@ -19,6 +19,7 @@ use std::random::RandomSource;
 use std::rc::Rc;
 use std::sync::atomic::AtomicBool;
 use std::sync::{Arc, Mutex, Wait};
+use std::thread::Threads;
 use std::time::{Clock, Duration};
 use tokio::io::{AsyncRead, AsyncWrite};
 use tokio::net::TcpStream;
@@ -56,7 +57,7 @@ pub type Arrival<S> = (S, Option<ConnectionGuard>);
 
 impl<R, S, A> Opener<Arrival<S>> for Serving<R, A>
 where
-    R: Wait + Clock + Eprint + Net + AllocGlobal + Copy + Drop,
+    R: Threads + Wait + Sync + Clock + Eprint + Net + AllocGlobal + Copy + Drop,
     S: Source,
     A: Responder,
 {
@@ -93,7 +94,7 @@ pub fn serve_one<R, S, A>(
     largest_body: usize,
 ) -> anyhow::Result<()>
 where
-    R: Wait + Clock + Eprint + Net + RandomSource + AllocGlobal + Copy + Drop,
+    R: Threads + Wait + Sync + Clock + Eprint + Net + RandomSource + AllocGlobal + Copy + Drop,
     S: Source,
     A: Responder,
 {
@@ -129,7 +130,7 @@ pub fn serve_all<R, A>(
     patience: Patience,
 ) -> io::Result<()>
 where
-    R: Wait + Clock + Eprint + Net + RandomSource + AllocGlobal + Copy + Drop,
+    R: Threads + Wait + Sync + Clock + Eprint + Net + RandomSource + AllocGlobal + Copy + Drop,
     A: Responder,
 {
     let serving = Serving {

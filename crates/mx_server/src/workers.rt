@@ -15,6 +15,7 @@ use mx_wire::{
 use std::alloc::{AllocError, Global};
 use std::marker::Model;
 use std::sync::{Arc, Wait};
+use std::thread::Threads;
 use std::time::Clock;
 
 // The status where a body does not come in its coding.
@@ -57,8 +58,8 @@ impl<K: Keeper<Row = ShardRow>, L: Keeper<Row = BookRow>> Model for Worker<K, L>
     ghost invariant = { λ worker. IsSeatOf worker.shared.value.engine worker.seat };
 }
 
-impl<K: Keeper<Row = ShardRow>, L: Keeper<Row = BookRow>> Responder for Worker<K, L> {
-    fn respond<R: Wait + Clock + Eprint>(
+impl<K: Keeper<Row = ShardRow> + Send, L: Keeper<Row = BookRow>> Responder for Worker<K, L> {
+    fn respond<R: Threads + Wait + Sync + Clock + Eprint>(
         &mut self,
         rt: &R,
         alloc: Global,
@@ -123,7 +124,11 @@ fn asked(request: HttpRequest) -> WireRequest {
 }
 
 // The reply to a request through a seat.
-fn answer_in<K: Keeper<Row = ShardRow>, L: Keeper<Row = BookRow>, R: Wait + Clock>(
+fn answer_in<
+    K: Keeper<Row = ShardRow> + Send,
+    L: Keeper<Row = BookRow>,
+    R: Threads + Wait + Sync + Clock,
+>(
     rt: &R,
     alloc: Global,
     shared: &Shared<K, L>,
