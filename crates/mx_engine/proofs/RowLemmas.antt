@@ -46,6 +46,12 @@ module _ {A : Type 0} where
   some-of [] n l = absurd (omega (arith, l))
   some-of (x ∷ xs) n l = x
 
+-- an element of a row is the same one whatever stands for those that are not
+pub get_or-in : {A : Type 0} (row : List A) (n : ℕ) (d e : A) → n < length row → get_or row n d ≡ get_or row n e
+get_or-in [] n d e l = absurd (omega (arith, l))
+get_or-in (x ∷ xs) zero d e l = refl
+get_or-in (x ∷ xs) (suc n) d e l = get_or-in xs n d e (omega (arith, l))
+
 -- a row in which each element was replaced by one that is as good
 pub replaced-all : {A B : Type 0} (f : A → B) (Done : ℕ → A → A → Type 0) (count : ℕ) (old new : List A) → AreReplaced Done count old new → length old ≤ count →
     ((n : ℕ) (x y : A) → Done n x y → f y ≡ f x) → map f new ≡ map f old

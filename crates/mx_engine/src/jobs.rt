@@ -223,6 +223,14 @@ pub(crate) fn are_several(busy: &[bool; 64]) -> bool {
     found > 1
 }
 
+// Whether the dock with this number is busy.
+fn is_busy_at(busy: &[bool; 64], number: usize) -> bool
+    requires { number < 64 }
+    ensures { result ≡ get_or busy.now number true }
+{
+    busy[number]
+}
+
 // A job for each dock, in their order.
 fn jobs_of<K: Keeper<Row = ShardRow>>(
     alloc: Global,
@@ -239,10 +247,11 @@ fn jobs_of<K: Keeper<Row = ShardRow>>(
     let count = berths.len();
     for berth in berths {
         let number = jobs.len();
+        let is_busy = is_busy_at(busy, number);
         jobs.push_reserved(Job {
             place: Place::new(number, count),
             berth,
-            is_busy: busy[number],
+            is_busy,
             told: VecDeque::new(alloc),
             fault: None,
         });
@@ -282,6 +291,14 @@ fn bring_forward<K: Keeper<Row = ShardRow>>(jobs: &mut Vec<Job<K>>, moves: &mut 
     }
 }
 
+// Where the job was that was brought to this place.
+fn place_before(moves: &[usize], place: usize) -> usize
+    requires { place < length moves.now }
+    ensures { (d : ℕ) → result ≡ get_or moves.now place d }
+{
+    moves[place]
+}
+
 // Brings the jobs back to where they were.
 fn bring_back<K: Keeper<Row = ShardRow>>(jobs: &mut Vec<Job<K>>, moves: &[usize])
     requires { AreMoves (length jobs.old.items) 0 moves.now }
@@ -289,7 +306,8 @@ fn bring_back<K: Keeper<Row = ShardRow>>(jobs: &mut Vec<Job<K>>, moves: &[usize]
 {
     for done in 0..moves.len() {
         let last = moves.len() - 1 - done;
-        jobs.swap(last, moves[last]);
+        let place = place_before(moves, last);
+        jobs.swap(last, place);
     }
 }
 

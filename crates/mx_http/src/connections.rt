@@ -61,7 +61,11 @@ where
     S: Source,
     A: Responder,
 {
+    ghost use Rattle.std.specs.Thread.{IsSync};
+
     type Served = Connection<Timed<S::Io, R>, Answers<R, A>, Full<Bytes>, TokioTimer<R>>;
+
+    ghost can_open = { λ _. IsSync R.row };
 
     fn open(&self, arrival: Arrival<S>, handle: &Handle) -> io::Result<Self::Served> {
         let (source, guard) = arrival;

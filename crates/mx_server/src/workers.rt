@@ -48,6 +48,7 @@ pub struct Worker<K: Keeper<Row = ShardRow>, L: Keeper<Row = BookRow>> {
 
 impl<K: Keeper<Row = ShardRow>, L: Keeper<Row = BookRow>> Model for Worker<K, L> {
     ghost use Rattle.std.specs.Prelude.{ℕ};
+    ghost use Rattle.std.specs.Thread.{IsSend};
     ghost use Rattle.mx_engine.specs.Seats.{IsSeatOf, seat_number};
 
     // The number of its seat.
@@ -55,7 +56,8 @@ impl<K: Keeper<Row = ShardRow>, L: Keeper<Row = BookRow>> Model for Worker<K, L>
 
     ghost view = { λ worker. seat_number worker.seat };
 
-    ghost invariant = { λ worker. IsSeatOf worker.shared.value.engine worker.seat };
+    // What keeps the rows of rooms may be sent to the threads of a transaction.
+    ghost invariant = { λ worker. IsSend K.row × IsSeatOf worker.shared.value.engine worker.seat };
 }
 
 impl<K: Keeper<Row = ShardRow> + Send, L: Keeper<Row = BookRow>> Responder for Worker<K, L> {
@@ -210,7 +212,7 @@ fn without_memory() -> HttpReply {
 }
 
 /// A worker at each seat of an engine.
-pub fn workers_of<K: Keeper<Row = ShardRow>, L: Keeper<Row = BookRow>>(
+pub fn workers_of<K: Keeper<Row = ShardRow> + Send, L: Keeper<Row = BookRow>>(
     alloc: Global,
     shared: &Arc<Shared<K, L>>,
     seats: Vec<Seat<K, L>>,
@@ -224,7 +226,7 @@ pub fn workers_of<K: Keeper<Row = ShardRow>, L: Keeper<Row = BookRow>>(
     Ok(workers)
 }
 
-fn worker_of<K: Keeper<Row = ShardRow>, L: Keeper<Row = BookRow>>(
+fn worker_of<K: Keeper<Row = ShardRow> + Send, L: Keeper<Row = BookRow>>(
     shared: &Arc<Shared<K, L>>,
     seat: Seat<K, L>,
 ) -> Result<Worker<K, L>, AllocError>

@@ -1,6 +1,6 @@
 // Callers of an engine, each in a thread of its own.
 ghost use Rattle.std.specs.Prelude.{◌≡◌, ◌<◌, ℕ, All, IfOk, length, get_or, map};
-ghost use denote.Param.Send.{IsSync};
+ghost use Rattle.std.specs.Thread.{IsSync};
 ghost use Rattle.mx_engine.specs.Seats.{IsSeatOf, seat_number};
 ghost use Rattle.mx_server_tests.specs.Callers.{AreTheSeats};
 

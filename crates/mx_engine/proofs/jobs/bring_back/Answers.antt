@@ -17,14 +17,14 @@ swap-requires-clause-i_in_bounds g c =
     let l : k < length c.args.moves.now = omega (arith, c.loop-done-test.true) in
     let long = ap length c.loop-done.invariant ∙ length-unmoved (length c.args.moves.now - c.loop-done.done) (drop (length c.args.moves.now - c.loop-done.done) c.args.moves.now) c.args.jobs.now.items in
     let h = (moves_at (length c.args.jobs.now.items) 0 c.args.moves.now k 0 c.requires l).0 in
-    subst (λ n. k < n) (sym long) (omega (arith, h))
+    subst (λ n. k < n) (sym (c.loop-done.jobs.ok.0 ∙ long)) (omega (arith, h))
 
 pub swap-requires-clause-j_in_bounds : goal.swap-requires-clause-j_in_bounds
 swap-requires-clause-j_in_bounds g c =
     let k = length c.args.moves.now - 1 - c.loop-done.done in
     let l : k < length c.args.moves.now = omega (arith, c.loop-done-test.true) in
     let long = ap length c.loop-done.invariant ∙ length-unmoved (length c.args.moves.now - c.loop-done.done) (drop (length c.args.moves.now - c.loop-done.done) c.args.moves.now) c.args.jobs.now.items in
-    subst (λ n. c.swap-arg-1.result < n) (sym long) (subst (λ m. m < length c.args.jobs.now.items) (sym c.swap-arg-1.is) (moves_at (length c.args.jobs.now.items) 0 c.args.moves.now k c.swap-arg-1.result c.requires l).1)
+    subst (λ n. c.place_before-place.result < n) (sym (c.loop-done.jobs.ok.0 ∙ long)) (subst (λ m. m < length c.args.jobs.now.items) (sym (c.place_before-place.ensures c.place_before-place.result)) (moves_at (length c.args.jobs.now.items) 0 c.args.moves.now k c.place_before-place.result c.requires l).1)
 
 pub loop-done-preserved : goal.loop-done-preserved
 loop-done-preserved g c =
@@ -33,7 +33,7 @@ loop-done-preserved g c =
     let next : length c.args.moves.now - c.loop-done.done ≡ k + 1 = omega (arith, c.loop-done-test.true) in
     let here : length c.args.moves.now - (c.loop-done.done + 1) ≡ k = omega (arith, c.loop-done-test.true) in
     subst (λ m. c.swap.new.self.items ≡ unmoved m (drop m c.args.moves.now) c.args.jobs.now.items) (sym here)
-    (c.swap.ensures.items ∙ unmoved-more c.args.moves.now k c.swap-arg-1.result c.args.jobs.now.items c.loop-done.jobs.items l c.swap-arg-1.is
+    (c.swap.ensures.items ∙ unmoved-more c.args.moves.now k c.place_before-place.result c.args.jobs.now.items c.loop-done.jobs.items l (c.place_before-place.ensures c.place_before-place.result)
     (subst (λ m. c.loop-done.jobs.items ≡ unmoved m (drop m c.args.moves.now) c.args.jobs.now.items) next c.loop-done.invariant))
 
 pub returns : goal.returns

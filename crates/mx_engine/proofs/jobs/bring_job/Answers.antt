@@ -6,7 +6,8 @@ use Rattle.mx_engine.proofs.jobs.bring_job.Goals as goal
 
 pub returns-clause-jobs : goal.returns-clause-jobs
 returns-clause-jobs g c = λ first is.
-    c.swap.ensures.items ∙ ap (λ xs. swap xs (length c.args.moves.now.items) c.args.number) is
+    c.swap.ensures.items ∙ ap (λ n. swap c.args.jobs.now.items n c.args.number) (c.len.ensures ∙ c.args.moves.now.ok.0)
+    ∙ ap (λ xs. swap xs (length c.args.moves.now.items) c.args.number) is
     ∙ sym (moved-last c.args.moves.now.items c.args.number first)
     ∙ sym (ap (λ ms. moved 0 ms first) c.push_reserved.ensures.items)
 

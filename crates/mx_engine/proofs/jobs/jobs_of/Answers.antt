@@ -21,6 +21,11 @@ new-requires-clause-within g c =
     let l = next-within c.args.berths.items (length c.loop-berth.jobs.items) c.in-Some.berth c.next.new.self.rest.items (sym c.in-Some.ensures.steps.0 ∙ c.loop-berth.invariant.left) in
     omega (arith, l, c.len-number.ensures, c.len-count.ensures, c.loop-berth.jobs.ok.0, c.args.berths.ok.0)
 
+pub is_busy_at-is_busy-requires : goal.is_busy_at-is_busy-requires
+is_busy_at-is_busy-requires g c =
+    let l = next-within c.args.berths.items (length c.loop-berth.jobs.items) c.in-Some.berth c.next.new.self.rest.items (sym c.in-Some.ensures.steps.0 ∙ c.loop-berth.invariant.left) in
+    omega (arith, l, c.requires.few, c.len-number.ensures, c.loop-berth.jobs.ok.0)
+
 pub new-requires-clause-few : goal.new-requires-clause-few
 new-requires-clause-few g c = omega (arith, c.requires.few, c.len-count.ensures, c.args.berths.ok.0)
 
@@ -41,8 +46,8 @@ loop-berth-preserved g c =
           (record {
             placed = λ j. record { number = (c.new.ensures.number ∙ c.len-number.ensures ∙ c.loop-berth.jobs.ok.0) j; count = (c.new.ensures.count ∙ c.len-count.ensures ∙ c.args.berths.ok.0) j };
             berth_is = sym (next-is c.args.berths.items at berth rest step b);
-            busy = c.index-busy-number.is;
-            untold = c.new-told.ensures.items;
+            busy = c.is_busy_at-is_busy.ensures ∙ ap (λ m. get_or c.args.busy.now m true) (c.len-number.ensures ∙ c.loop-berth.jobs.ok.0);
+            untold = c.new-in-loop-berth.ensures.items;
             faultless = refl;
           }) n d (subst (λ m. n < m) long l));
       room = c.push_reserved.ensures.capacity ∙ i.room;

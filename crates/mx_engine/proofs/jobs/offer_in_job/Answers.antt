@@ -13,8 +13,8 @@ returns-then-not-has-clause-ok g c =
     job_elsewhere c.args.docks.now c.args.sender.now.caller c.args.sender.now.origin.now c.args.job.now.place c.args.offered.now (own c.args.job.now.berth) c.args.job.now.told.items
     (sym (c.has.ensures ∙ ap (is_at c.args.job.now.place) (c.as_str.ensures.text ∙ c.room_id.ensures)) ∙ c.if-not-has.true)
 
-pub offer_there-one-requires-clause-here : goal.offer_there-one-requires-clause-here
-offer_there-one-requires-clause-here g c =
+pub offer_there-requires-clause-here : goal.offer_there-requires-clause-here
+offer_there-requires-clause-here g c =
     sym (c.has.ensures ∙ ap (is_at c.args.job.now.place) (c.as_str.ensures.text ∙ c.room_id.ensures)) ∙ c.if-not-has.false
 
 pub returns-in_err-one-clause-err : goal.returns-in_err-one-clause-err

@@ -1,4 +1,4 @@
-use Rattle.std.proofs.Common.{◌≡◌, ◌≤◌, ◌<◌, length, map, sym, ◌∙◌, ap, subst, arith}
+use Rattle.std.proofs.Common.{◌≡◌, ◌≤◌, ◌<◌, length, map, sym, ◌∙◌, ap, subst, arith, vec_capacity}
 use Rattle.std.proofs.lemmas.List.{length-map}
 use Rattle.mx_world.proofs.RefusalLemmas.{on_err}
 use Rattle.mx_engine.specs.Berths.{AreBerthsAt, views_of}
@@ -21,15 +21,40 @@ returns-in_err-moves-clause-err g c = on_err c.from_residual-in_err-moves.result
 pub returns-in_err-told-clause-err : goal.returns-in_err-told-clause-err
 returns-in_err-told-clause-err g c = on_err c.from_residual-in_err-told.result (none_offered c.args.sender.now.caller c.args.sender.now.origin.now c.args.events.now (views_of c.args.berths.now.items))
 
-pub run_all-requires-after_bounds-clause-ready : goal.run_all-requires-after_bounds-clause-ready
-run_all-requires-after_bounds-clause-ready g c κs within = (c.args.berths.now.items, c.take_out.ensures.ready)
+pub run_all-requires-clause-ready : goal.run_all-requires-clause-ready
+run_all-requires-clause-ready g c κs within = (c.args.berths.now.items, c.take_out.ensures.ready)
 
-pub run_all-requires-after_bounds-clause-room : goal.run_all-requires-after_bounds-clause-room
-run_all-requires-after_bounds-clause-room g c κs within =
+pub run_all-requires-clause-room : goal.run_all-requires-clause-room
+run_all-requires-clause-room g c κs within =
     let long = c.take_out.ensures.ready.long in
     let same = c.requires.seated.same in
     let room = c.in_ok-moves.ensures.capacity in
     omega (arith, long, same, room, c.len-count.ensures, c.args.berths.now.ok.0)
+
+pub put_back-requires-clause-room : goal.put_back-requires-clause-room
+put_back-requires-clause-room g c =
+    let over = c.run_all.ensures c.args.berths.now.items c.take_out.ensures.ready in
+    let same = c.requires.seated.same in
+    subst (λ berths. length c.run_all.new.jobs.items ≤ vec_capacity berths) (sym c.take_out.ensures.back)
+    (omega (arith, over.long, same, c.in_ok-back.ensures.capacity, c.len-count.ensures, c.args.berths.now.ok.0))
+
+pub put_back-requires-clause-told_room : goal.put_back-requires-clause-told_room
+put_back-requires-clause-told_room g c =
+    let over = c.run_all.ensures c.args.berths.now.items c.take_out.ensures.ready in
+    let same = c.requires.seated.same in
+    omega (arith, over.long, same, c.in_ok-told.ensures.capacity, c.len-count.ensures, c.args.berths.now.ok.0)
+
+pub told_in_order-requires-clause-some : goal.told_in_order-requires-clause-some
+told_in_order-requires-clause-some g c =
+    let over = c.run_all.ensures c.args.berths.now.items c.take_out.ensures.ready in
+    let some = c.requires.seated.some in
+    omega (arith, some, over.long, length-map c.put_back.new.told.items (λ q. q.items), ap length c.put_back.ensures.told, length-map c.run_all.new.jobs.items (λ job. job.told.items))
+
+pub told_in_order-requires-clause-few : goal.told_in_order-requires-clause-few
+told_in_order-requires-clause-few g c =
+    let over = c.run_all.ensures c.args.berths.now.items c.take_out.ensures.ready in
+    let few = c.requires.seated.few in
+    omega (arith, few, over.long, length-map c.put_back.new.told.items (λ q. q.items), ap length c.put_back.ensures.told, length-map c.run_all.new.jobs.items (λ job. job.told.items))
 
 pub returns-in-Some-clause-seated : goal.returns-in-Some-clause-seated
 returns-in-Some-clause-seated g c =
@@ -46,18 +71,18 @@ returns-in-Some-clause-err g c =
     subst (λ bs. SomeOffered c.args.sender.now.caller c.args.sender.now.origin.now c.args.events.now (views_of c.args.berths.now.items) (views_of bs)) (sym c.put_back.ensures.berths)
     (some_offered c.args.docks.now c.args.sender.now.caller c.args.sender.now.origin.now c.args.events.now c.args.berths.now.items c.run_all.new.jobs.items c.requires.seated (c.run_all.ensures c.args.berths.now.items c.take_out.ensures.ready))
 
-pub returns-in-None-clause-seated : goal.returns-in-None-clause-seated
-returns-in-None-clause-seated g c =
+pub returns-clause-seated : goal.returns-clause-seated
+returns-clause-seated g c =
     subst (AreBerthsAt c.args.docks.now c.args.sender.now.caller) (sym c.put_back.ensures.berths)
     (back_seated c.args.docks.now c.args.sender.now.caller c.args.sender.now.origin.now c.args.events.now c.args.berths.now.items c.run_all.new.jobs.items c.requires.seated (c.run_all.ensures c.args.berths.now.items c.take_out.ensures.ready))
 
-pub returns-in-None-clause-same : goal.returns-in-None-clause-same
-returns-in-None-clause-same g c =
+pub returns-clause-same : goal.returns-clause-same
+returns-clause-same g c =
     subst (λ bs. AreSameViews (views_of c.args.berths.now.items) (views_of bs)) (sym c.put_back.ensures.berths)
     (back_same c.args.docks.now c.args.sender.now.caller c.args.sender.now.origin.now c.args.events.now c.args.berths.now.items c.run_all.new.jobs.items c.requires.seated (c.run_all.ensures c.args.berths.now.items c.take_out.ensures.ready))
 
-pub returns-in-None-clause-ok : goal.returns-in-None-clause-ok
-returns-in-None-clause-ok g c =
+pub returns-clause-ok : goal.returns-clause-ok
+returns-clause-ok g c =
     let over = c.run_all.ensures c.args.berths.now.items c.take_out.ensures.ready in
     let jobs = c.run_all.new.jobs.items in
     let none = sym (c.lowest_fault-fault.ensures ∙ ap (λ ls. lowest_of (faults_of ls)) c.deref.ensures.value) ∙ c.in-None.is in
@@ -70,8 +95,8 @@ returns-in-None-clause-ok g c =
     (all_offered c.args.docks.now c.args.sender.now.caller c.args.sender.now.origin.now c.args.events.now c.args.berths.now.items jobs c.requires.seated over none))))
     c.told_in_order.ensures
 
-pub returns-in-None-clause-err : goal.returns-in-None-clause-err
-returns-in-None-clause-err g c =
+pub returns-clause-err : goal.returns-clause-err
+returns-clause-err g c =
     on_err c.told_in_order.result
     (subst (λ bs. SomeOffered c.args.sender.now.caller c.args.sender.now.origin.now c.args.events.now (views_of c.args.berths.now.items) (views_of bs)) (sym c.put_back.ensures.berths)
     (some_offered c.args.docks.now c.args.sender.now.caller c.args.sender.now.origin.now c.args.events.now c.args.berths.now.items c.run_all.new.jobs.items c.requires.seated (c.run_all.ensures c.args.berths.now.items c.take_out.ensures.ready)))

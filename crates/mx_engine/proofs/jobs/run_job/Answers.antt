@@ -5,8 +5,8 @@ use Rattle.mx_engine.proofs.jobs.run_job.Goals as goal
 pub loop-place-init : goal.loop-place-init
 loop-place-init g c = there_none c.args.docks.now c.args.sender.now.caller c.args.sender.now.origin.now c.args.events.now c.args.job.now c.requires
 
-pub returns-then-not-is_busy : goal.returns-then-not-is_busy
-returns-then-not-is_busy g c = run_idle c.args.docks.now c.args.sender.now.caller c.args.sender.now.origin.now c.args.events.now c.args.job.now c.requires c.if-not-is_busy.true
+pub returns-then-not-job : goal.returns-then-not-job
+returns-then-not-job g c = run_idle c.args.docks.now c.args.sender.now.caller c.args.sender.now.origin.now c.args.events.now c.args.job.now c.requires c.if-not-job.true
 
 pub loop-place-preserved : goal.loop-place-preserved
 loop-place-preserved g c =

@@ -14,4 +14,4 @@ pub returns-clause-ok : goal.returns-clause-ok
 returns-clause-ok g c =
     let all = c.in_ok-offer_each.ensures.ok in
     subst (λ ts. AreOffered c.args.sender.now.caller c.args.sender.now.origin.now c.args.events.now (views_of c.args.berths.now.items) (views_of c.offer_each.new.berths.items) ts)
-    (sym (all.2 ∙ ap (λ ts. ts ++ all.0) c.new.ensures.items)) all.1
+    (sym (all.2 ∙ ap (λ ts. ts ++ all.0) c.new-told.ensures.items)) all.1
