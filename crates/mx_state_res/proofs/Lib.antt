@@ -42,3 +42,4 @@ pub mod LaterStateLemmas
 pub mod LaterOrderLemmas
 pub mod LaterCheckLemmas
 pub mod LaterResolutionLemmas
+pub mod KeptResolutionLemmas

@@ -1,28 +1,24 @@
 // Events that were checked, and one more among them.
+ghost use Rattle.std.specs.Prelude.{◌≡◌, ◌<◌, ℕ, All, IfOk, IfSome, None, OnOk, Option, Some, if◌then◌else◌, length, map};
+ghost use Rattle.std.specs.FinMap.Entries.{put};
+ghost use Rattle.mx_auth.specs.Rules.{Key};
+ghost use Rattle.mx_orders.specs.StateMap.{State, key_cmp};
+ghost use Rattle.mx_state_res.specs.KeptResolutions as kept;
+ghost use Rattle.mx_state_res.specs.LaterResolution as later;
+ghost use Rattle.mx_state_res.specs.Numbered.{shown_by};
+ghost use Rattle.mx_state_res.specs.Resolution as definition;
+
 use crate::checks::judged_states::is_allowed;
 use crate::checks::working_states::WorkingState;
-use crate::entries::StateEntry;
-use crate::state_maps::StateMap;
-use mx_auth::{RoomVersion, is_at};
+use mx_auth::RoomVersion;
 use mx_graph::{EventNo, Graph};
 use std::alloc::{AllocError, Global};
 
 // An event that was checked, and whether it was put into the state.
-#[derive(Clone, Copy, Debug, Drop)]
+#[derive(Clone, Copy, Debug)]
 pub(crate) struct CheckedEvent {
     pub(crate) event: EventNo,
     pub(crate) is_put: bool,
-}
-
-// What becomes of an event among others that are checked.
-#[derive(Clone, Copy, Debug, Drop)]
-pub(crate) enum Outcome {
-    // It is not put.
-    Refused,
-    // It is put, and another event comes in its place.
-    Replaced,
-    // It is put, and stays.
-    Stays,
 }
 
 // Checks each of these events, in order, and puts it into the state that allows it.
@@ -32,89 +28,108 @@ pub(crate) fn checked_each(
     graph: &Graph,
     state: &mut WorkingState<'_>,
     events: &[EventNo],
-) -> Result<Vec<CheckedEvent>, AllocError> {
-    let mut found = Vec::with_capacity(alloc, events.len())?;
-    for &event in events {
-        let is_put = is_putting(version, graph, state, event);
-        if is_put {
-            put(graph, state, event)?;
-        }
-        found.push(CheckedEvent { event, is_put })?;
+) -> Result<Vec<CheckedEvent>, AllocError>
+    requires events { All (λ event. event < length graph.now) events.now }
+    requires known { All (λ e. e.1 < length graph.now) (shown_by state.old) }
+    ensures events { IfOk result (λ found. kept.events_checked found.items ≡ events.now) }
+    ensures checked { IfOk result (λ found. kept.AreChecked version graph.now (shown_by state.old) found.items) }
+{
+    let mut found = Vec::new(alloc);
+    for event in events {
+        let checked = check_event(version, graph, state, *event)?;
+        found.push(checked)?;
     }
     Ok(found)
 }
 
-// Whether a state event is allowed in a state.
-fn is_putting(
-    version: RoomVersion,
-    graph: &Graph,
-    state: &WorkingState<'_>,
-    event: EventNo,
-) -> bool {
-    graph.row(event).event.state_key().is_some() && is_allowed(version, graph, state, event)
-}
-
-fn put(graph: &Graph, state: &mut WorkingState<'_>, number: EventNo) -> Result<(), AllocError> {
-    let event = &graph.row(number).event;
-    if let Some(state_key) = event.state_key() {
-        state.insert(event.kind(), state_key, number)?;
-    }
-    Ok(())
-}
-
-// A state after events that were checked: at each key the last of them that was put. They stand at the keys of `differing`
-// alone, so none is looked at before those that stand at each of these.
-pub(crate) fn state_before<'s>(
-    alloc: Global,
-    graph: &Graph,
-    agreed: WorkingState<'s>,
-    differing: &StateMap,
-    order: &[CheckedEvent],
-) -> Result<WorkingState<'s>, AllocError> {
-    let mut state = agreed;
-    let mut left = differing.entries().len();
-    let mut place = order.len();
-    while place > 0 && left > 0 {
-        place -= 1;
-        let checked = order[place];
-        if checked.is_put {
-            let event = &graph.row(checked.event).event;
-            if let Some(state_key) = event.state_key() {
-                if state.get(event.kind(), state_key).is_none() {
-                    state.insert(event.kind(), state_key, checked.event)?;
-                    left -= 1;
-                }
-            }
-        }
-    }
-    Ok(state)
-}
-
-// What becomes of an event that stands at a key, in a state that is before the others that were checked; `None` where one of
-// them would be judged otherwise.
-pub(crate) fn outcome_among(
+// At an error the state stays.
+#[tactic(auto, unfolding(crate::specs::Resolution::after_check))]
+fn check_event(
     version: RoomVersion,
     graph: &Graph,
     state: &mut WorkingState<'_>,
-    entry: &StateEntry,
-    event: EventNo,
+    number: EventNo,
+) -> Result<CheckedEvent, AllocError>
+    requires number { number < length graph.now }
+    requires known { All (λ e. e.1 < length graph.now) (shown_by state.old) }
+    ensures event { IfOk result (λ checked. checked.event ≡ number) }
+    ensures is_put { IfOk result (λ checked. checked.is_put ≡ later.is_put version graph.now (shown_by state.old) number) }
+    ensures ok { OnOk result (shown_by state.new ≡ definition.after_check version graph.now (shown_by state.old) number) }
+    ensures known { OnOk result (All (λ e. e.1 < length graph.now) (shown_by state.new)) }
+{
+    let event = &graph.row(number).event;
+    if let Some(state_key) = event.state_key() {
+        if is_allowed(version, graph, state, number) {
+            state.insert(event.kind(), state_key, number)?;
+            return Ok(CheckedEvent {
+                event: number,
+                is_put: true,
+            });
+        }
+    }
+    Ok(CheckedEvent {
+        event: number,
+        is_put: false,
+    })
+}
+
+/// Whether an event is a state event that is allowed in a state. It takes no memory.
+pub(crate) fn is_put(
+    version: RoomVersion,
+    graph: &Graph,
+    state: &WorkingState<'_>,
+    number: EventNo,
+) -> bool
+    requires number { number < length graph.now }
+    requires known { All (λ e. e.1 < length graph.now) (shown_by state.now) }
+    ensures { result ≡ later.is_put version graph.now (shown_by state.now) number }
+{
+    graph.row(number).event.state_key().is_some() && is_allowed(version, graph, state, number)
+}
+
+/// The last of these events that was put.
+pub(crate) fn last_put(order: &[CheckedEvent]) -> Option<EventNo>
+    ensures { result ≡ kept.last_put None order.now }
+{
+    let mut last = None;
+    for checked in order {
+        last = later_put(last, *checked);
+    }
+    last
+}
+
+fn later_put(last: Option<EventNo>, checked: CheckedEvent) -> Option<EventNo>
+    ensures { result ≡ (if checked.is_put then Some checked.event else last) }
+{
+    if checked.is_put {
+        Some(checked.event)
+    } else {
+        last
+    }
+}
+
+/// Whether an event that was put at a key stays while these are checked, all of which stand at that key and were checked
+/// without it; `None` where one of them would be judged otherwise. It takes no memory.
+pub(crate) fn stays(
+    version: RoomVersion,
+    graph: &Graph,
+    state: &WorkingState<'_>,
     after: &[CheckedEvent],
-) -> Result<Option<Outcome>, AllocError> {
-    if !is_putting(version, graph, state, event) {
-        return Ok(Some(Outcome::Refused));
-    }
-    put(graph, state, event)?;
+) -> Option<bool>
+    requires after { All (λ checked. checked.event < length graph.now) after.now }
+    requires known { All (λ e. e.1 < length graph.now) (shown_by state.now) }
+    ensures { (key : Key) (x : ℕ) (s : State) → shown_by state.now ≡ put key_cmp key x s
+        → kept.AreChecked version graph.now s after.now → kept.AreAt graph.now key after.now
+        → IfSome result (λ here. later.stays version graph.now key x s (kept.events_checked after.now) ≡ Some here) }
+{
     for checked in after {
-        if is_putting(version, graph, state, checked.event) != checked.is_put {
-            return Ok(None);
+        let is_put = is_put(version, graph, state, checked.event);
+        if is_put != checked.is_put {
+            return None;
         }
-        if checked.is_put {
-            let row = &graph.row(checked.event).event;
-            if is_at(row, entry.kind(), entry.state_key()) {
-                return Ok(Some(Outcome::Replaced));
-            }
-            put(graph, state, checked.event)?;
+        if is_put {
+            return Some(false);
         }
     }
-    Ok(Some(Outcome::Stays))
+    Some(true)
 }
