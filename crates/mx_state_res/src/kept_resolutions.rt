@@ -5,14 +5,12 @@ use crate::conflicts::numbered_conflicts::full_conflicted_at;
 use crate::entries::StateEntry;
 use crate::kept_resolutions::added_events::{AddedEvent, added_event};
 use crate::kept_resolutions::added_places::place_of;
-use crate::kept_resolutions::checked_events::{
-    CheckedEvent, Outcome, checked_each, outcome_among, state_before,
-};
+use crate::kept_resolutions::checked_events::{CheckedEvent, checked_each, is_put, last_put, stays};
 use crate::numbered_resolution::resolve_numbered;
 use crate::state_maps::StateMap;
 use crate::states::States;
 use crate::states::state_numbers::StateNo;
-use mx_auth::{RoomVersion, is_at};
+use mx_auth::RoomVersion;
 use mx_graph::{EventNo, Graph};
 use mx_orders::mainline_order;
 use std::alloc::{AllocError, Global};
@@ -24,17 +22,25 @@ pub(crate) mod checked_events;
 // Fewer states than these are resolved from nothing.
 const FEWEST_STATES: usize = 8;
 
-// Where states differ at more keys than these, nothing is kept of their resolution.
-const MOST_KEYS: usize = 16;
+// What becomes of an event among others that are checked.
+#[derive(Clone, Copy, Debug)]
+enum Outcome {
+    // It is not put.
+    Refused,
+    // It is put, and another event comes in its place.
+    Replaced,
+    // It is put, and stays.
+    Stays,
+}
 
 /// What is kept of the resolution of some of a room's states, so that with one state more it is worked out from there.
 #[derive(Debug, Drop)]
 pub struct KeptResolution {
     // The states.
     pub(crate) numbers: Vec<StateNo>,
-    // The keys at which they differ, with an event at each.
+    // The one key at which they differ, with an event there.
     pub(crate) differing: StateMap,
-    // The events in conflict, none of them a power event, in the order in which they were checked.
+    // The events in conflict, in the order in which they were checked. None is a power event, and all stand at that key.
     pub(crate) order: Vec<CheckedEvent>,
     // What they resolve to.
     pub(crate) resolved: StateNo,
@@ -63,7 +69,8 @@ pub fn resolve_keeping(
     Ok(state)
 }
 
-// What is kept of a resolution, where no power event is in conflict.
+// What is kept of a resolution, where states differ at one key, and the events in conflict stand there and are no power
+// events.
 fn kept_resolution(
     version: RoomVersion,
     alloc: Global,
@@ -76,7 +83,7 @@ fn kept_resolution(
         return Ok(None);
     };
     let differing = states.differing(alloc, numbers)?;
-    if differing.entries().is_empty() || differing.entries().len() > MOST_KEYS {
+    if differing.entries().len() != 1 {
         return Ok(None);
     }
     let full = full_conflicted_at(alloc, graph, states, numbers, *base, &differing)?;
@@ -166,14 +173,21 @@ fn outcome_of(
     let Some((base, _)) = kept.numbers.split_first() else {
         return Ok(None);
     };
-    let agreed = WorkingState::without(alloc, states.state(*base), &kept.differing);
-    let power_levels = agreed.get("m.room.power_levels", "");
+    let mut state = WorkingState::without(alloc, states.state(*base), &kept.differing);
+    let power_levels = state.get("m.room.power_levels", "");
     let place = place_of(alloc, graph, power_levels, &kept.order, added.event)?;
     let (before, after) = kept.order.split_at(place);
-    let mut state = state_before(alloc, graph, agreed, &kept.differing, before)?;
     let entry = &added.change.entries()[0];
-    match outcome_among(version, graph, &mut state, entry, added.event, after)? {
-        Some(outcome) => Ok(Some((place, outcome))),
+    if let Some(last) = last_put(before) {
+        state.insert(entry.kind(), entry.state_key(), last)?;
+    }
+    if !is_put(version, graph, &state, added.event) {
+        return Ok(Some((place, Outcome::Refused)));
+    }
+    state.insert(entry.kind(), entry.state_key(), added.event)?;
+    match stays(version, graph, &state, after) {
+        Some(true) => Ok(Some((place, Outcome::Stays))),
+        Some(false) => Ok(Some((place, Outcome::Replaced))),
         None => Ok(None),
     }
 }
