@@ -8,6 +8,7 @@ mod options;
 mod serving;
 mod workers;
 
+pub use directories::migrate;
 pub use errors::{ServerError, StartError};
 pub use options::{SeatCount, ServeOptions};
 pub use serving::serve;

@@ -39,7 +39,14 @@ pub fn serve<R: ServerRuntime, W: Write, E: Write>(
     err: &mut E,
 ) -> Result<(), StartError> {
     let (files, rooms) = rows_and_rooms(host, &options)?;
-    let ServerFiles { shards, books } = files;
+    let ServerFiles {
+        shards,
+        books,
+        is_moved,
+    } = files;
+    if is_moved {
+        let _ = writeln!(err, "{}: brought to the second layout", options.data);
+    }
     serve_rows(rt, shards, books, &rooms, options, out, err)
 }
 
