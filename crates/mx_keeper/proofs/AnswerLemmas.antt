@@ -21,11 +21,11 @@ use Rattle.mx_keeper.proofs.ReadLemmas.{place_total, rises}
 
 -- trees over which no table is laid
 no_overlay : (db : Trees) (tree : ℕ) → overlay db [] tree ≡ db tree
-no_overlay db tree = go (nat_le (2 ^ 31) tree)
+no_overlay db tree = go (nat_le (2 ^ 31) tree) (slice_get [] (tree - 2 ^ 31)) refl
   where
-    go : (b : Bool) → unwrap_or (cond b (slice_get {A = List Row} [] (tree - 2 ^ 31)) None) (db tree) ≡ db tree
-    go true = refl
-    go false = refl
+    go : (b : Bool) (o : Option (List Row)) → o ≡ None → unwrap_or (cond b o None) (db tree) ≡ db tree
+    go true o none = ap (λ p. unwrap_or p (db tree)) none
+    go false o none = refl
 
 -- a shown row beside what it is sorted by
 abbrev keyed : Row → Output

@@ -12,6 +12,7 @@ pub mod KeeperLemmas
 pub mod TableLemmas
 pub mod ShardTableLemmas
 pub mod ShardRowLemmas
+pub mod FirstRowLemmas
 pub mod MoveLemmas
 pub mod BookTableLemmas
 pub mod BookRowLemmas

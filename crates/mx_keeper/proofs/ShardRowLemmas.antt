@@ -26,7 +26,7 @@ unfolding event_of_text
 valid_event t e is = elim (cases_Bool (is_utf8 t)) [ inl valid ↦ valid | inr other ↦ absurd (let none = rw other at is in cc) ]
 
 valid_version : (v : RoomVersion) → is_utf8 (version_text v) ≡ true
-unfolding is_utf8 chars
+unfolding is_utf8 chars lib.Utf8.encode
 valid_version V6 = refl
 valid_version V7 = refl
 

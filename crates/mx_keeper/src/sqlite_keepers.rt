@@ -82,10 +82,10 @@ impl<S: Alter + Drop, R: TableRow> SqliteKeeper<S, R> {
 
         // A crash leaves what it might have left before, or the tables with the rows that are found now.
         ensures crash { IfOk result (λ keeper. HasCleanDisk (state S.Store keeper.connection) → (db : Trees)
-            → (state S.Store keeper.connection).may_leave db → (state S.Store connection).may_leave db ⊎ (HasSchema R.schema db × (db 0 ≡ []))) }
+            → (state S.Store keeper.connection).may_leave db → (state S.Store connection).may_leave db ⊎ IsMoved R.schema R.read R.before (state S.Store connection) db) }
         ensures refused_honest { IfErr result (λ refused. HasCleanDisk (state S.Store refused.connection) → HasCleanDisk (state S.Store connection)) }
         ensures refused_crash { IfErr result (λ refused. HasCleanDisk (state S.Store refused.connection) → (db : Trees)
-            → (state S.Store refused.connection).may_leave db → (state S.Store connection).may_leave db ⊎ (HasSchema R.schema db × (db 0 ≡ []))) }
+            → (state S.Store refused.connection).may_leave db → (state S.Store connection).may_leave db ⊎ IsMoved R.schema R.read R.before (state S.Store connection) db) }
 
         // The tables are refused only where no rows are to be found.
         ensures table { IfErr result (λ refused. HasCleanDisk (state S.Store refused.connection) → refused.fault ≡ KeeperFault.Table

@@ -17,7 +17,7 @@ returns-clause-ok g c clean =
     let first : HasCleanDisk (state g.S.Store c.prepare.new.self) = omega arith in
     let made = c.in_ok-insert.ensures.ok first in
     inserts_then (inserted_kept _ _ _ _ _) _ _ c.requires.idle c.requires.schema made.1 _ c.execute.result _ made.0
-    (rw (c.params-to_sql.ensures, c.params-to_sql-2.ensures, c.params-to_sql-3.ensures, c.params-to_sql-4.ensures, c.params-to_sql-5.ensures, c.text.ensures, to_z-of_z {w = w64} {z = c.args.place} c.ranges.place) at c.execute.ensures.runs clean)
+    (rw (c.params-to_sql.ensures, c.params-to_sql-2.ensures, c.params-to_sql-3.ensures, c.params-to_sql-4.ensures, c.params-to_sql-5.ensures, c.text-named.ensures, to_z-of_z {w = w64} {z = c.args.place} c.ranges.place) at c.execute.ensures.runs clean)
 
 pub returns-clause-err : goal.returns-clause-err
 returns-clause-err g c clean =
@@ -33,7 +33,7 @@ returns-clause-survives g c =
     let first : HasCleanDisk (state g.S.Store c.prepare.new.self) = omega arith in
     let made = c.in_ok-insert.ensures.ok first in
     commits_then (inserted_kept _ _ _ _ _) _ _ c.requires.idle c.requires.schema made.1 db _ made.0
-    (rw (c.params-to_sql.ensures, c.params-to_sql-2.ensures, c.params-to_sql-3.ensures, c.params-to_sql-4.ensures, c.params-to_sql-5.ensures, c.text.ensures, to_z-of_z {w = w64} {z = c.args.place} c.ranges.place) at put)
+    (rw (c.params-to_sql.ensures, c.params-to_sql-2.ensures, c.params-to_sql-3.ensures, c.params-to_sql-4.ensures, c.params-to_sql-5.ensures, c.text-named.ensures, to_z-of_z {w = w64} {z = c.args.place} c.ranges.place) at put)
     ) c.prepare.ensures.survives c.execute.ensures.survives
 
 pub returns-in_err-insert-clause-refused : goal.returns-in_err-insert-clause-refused
@@ -47,4 +47,4 @@ returns-clause-refused g c clean =
     let first : HasCleanDisk (state g.S.Store c.prepare.new.self) = omega arith in
     let made = c.in_ok-insert.ensures.ok first in
     refuses_then (inserted_kept _ _ _ _ _) _ _ c.requires.idle c.requires.schema made.1 _ c.execute.result _ made.0 c.prepare.ensures.survives.counts c.prepare.ensures.survives.limit
-    (rw (c.params-to_sql.ensures, c.params-to_sql-2.ensures, c.params-to_sql-3.ensures, c.params-to_sql-4.ensures, c.params-to_sql-5.ensures, c.text.ensures, to_z-of_z {w = w64} {z = c.args.place} c.ranges.place) at c.execute.ensures.runs clean)
+    (rw (c.params-to_sql.ensures, c.params-to_sql-2.ensures, c.params-to_sql-3.ensures, c.params-to_sql-4.ensures, c.params-to_sql-5.ensures, c.text-named.ensures, to_z-of_z {w = w64} {z = c.args.place} c.ranges.place) at c.execute.ensures.runs clean)

@@ -1,5 +1,5 @@
 use Rattle.std.proofs.Common.{arith, ap, refl, subst, sym, ◌∙◌}
-use Rattle.std.proofs.lemmas.Result.{on_ok_weaker}
+use Rattle.std.proofs.lemmas.Result.{err_from_is_err_and, on_ok_weaker}
 use Rattle.sqlite.specs.Effect.{Database}
 use Rattle.mx_keeper.specs.Connections.{HasSchema}
 use Rattle.sqlite.specs.Held.{state}
@@ -27,3 +27,8 @@ returns-clause-left g c clean =
     let table = c.in_ok-ensure_tables.ensures.ok before later.was_open in
     let same = g.met.S.Store.settled c.all.new.connection.store db live may ∙ ap (λ (d : Database). d.trees) later.committed in
     subst (HasSchema g.R.TableRow.schema) (sym same) table.sound) (c.all.ensures.open clean)
+
+pub returns-in_err-ensure_tables-clause-table : goal.returns-in_err-ensure_tables-clause-table
+returns-in_err-ensure_tables-clause-table g c clean is =
+    let p = err_from_is_err_and c.from_residual.result c.from_residual.ensures.1 in
+    c.in_err-ensure_tables.ensures.table clean (let told = rw (p.1, p.2) at is in cc)
