@@ -181,7 +181,9 @@ fn migrate_words<'a>(alloc: Global) -> Result<clap::Command<'a>, AllocError> {
         .required(true)
         .help("The directory of the files of a server that is stopped");
     clap::Command::new(alloc, "migrate")
-        .about("Brings the file of each shard to the current layout, and prints how many rows it has")
+        .about(
+            "Brings the file of each shard to the current layout, and prints how many rows it has",
+        )
         .arg(data)?
         .arg(shards_word(alloc))
 }

@@ -82,7 +82,7 @@ abbrev pub read_shown : ℕ → Row → Option ShardRow
 read_shown place v =
     option_and_then
     (λ n. if n == place then row_of_cells (option_and_then room_of_text (text_in (column v 1))) (option_and_then version_of_text (text_in (column v 2))) (option_and_then event_of_text (text_in (column v 3))) (caller_in (column v 4))
-        else None)
+    else None)
     (number_in (column v 0))
 
 -- the columns that a row is read from, beside its place

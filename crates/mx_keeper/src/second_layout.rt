@@ -156,7 +156,13 @@ fn add_row<S: Alter>(
     run(
         transaction,
         "INSERT INTO kept2 (place, room, version, event, caller) VALUES (?1, ?2, ?3, ?4, ?5)",
-        params![cells.place, row.room.as_str(), named, cells.event, cells.caller],
+        params![
+            cells.place,
+            row.room.as_str(),
+            named,
+            cells.event,
+            cells.caller
+        ],
     )
 }
 

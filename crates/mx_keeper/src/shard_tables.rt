@@ -139,10 +139,7 @@ impl SelectedRow for ShardRow {
 }
 
 // Finds that the file states the second layout, and that its first table has no row. `Table` where it is not so.
-fn check_layout<S: Alter>(
-    alloc: Global,
-    connection: &mut Connection<S>,
-) -> Result<(), KeeperFault>
+fn check_layout<S: Alter>(alloc: Global, connection: &mut Connection<S>) -> Result<(), KeeperFault>
     requires idle { IsTrue (state S.Store connection.old).is_open → IsIdle (state S.Store connection.old) }
     requires known { IsTrue (state S.Store connection.old).is_open → (state S.Store connection.old).now.schema ≡ shard_schema }
     ensures ok { HasCleanDisk (state S.Store connection.new) → OnOk result (IsTrue (laid (state S.Store connection.old).committed.trees)) }

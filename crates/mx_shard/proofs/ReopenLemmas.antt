@@ -411,7 +411,7 @@ module _ (place : PlaceView) (rows later : List ShardRow) (row : ShardRow) where
   not-legal refused can =
       refused (
         front-of-legal (reopened rows ++ entry_of_row row ∷ []) (reopened later)
-        (subst IsLegal (map-append entry_of_row rows (row ∷ later) ∙ sym (append_assoc (reopened rows) (entry_of_row row ∷ []) (reopened later))) can.legal),
+            (subst IsLegal (map-append entry_of_row rows (row ∷ later) ∙ sym (append_assoc (reopened rows) (entry_of_row row ∷ []) (reopened later))) can.legal),
         version-before rows later row can.versions,
       )
 

@@ -61,4 +61,3 @@ returns-in_err-rows-clause-refused g c clean =
     let made = c.in_ok-select.ensures.ok first in
     let p = err_from_is_err_and c.from_residual-in_err-rows.result c.from_residual-in_err-rows.ensures.1 in
     rw (p.1, p.2) (λ other. refuses_then (g.met.R.SelectedRow.selects _ (c.requires.known made.1.0.was_open)) _ _ c.requires.idle (λ _. refl) made.1 _ _ (made.0 ∙ c.select.ensures) _ c.prepare.ensures.survives.counts c.prepare.ensures.survives.limit other (c.in_err-rows.ensures.err clean))
-
