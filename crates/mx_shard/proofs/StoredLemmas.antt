@@ -22,11 +22,11 @@ pub version-stays : (kept more : List Kept) → IsHosted kept → room_version (
 version-stays [] more h = absurd (omega arith)
 version-stays (k ∷ kept) more h = refl
 
-head-is : (a b : ShardRow) (as bs : List ShardRow) → a ∷ as ≡ b ∷ bs → a ≡ b
-head-is a b as bs h = cc
+head-is : (a b : ShardRow) (more others : List ShardRow) → a ∷ more ≡ b ∷ others → a ≡ b
+head-is a b more others h = cc
 
-tail-is : (a b : ShardRow) (as bs : List ShardRow) → a ∷ as ≡ b ∷ bs → as ≡ bs
-tail-is a b as bs h = cc
+tail-is : (a b : ShardRow) (more others : List ShardRow) → a ∷ more ≡ b ∷ others → more ≡ others
+tail-is a b more others h = cc
 
 version-at : (earlier : List Entry) (rows later : List ShardRow) (row : ShardRow) → stored_behind earlier (reopened (rows ++ row ∷ later)) ≡ rows ++ row ∷ later → HasVersion (earlier ++ reopened rows) row
 version-at earlier [] later row h =
