@@ -45,8 +45,11 @@ use Rattle.mx_shard.specs.contracts.shards.Shard.TheInside as shard_inside
 use Rattle.mx_shard.specs.contracts.shards.Shard as shard
 use Rattle.mx_shard.specs.contracts.answers.Answer as answer
 use Rattle.mx_keeper.specs.declared.rows.BookRow.{BookRow}
-use Rattle.mx_book.proofs.entries.BookEntry.TheSendSync as entry
+use Rattle.mx_keeper.proofs.caller.Caller.TheSendSync as caller
+use Rattle.mx_keeper.proofs.replies.Reply.TheSendSync as reply
 use Rattle.mx_book.proofs.transaction_keys.TransactionKey.TheSendSync as key
+use Rattle.mx_book.proofs.journals.Journal.TheLaws.TheKnot.{send-Journal}
+use Rattle.mx_book.specs.contracts.journals.Journal as journal
 use Rattle.mx_book.specs.contracts.books.Book.TheInside as book_inside
 use Rattle.mx_book.specs.contracts.books.Book as book
 
@@ -112,5 +115,8 @@ pub shard_send : (K : RattleType) (g : Ghosts K.Denot ShardRow) → IsSend K →
 shard_send K g k = view_send _ _ _ _ _ (declared_send (shard_inside.the_type K g) (search (crosses, sendable) depth 20, (search (k, sendable) depth 20, search (room_send, place.the_send, room_id.the_send, event_id.the_send, holder.the_send, journal_place.the_send, crosses, maps.crosses, sendable) depth 20)))
 
 -- ---- books
+journal_send : IsSend journal.the_row
+journal_send = search (send-Journal, caller.the_send, crosses, sendable) depth 20 fits 20000
+
 pub book_send : (K : RattleType) (g : Ghosts K.Denot BookRow) → IsSend K → IsSend (book.the_row K g)
-book_send K g k = view_send _ _ _ _ _ (declared_send (book_inside.the_type K g) (search (k, sendable) depth 20, search (place.the_send, entry.the_send, key.the_send, crosses, maps.crosses, sendable) depth 20))
+book_send K g k = view_send _ _ _ _ _ (declared_send (book_inside.the_type K g) (search (k, sendable) depth 20, search (place.the_send, journal_send, caller.the_send, key.the_send, reply.the_send, crosses, maps.crosses, sendable) depth 20))
