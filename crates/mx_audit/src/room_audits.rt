@@ -1,11 +1,12 @@
 // A room's events, each with why it was received as it was.
-ghost use Rattle.std.specs.Prelude.{◌≡◌, ◌↔◌, ◌&&◌, [], codes, is_none, true, false, IfOk, IsErrOf, None, OnErr, OnOk, Some, option_map};
+ghost use Rattle.std.specs.Prelude.{◌≡◌, ◌↔◌, ◌&&◌, [], codes, is_none, true, false, IfOk, IfSome, IsErrOf, None, OnErr, OnOk, Some, option_map};
 ghost use Rattle.mx_redact.specs.Fields.{is_text};
 ghost use Rattle.mx_pdu.specs.Event.{auth_ids, has_kind, state_key_of};
 ghost use Rattle.mx_auth.specs.Rules.{rules};
 ghost use Rattle.mx_orders.specs.StateMap.{view};
-ghost use Rattle.mx_receipt.specs.Receipt.{begun, created_version as created_version_of, offer_error, received, rows_of};
+ghost use Rattle.mx_receipt.specs.Receipt.{begun, created_version as created_version_of, kept_at, offer_error, received, rows_of};
 ghost use Rattle.mx_receipt.specs.declared.refusals.NotReceived.{NotReceived as Cause};
+ghost use Rattle.mx_audit.specs.Explaining.{verdict_by};
 ghost use Rattle.mx_audit.specs.Told.{AreTold, told, told_shown};
 ghost use Rattle.mx_audit.specs.SoundTest.{has_none, sound_test};
 ghost use Rattle.mx_receipt.specs.TimelineView.{IsSoundCreate};
@@ -108,9 +109,10 @@ impl RoomAudit {
 
     /// Why the event with this number was received as it was: by the check that decides on it after the events that came
     /// before it, and what stood in that check's state. None for the create event, which begins the room, and where there
-    /// is no such event.
+    /// is no such event. The verdict that the record has is that of the check.
     pub fn explanation(&self, number: EventNo) -> Option<&Explanation>
-        ensures { option_map (λ e. told_shown e.now) result ≡ told self.now number }
+        ensures told { option_map (λ e. told_shown e.now) result ≡ told self.now number }
+        ensures verdict { IfSome result (λ e. (kept_at self.now number).verdict ≡ verdict_by e.now.failed) }
     {
         let place = number.index().checked_sub(1)?;
         self.explanations.get(place)

@@ -15,5 +15,5 @@ returns c =
     let low : p < length c.timeline-timeline.result.now.kept = omega arith in
     let below : nat_lt p (length c.args.audit.now) ≡ true = lt-ltb p (length c.args.audit.now) (subst (λ ks. p < length ks) c.timeline-timeline.ensures low) in
     let is = c.in_ok-line.ensures
-    ∙ ap₂ (λ (ks : List Kept) (t : Option Told). line_of (event_members ks p t (redacted_by ks (row (rows_of ks) p).id))) c.timeline-timeline.ensures c.explanation.ensures in
+    ∙ ap₂ (λ (ks : List Kept) (t : Option Told). line_of (event_members ks p t (redacted_by ks (row (rows_of ks) p).id))) c.timeline-timeline.ensures c.explanation.ensures.told in
     ap Some is ∙ sym (ap (λ b. if b then Some (event_text c.args.audit.now p) else None) below)

@@ -2,6 +2,7 @@ use Rattle.std.proofs.Common.{◌≡◌, ◌++◌, ◌∷◌, [], sym, subst, ap
 use Rattle.mx_receipt.specs.Receipt.{installed, judged}
 use Rattle.mx_receipt.specs.TimelineView.{TimelineView}
 use Rattle.mx_audit.specs.Told.{AreTold}
+use Rattle.mx_audit.proofs.ExplainingLemmas.{verdict-by}
 use Rattle.mx_audit.proofs.ToldLemmas.{offer-shown, told-more}
 use Rattle.mx_audit.proofs.room_audits.receive_in.Goals as goal
 
@@ -19,4 +20,4 @@ returns-in-Ok-clause-told c =
     ap (λ (t : TimelineView). t.kept) c.install.ensures ∙ ap (λ (t : TimelineView). installed t.kept t.prepared) c.in_ok-explanation.ensures.prepared in
     subst (λ ks. AreTold ks c.push.new.self.items) (sym whole)
     (told-more kept k c.args.explanations.now.items c.push.new.self.items c.in_ok-explanation.explanation c.requires c.in-Ok.ensures.items
-    c.in_ok-explanation.ensures.number c.in_ok-explanation.ensures.failed c.in_ok-explanation.ensures.asked)
+    c.in_ok-explanation.ensures.number c.in_ok-explanation.ensures.failed c.in_ok-explanation.ensures.asked (verdict-by kept c.args.event))
