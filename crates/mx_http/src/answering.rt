@@ -75,21 +75,14 @@ impl<A: Drop> SharedResponder<A> {
 }
 
 impl<A: Responder> SharedResponder<A> {
-    fn want_ending(&self) {
+    fn end<N: Net>(&self, net: &N) {
         if let Some(ending) = &self.ending {
-            ending.want();
-        }
-    }
-
-    // Tells the listener where it is to end.
-    fn tell_ending<N: Net>(&self, net: &N) {
-        if let Some(ending) = &self.ending {
-            ending.tell(net);
+            ending.want(net);
         }
     }
 
     // The reply to a request. Where the responder wants no more of them, its listener is to end.
-    fn respond<R: Threads + Wait + Sync + Clock + Eprint>(
+    fn respond<R: ServerRuntime>(
         &self,
         rt: &R,
         alloc: Global,
@@ -99,7 +92,7 @@ impl<A: Responder> SharedResponder<A> {
         let (reply, is_done) = respond_by(rt, alloc, &self.responder, request);
         self.is_busy.store(false, Ordering::SeqCst);
         if is_done {
-            self.want_ending();
+            self.end(rt);
         }
         reply
     }
@@ -225,10 +218,7 @@ fn answered<R: Threads + Wait + Sync + Clock + Eprint, A: Responder>(
     alloc: Global,
     call: Call<A>,
     body: Result<Vec<u8>, BodyError>,
-) -> (
-    Result<Response<Full<Bytes>>, Unanswered>,
-    SharedResponder<A>,
-) {
+) -> (Result<Response<Full<Bytes>>, Unanswered>, SharedResponder<A>) {
     let Call {
         shared,
         stage,
