@@ -8,7 +8,6 @@ mod closing;
 mod docked;
 mod engines;
 mod gates;
-mod jobs;
 mod meeting;
 mod offers;
 mod opening;
