@@ -75,14 +75,21 @@ impl<A: Drop> SharedResponder<A> {
 }
 
 impl<A: Responder> SharedResponder<A> {
-    fn end<N: Net>(&self, net: &N) {
+    fn want_ending(&self) {
         if let Some(ending) = &self.ending {
-            ending.want(net);
+            ending.want();
+        }
+    }
+
+    // Tells the listener where it is to end.
+    fn tell_ending<N: Net>(&self, net: &N) {
+        if let Some(ending) = &self.ending {
+            ending.tell(net);
         }
     }
 
     // The reply to a request. Where the responder wants no more of them, its listener is to end.
-    fn respond<R: ServerRuntime>(
+    fn respond<R: Threads + Wait + Sync + Clock + Eprint>(
         &self,
         rt: &R,
         alloc: Global,
@@ -92,7 +99,7 @@ impl<A: Responder> SharedResponder<A> {
         let (reply, is_done) = respond_by(rt, alloc, &self.responder, request);
         self.is_busy.store(false, Ordering::SeqCst);
         if is_done {
-            self.end(rt);
+            self.want_ending();
         }
         reply
     }
@@ -218,7 +225,10 @@ fn answered<R: Threads + Wait + Sync + Clock + Eprint, A: Responder>(
     alloc: Global,
     call: Call<A>,
     body: Result<Vec<u8>, BodyError>,
-) -> (Result<Response<Full<Bytes>>, Unanswered>, SharedResponder<A>) {
+) -> (
+    Result<Response<Full<Bytes>>, Unanswered>,
+    SharedResponder<A>,
+) {
     let Call {
         shared,
         stage,
