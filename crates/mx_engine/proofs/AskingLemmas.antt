@@ -1,6 +1,6 @@
 -- Queries that are put to each shard.
 use Rattle.std.proofs.Common.{◌≡◌, ◌≢◌, ℕ, ◌<◌, ◌+◌, true, false, true≢false, List, ◌++◌, length, set, append-nil, refl, sym, ◌∙◌, ap, subst, arith}
-use Rattle.std.specs.Prelude.{Option, None, Some, Result, Ok, Err}
+use Rattle.std.specs.Prelude.{Option, None, Some, Result, Ok, Err, IsOk}
 use Rattle.std.specs.Result.{IsErrAnd}
 use native.Mathlib.Decide.{ℕ_discrete}
 use mathlib.Core.Logic.{dite}
@@ -22,7 +22,7 @@ use Rattle.mx_keeper.specs.declared.refusals.CallError.{CallError}
 use Rattle.mx_engine.specs.Views.{BerthView, view_at, AddsNothing, AreSameViews}
 use Rattle.mx_engine.specs.Berths.{views_of}
 use Rattle.mx_engine.specs.Calls.{Shows, IsShownBy}
-use Rattle.mx_engine.specs.Calling.{IsTurn, IsAskTurn, told_by}
+use Rattle.mx_engine.specs.Calling.{IsTurn, IsAskTurn, told_by, found_in}
 use Rattle.mx_engine.proofs.TurnLemmas.{view-eq, view_at-here, views-set, view-set_other, ask_view}
 
 -- ---- one change after another
@@ -104,6 +104,14 @@ module _ (caller : ℕ) (origin : List ℕ) (now : ℕ) (q : Query) (alone : roo
   pub refused_turn : (old new : BerthView Entry) (result : Result (Option Answer) CallError) (cause : CallError) → IsErrAnd result (λ e. e ≡ cause) → IsTurn caller (to_ask origin now q) (room_named q) old new (Err cause) → IsAskTurn (to_ask origin now q) old new result
   refused_turn old new (Ok found) cause is t = absurd is
   refused_turn old new (Err e) cause is t = record { journal = t.journal; legal = t.legal; later = t.later; seen = t.err; shown = tt; told = tt }
+
+pub found_some : (asked : Result (Option Answer) CallError) (told : Answer) → found_in asked ≡ Some told → asked ≡ Ok (Some told)
+found_some (Ok found) told is = ap Ok is
+found_some (Err error) told is = absurd (let e : None ≡ Some told = is in cc)
+
+pub found_none : (asked : Result (Option Answer) CallError) → IsOk asked → found_in asked ≡ None → asked ≡ Ok None
+found_none (Ok found) ok is = ap Ok is
+found_none (Err error) ok is = absurd ok
 
 -- what a turn at one shard shows, and what others showed before
 pub shows_here : {T : Type 0} (call : Call) (berths : List (Berth T Entry)) (n : ℕ) (old new : Berth T Entry) (found : Option Answer) → n < length berths →

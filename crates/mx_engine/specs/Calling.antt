@@ -1,5 +1,5 @@
 -- One turn at a dock, for private clauses (our own).
-use Rattle.std.specs.Prelude.{◌≡◌, ℕ, true, List, [], Option, None, Some, is_some, Result, Err, IfOk, OnOk, OnErr, IsTrue}
+use Rattle.std.specs.Prelude.{◌≡◌, ℕ, true, List, [], Option, None, Some, is_some, Result, Ok, Err, IfOk, OnOk, OnErr, IsTrue}
 use Rattle.mx_dock.specs.Dock.{IsBerthOf, holds, number, own, place}
 use Rattle.mx_dock.specs.declared.docks.Dock.{Dock}
 use Rattle.mx_dock.specs.declared.berths.Berth.{Berth}
@@ -61,6 +61,11 @@ pub record IsTurn (caller : ℕ) (call : Call) (room : Option (List ℕ)) (old n
 abbrev pub told_by : Option Answer → Answer
 told_by None = ToAsked (Err NotFound)
 told_by (Some told) = told
+
+-- what a shard shows, if it was not refused and shows something
+abbrev pub found_in : Result (Option Answer) CallError → Option Answer
+found_in (Ok found) = found
+found_in (Err error) = None
 
 -- A query by an event's id alone was put to a shard: what a room of it shows, if one shows it.
 pub record IsAskTurn (call : Call) (old new : BerthView Entry) (result : Result (Option Answer) CallError) : Type 0 where

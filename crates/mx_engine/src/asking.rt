@@ -1,10 +1,10 @@
 // Queries by an event's id alone, which are put to each shard.
-ghost use Rattle.std.specs.Prelude.{◌≡◌, None, IfOk};
+ghost use Rattle.std.specs.Prelude.{◌≡◌, None, IfOk, IsOk};
 ghost use Rattle.mx_room.specs.Queries.{room_named};
 ghost use Rattle.mx_shard.specs.LoneRoom.{to_ask};
 ghost use Rattle.mx_engine.specs.Views.{AddsNothing, AreSameViews};
 ghost use Rattle.mx_engine.specs.Calls.{IsShownBy};
-ghost use Rattle.mx_engine.specs.Calling.{IsAskTurn};
+ghost use Rattle.mx_engine.specs.Calling.{IsAskTurn, found_in};
 ghost use Rattle.mx_dock.specs.Dock.{own};
 ghost use Rattle.mx_engine.specs.Berths.{AreBerthsAt, IsBerthAt, views_of};
 
@@ -17,7 +17,8 @@ use mx_room::Denied;
 use mx_shard::Answer;
 use std::sync::Wait;
 
-/// What a room of some shard shows. The shards are asked in turn until one shows it.
+/// What a room of some shard shows. The shards are asked in turn until one shows it. Where none does and some were refused,
+/// the first refusal.
 pub(crate) fn ask_each<R: Wait, K: Keeper<Row = ShardRow>, G: Gate>(
     rt: &R,
     gate: &G,
@@ -33,15 +34,41 @@ pub(crate) fn ask_each<R: Wait, K: Keeper<Row = ShardRow>, G: Gate>(
     ensures nothing { AddsNothing (views_of berths.old.items) (views_of berths.new.items) }
     ensures shown { IfOk result (IsShownBy (to_ask question.now.origin.now question.now.moment question.now.query.now) (views_of berths.new.items)) }
 {
+    let mut refused = None;
     for number in 0..docks.len() {
         let place = Place::new(number, docks.len());
         let berth = &mut berths[number];
         let dock = &docks[number];
-        if let Some(answer) = ask_one(rt, gate, place, dock, berth, caller, question)? {
+        let asked = ask_one(rt, gate, place, dock, berth, caller, question);
+        refused = first_refusal(refused, &asked);
+        if let Some(answer) = found(asked) {
             return Ok(answer);
         }
     }
-    Ok(Answer::ToAsked(Err(Denied::NotFound)))
+    match refused {
+        Some(error) => Err(error),
+        None => Ok(Answer::ToAsked(Err(Denied::NotFound))),
+    }
+}
+
+// The first refusal, once another shard was asked.
+fn first_refusal(
+    refused: Option<CallError>,
+    asked: &Result<Option<Answer>, CallError>,
+) -> Option<CallError>
+    ensures none { result ≡ None → (refused ≡ None) × IsOk asked.now }
+{
+    match asked {
+        Err(error) => refused.or(Some(*error)),
+        Ok(_) => refused,
+    }
+}
+
+// What a shard shows, if it shows something.
+fn found(asked: Result<Option<Answer>, CallError>) -> Option<Answer>
+    ensures { result ≡ found_in asked }
+{
+    asked.unwrap_or(None)
 }
 
 // What a room of the shard at this place shows, if one shows it.

@@ -5,7 +5,7 @@ use Rattle.mx_shard.specs.LoneRoom.{to_ask}
 use Rattle.mx_engine.specs.Berths.{views_of}
 use Rattle.mx_engine.specs.Calling.{IsAskTurn}
 use Rattle.mx_engine.proofs.TurnLemmas.{told_nothing, nothing_refl}
-use Rattle.mx_engine.proofs.AskingLemmas.{same_refl, same_trans, same_nothing, nothing_trans, shown_found, shows_here, none_next}
+use Rattle.mx_engine.proofs.AskingLemmas.{same_refl, same_trans, same_nothing, nothing_trans, shown_found, shows_here, none_next, found_some, found_none}
 use Rattle.mx_engine.proofs.BerthLemmas.{seated_set}
 use Rattle.mx_engine.proofs.asking.ask_each.Goals as goal
 
@@ -14,26 +14,8 @@ loop-number-init g c = record {
   seated = c.requires.seated;
   same = same_refl (views_of c.args.berths.now.items);
   nothing = nothing_refl (views_of c.args.berths.now.items);
-  none = λ m below. absurd (let e : ⊥ = omega (arith, below) in e);
+  none = λ is m below. absurd (let e : ⊥ = omega (arith, below) in e);
 }
-
-pub returns-in_err-answer-clause-same : goal.returns-in_err-answer-clause-same
-returns-in_err-answer-clause-same g c =
-    let berths = c.loop-number.berths.items in
-    let n = c.loop-number.number in
-    let k : n < length berths = subst (λ j. n < j) (sym c.loop-number.invariant.seated.same) c.loop-number-test.true in
-    let t = c.ask_one.ensures.turn in
-    same_trans (views_of c.args.berths.now.items) (views_of berths) _ c.loop-number.invariant.same
-    (same_nothing (views_of berths) _ (told_nothing berths n c.index_mut-berth.result.now c.ask_one.new.berth t.journal k (sym c.index_mut-berth.ensures.value) t.later t.seen))
-
-pub returns-in_err-answer-clause-nothing : goal.returns-in_err-answer-clause-nothing
-returns-in_err-answer-clause-nothing g c =
-    let berths = c.loop-number.berths.items in
-    let n = c.loop-number.number in
-    let k : n < length berths = subst (λ j. n < j) (sym c.loop-number.invariant.seated.same) c.loop-number-test.true in
-    let t = c.ask_one.ensures.turn in
-    nothing_trans (views_of c.args.berths.now.items) (views_of berths) _ c.loop-number.invariant.nothing
-    (told_nothing berths n c.index_mut-berth.result.now c.ask_one.new.berth t.journal k (sym c.index_mut-berth.ensures.value) t.later t.seen)
 
 pub loop-number-preserved : goal.loop-number-preserved
 loop-number-preserved g c =
@@ -44,20 +26,22 @@ loop-number-preserved g c =
     let k : n < length berths = subst (λ j. n < j) (sym seated.same) c.loop-number-test.true in
     let t = c.ask_one.ensures.turn in
     let change = told_nothing berths n c.index_mut-berth.result.now c.ask_one.new.berth t.journal k (sym c.index_mut-berth.ensures.value) t.later t.seen in
-    let none : IsAskTurn call (own c.index_mut-berth.result.now) (own c.ask_one.new.berth) (Ok None) =
-    subst (λ r. IsAskTurn call (own c.index_mut-berth.result.now) (own c.ask_one.new.berth) r) (c.in_ok-answer.was ∙ ap Ok c.in_default.is) t in
     record {
       seated = seated_set c.args.docks.now c.args.caller berths n c.new-place.result c.index-docks-number.result c.deref.result.now c.ask_one.new.berth seated c.loop-number-test.true c.new-place.ensures.number c.new-place.ensures.count (sym c.index-docks-number.is) c.deref.ensures c.ask_one.ensures.berth;
       same = same_trans (views_of c.args.berths.now.items) (views_of berths) _ c.loop-number.invariant.same (same_nothing (views_of berths) _ change);
       nothing = nothing_trans (views_of c.args.berths.now.items) (views_of berths) _ c.loop-number.invariant.nothing change;
-      none = none_next call berths n c.ask_one.new.berth c.loop-number.invariant.none (shows_here call berths n c.index_mut-berth.result.now c.ask_one.new.berth None k none);
+      none = λ is.
+          let noted = c.first_refusal-refused.ensures.none is in
+          none_next call berths n c.ask_one.new.berth (c.loop-number.invariant.none noted.0)
+          (shows_here call berths n c.index_mut-berth.result.now c.ask_one.new.berth None k
+          (subst (λ r. IsAskTurn call (own c.index_mut-berth.result.now) (own c.ask_one.new.berth) r) (found_none c.ask_one-asked.asked noted.1 (sym c.found.ensures ∙ c.in_default.is)) t));
     }
 
-pub returns-clause-shown : goal.returns-clause-shown
-returns-clause-shown g c = λ n l.
+pub returns-in-None-clause-shown : goal.returns-in-None-clause-shown
+returns-in-None-clause-shown g c = λ n l.
     let seated = c.loop-number.invariant.seated in
     let k : n < length c.args.docks.now = subst (λ j. n < j) (length-map c.loop-number.berths.items own ∙ seated.same) l in
-    c.loop-number.invariant.none n (omega (arith, k, c.loop-number-test.false))
+    c.loop-number.invariant.none c.in-None.is n (omega (arith, k, c.loop-number-test.false))
 
 pub returns-in-Some-clause-same : goal.returns-in-Some-clause-same
 returns-in-Some-clause-same g c =
@@ -85,7 +69,7 @@ returns-in-Some-clause-shown g c =
     let k : n < length berths = subst (λ j. n < j) (sym c.loop-number.invariant.seated.same) c.loop-number-test.true in
     let told = c.in-Some.answer in
     let t : IsAskTurn call (own c.index_mut-berth.result.now) (own c.ask_one.new.berth) (Ok (Some told)) =
-    subst (λ r. IsAskTurn call (own c.index_mut-berth.result.now) (own c.ask_one.new.berth) r) (c.in_ok-answer.was ∙ ap Ok c.in-Some.is) c.ask_one.ensures.turn in
+    subst (λ r. IsAskTurn call (own c.index_mut-berth.result.now) (own c.ask_one.new.berth) r) (found_some c.ask_one-asked.asked told (sym c.found.ensures ∙ c.in-Some.is)) c.ask_one.ensures.turn in
     shown_found call (views_of (set berths n c.ask_one.new.berth)) n told t.told (subst (λ j. n < j) (sym (length-map (set berths n c.ask_one.new.berth) own ∙ length-set berths n c.ask_one.new.berth)) k) (shows_here call berths n c.index_mut-berth.result.now c.ask_one.new.berth (Some told) k t)
 
 pub returns-in-Some-clause-seated : goal.returns-in-Some-clause-seated

@@ -1,3 +1,4 @@
+use Rattle.std.proofs.Common.{◌≡◌, None}
 use Rattle.mx_shard.specs.LoneRoom.{to_ask}
 use Rattle.mx_engine.specs.Views.{AddsNothing, AreSameViews}
 use Rattle.mx_engine.specs.Berths.{AreBerthsAt, views_of}
@@ -9,5 +10,5 @@ invariant-loop-number g l = record {
   seated : AreBerthsAt l.fn.docks l.fn.caller l.berths.items;
   same : AreSameViews (views_of l.fn.berths.items) (views_of l.berths.items);
   nothing : AddsNothing (views_of l.fn.berths.items) (views_of l.berths.items);
-  none : NoneBefore (to_ask l.fn.question.origin.now l.fn.question.moment l.fn.question.query.now) (views_of l.berths.items) l.number;
+  none : l.refused ≡ None → NoneBefore (to_ask l.fn.question.origin.now l.fn.question.moment l.fn.question.query.now) (views_of l.berths.items) l.number;
 }
