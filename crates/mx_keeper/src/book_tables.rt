@@ -50,7 +50,6 @@ impl TableRow for BookRow {
         &self,
         connection: &mut Connection<S>,
         count: u64,
-        words: &mut Option<Error>,
     ) -> Result<(), KeeperFault> {
         let Some(place) = place_after(count) else {
             return Err(KeeperFault::Store);
@@ -63,10 +62,7 @@ impl TableRow for BookRow {
             self.reply.as_str(),
         ) {
             Ok(_) => Ok(()),
-            Err(error) => {
-                *words = Some(error);
-                Err(fault_of(error))
-            }
+            Err(error) => Err(fault_of(error)),
         }
     }
 

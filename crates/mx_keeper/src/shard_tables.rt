@@ -49,7 +49,6 @@ impl TableRow for ShardRow {
         &self,
         connection: &mut Connection<S>,
         count: u64,
-        words: &mut Option<Error>,
     ) -> Result<(), KeeperFault> {
         let cells = match cells_of(self, count) {
             Ok(cells) => cells,
@@ -63,10 +62,7 @@ impl TableRow for ShardRow {
             cells.caller,
         ) {
             Ok(_) => Ok(()),
-            Err(error) => {
-                *words = Some(error);
-                Err(fault_of(error))
-            }
+            Err(error) => Err(fault_of(error)),
         }
     }
 

@@ -5,7 +5,6 @@ mod directories;
 mod errors;
 mod losses;
 mod options;
-mod row_files;
 mod serving;
 mod workers;
 
