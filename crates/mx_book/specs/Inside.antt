@@ -13,6 +13,7 @@ abbrev pub reply_at : List (List ℕ) → Option ℕ → Option (List ℕ)
 reply_at replies None = None
 reply_at replies (Some place) = slice_get replies place
 
+-- kept with that reply, or free where there is none
 abbrev pub hold_kept : Option (List ℕ) → Hold
 hold_kept None = free
 hold_kept (Some reply) = kept reply

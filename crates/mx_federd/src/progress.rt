@@ -21,7 +21,7 @@ impl<'a> Progress<'a> {
         Progress { host, told }
     }
 
-    /// Tells that so many of these are done, where a second or more has gone by since it was told last.
+    /// Tells that so many of these are done, at most once in each second of the clock.
     pub(crate) fn tell(&mut self, count: u64, unit: &str) {
         let Some(told) = self.told else {
             return;

@@ -1,4 +1,5 @@
--- The resolution of states to which one more is added, from the resolution of the others.
+-- The resolution of states to which one more is added, from the resolution of the others (our own, over the Matrix
+-- specification, Room Version 2, state resolution).
 use Rattle.std.specs.Prelude.{◌≡◌, ◌<◌, ℕ, T, Bool, true, false, ◌&&◌, if◌then◌else◌, List, [], ◌∷◌, ◌++◌, Option, None, Some, IfSome, option_map, length}
 use Rattle.std.specs.Ordering.{eq_by_cmp}
 use Rattle.std.specs.FinMap.Entries.{is_sorted, put}
