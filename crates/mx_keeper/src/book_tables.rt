@@ -50,6 +50,7 @@ impl TableRow for BookRow {
         &self,
         connection: &mut Connection<S>,
         count: u64,
+        words: &mut Option<Error>,
     ) -> Result<(), KeeperFault> {
         let Some(place) = place_after(count) else {
             return Err(KeeperFault::Store);
@@ -62,7 +63,10 @@ impl TableRow for BookRow {
             self.reply.as_str(),
         ) {
             Ok(_) => Ok(()),
-            Err(error) => Err(fault_of(error)),
+            Err(error) => {
+                *words = Some(error);
+                Err(fault_of(error))
+            }
         }
     }
 

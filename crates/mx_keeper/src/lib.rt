@@ -5,6 +5,7 @@ mod book_tables;
 mod caller;
 mod cells;
 mod event_texts;
+mod failure_notes;
 mod fault_keepers;
 mod faults;
 mod keepers;
@@ -22,6 +23,7 @@ mod table_rows;
 mod transaction_ids;
 
 pub use caller::Caller;
+pub use failure_notes::FailureNote;
 pub use fault_keepers::FaultKeeper;
 pub use faults::KeeperFault;
 pub use keepers::Keeper;

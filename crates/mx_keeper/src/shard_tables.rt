@@ -49,6 +49,7 @@ impl TableRow for ShardRow {
         &self,
         connection: &mut Connection<S>,
         count: u64,
+        words: &mut Option<Error>,
     ) -> Result<(), KeeperFault> {
         let cells = match cells_of(self, count) {
             Ok(cells) => cells,
@@ -62,7 +63,10 @@ impl TableRow for ShardRow {
             cells.caller,
         ) {
             Ok(_) => Ok(()),
-            Err(error) => Err(fault_of(error)),
+            Err(error) => {
+                *words = Some(error);
+                Err(fault_of(error))
+            }
         }
     }
 

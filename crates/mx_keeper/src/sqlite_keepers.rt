@@ -8,6 +8,7 @@ ghost use Rattle.mx_keeper.specs.Refusals.{IsRefused};
 ghost use Rattle.mx_keeper.specs.Schemas.{no_schema};
 ghost use Rattle.mx_keeper.specs.TableRows.{read_rows};
 
+use crate::failure_notes::{FailureNote, note_failure};
 use crate::faults::KeeperFault;
 use crate::keepers::Keeper;
 use crate::schemas::has_nothing;
@@ -16,6 +17,7 @@ use crate::table_rows::{TableRow, all_rows};
 use sqlite::{Alter, Connection, Statement};
 use std::alloc::Global;
 use std::marker::Model;
+use std::sync::Arc;
 
 /// Rows in a table of SQLite, which a crash does not take away.
 ///
@@ -33,6 +35,8 @@ pub struct SqliteKeeper<S: Alter + Drop, R: TableRow> {
     unsure: Doubts,
     // The rows that were read when the connection was adopted, until they are asked for, or one is added.
     found: Option<Vec<R>>,
+    // Where it notes that it failed.
+    note: Option<Arc<FailureNote>>,
 }
 
 impl<S: Alter + Drop, R: TableRow> Model for SqliteKeeper<S, R> {
@@ -109,9 +113,17 @@ impl<S: Alter + Drop, R: TableRow> SqliteKeeper<S, R> {
                 failures: 0,
                 unsure: Doubts::none(),
                 found: Some(rows),
+                note: None,
             }),
             Err(fault) => Err(NotAdopted { fault, connection }),
         }
+    }
+
+    /// From now on it notes here that it failed, for who runs the program. Nothing else changes.
+    pub fn note_failures_in(&mut self, note: Arc<FailureNote>)
+        ensures { self.new ≡ self.old }
+    {
+        self.note = Some(note);
     }
 
     /// A law: what a crash may leave now is the file of this table, also where a failure has shut the connection.
@@ -133,6 +145,7 @@ impl<S: Alter + Drop, R: TableRow> SqliteKeeper<S, R> {
             failures: _,
             unsure: _,
             found: _,
+            note: _,
         } = self;
         connection
     }
@@ -231,7 +244,8 @@ impl<S: Alter + Drop, R: TableRow> Keeper for SqliteKeeper<S, R> {
 
     fn append(&mut self, row: &R) -> Result<(), KeeperFault> {
         self.found = None;
-        match row.insert(&mut self.connection, self.count) {
+        let mut words = None;
+        match row.insert(&mut self.connection, self.count, &mut words) {
             Ok(()) => {
                 self.count += 1;
                 Ok(())
@@ -239,6 +253,7 @@ impl<S: Alter + Drop, R: TableRow> Keeper for SqliteKeeper<S, R> {
             Err(fault) => {
                 let fault = told(&mut self.connection, &self.probe, &mut self.unsure, fault);
                 self.failures = counted(self.failures, fault);
+                note_failure(&self.note, self.alloc, fault, words);
                 Err(fault)
             }
         }

@@ -50,11 +50,13 @@ pub trait TableRow: Storable {
             → MayRefuse (state S.Store connection.old) (state S.Store connection.new) ⊎ IsRefused create_text [] (state S.Store connection.old) }
         ensures survives { Survives (state S.Store connection.old) (state S.Store connection.new) (λ db. HasSchema schema db × (db 0 ≡ [])) };
 
-    /// Adds the row behind so many. After an error the connection may be shut, and a crash may leave the row.
+    /// Adds the row behind so many. After an error the connection may be shut, and a crash may leave the row. Where SQLite
+    /// refuses it, `words` is what it says.
     fn insert<S: Alter>(
         &self,
         connection: &mut Connection<S>,
         count: u64,
+        words: &mut Option<Error>,
     ) -> Result<(), KeeperFault>
         requires { IsTrue (state S.Store connection.old).is_open → HasRows schema (read_rows shown) count (state S.Store connection.old) }
         ensures open { HasCleanDisk (state S.Store connection.new) → OnOk result (IsTrue (state S.Store connection.new).is_open) }

@@ -2,12 +2,16 @@
 ghost use Rattle.std.specs.Prelude.{◌≡◌, ◌≤◌, ◌+◌, IfOk, OnOk, length};
 
 use crate::errors::{ServerError, StartError};
-use mx_keeper::{BookRow, Keeper, KeeperFault, MOST_PLACES, ShardRow, SqliteKeeper, TableRow};
+use crate::row_files::RowFile;
+use mx_keeper::{
+    BookRow, FailureNote, Keeper, KeeperFault, MOST_PLACES, ShardRow, SqliteKeeper, TableRow,
+};
 use mx_wire::ShardCount;
 use sqlite::{Alter, Connection, Error, ErrorCode, File, FileStore};
 use std::alloc::{AllocError, Global};
 use std::fs::{self, DirBuilder, OpenOptions};
 use std::os::unix::fs::{DirBuilderExt, OpenOptionsExt};
+use std::sync::Arc;
 
 // Who may look at a directory of rows: its owner, who may change it too.
 const OWNER_ALONE: u32 = 0o700;
@@ -21,11 +25,13 @@ const LENGTH_OF_EMPTY_LOG: u64 = 41;
 /// Rows of one kind in a file.
 pub type FileRows<R> = SqliteKeeper<FileStore<File>, R>;
 
-/// The files of a server, each taken by a keeper: one for each shard, and one for each book.
+/// The files of a server, each taken by a keeper: one for each shard, and one for each book. And what each is called, with
+/// what its keeper notes where it fails.
 #[derive(Drop)]
 pub struct ServerFiles {
     pub shards: Vec<FileRows<ShardRow>>,
     pub books: Vec<FileRows<BookRow>>,
+    pub files: Vec<RowFile>,
 }
 
 /// The files `shard-0.db`, `book-0.db` and so on of a directory. Those that it lacks are made, where no file that it has
@@ -52,11 +58,13 @@ pub fn open_directory(
         refuse_rows::<ShardRow>(host, directory, "shard", count)?;
         refuse_rows::<BookRow>(host, directory, "book", count)?;
     }
-    let rooms = keepers(host, directory, "shard", count)?;
-    let replies = keepers(host, directory, "book", count)?;
+    let mut files = Vec::new(host.alloc());
+    let rooms = keepers(host, directory, "shard", count, &mut files)?;
+    let replies = keepers(host, directory, "book", count, &mut files)?;
     Ok(ServerFiles {
         shards: rooms,
         books: replies,
+        files,
     })
 }
 
@@ -162,22 +170,36 @@ fn path_of(
     Ok(format!(in alloc; "{directory}/{kind}-{number}.db")?)
 }
 
-// The rows of the first files of a kind.
+// The rows of the first files of a kind, each of which is added to the files.
 fn keepers<R: TableRow>(
     host: &HostRuntime,
     directory: &str,
     kind: &str,
     count: usize,
+    files: &mut Vec<RowFile>,
 ) -> Result<Vec<FileRows<R>>, StartError>
     ensures { IfOk result (λ keepers. length keepers.items ≡ count) }
 {
     let mut keepers = Vec::new(host.alloc());
     for number in 0..count {
         let path = path_of(host.alloc(), directory, kind, number)?;
-        let keeper = keeper_at(host, &path)?;
+        let note = Arc::new(host.alloc(), FailureNote::new(host.alloc()))?;
+        let keeper = noting_keeper_at(host, &path, &note)?;
+        files.push(RowFile::new(path, note))?;
         push(&mut keepers, keeper)?;
     }
     Ok(keepers)
+}
+
+// The rows of a file, whose keeper notes its failure here.
+fn noting_keeper_at<R: TableRow>(
+    host: &HostRuntime,
+    path: &str,
+    note: &Arc<FailureNote>,
+) -> Result<FileRows<R>, StartError> {
+    let mut keeper = keeper_at(host, path)?;
+    keeper.note_failures_in(Arc::try_clone(note)?);
+    Ok(keeper)
 }
 
 fn push<K: Drop>(keepers: &mut Vec<K>, keeper: K) -> Result<(), StartError>

@@ -5,6 +5,7 @@ mod directories;
 mod errors;
 mod losses;
 mod options;
+mod row_files;
 mod serving;
 mod workers;
 

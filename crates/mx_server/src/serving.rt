@@ -5,6 +5,7 @@ use crate::directories::{ServerFiles, open_directory};
 use crate::errors::{ServerError, StartError};
 use crate::losses::check_losses;
 use crate::options::{SeatCount, ServeOptions};
+use crate::row_files::{RowFile, RowFiles};
 use crate::workers::{ServerEngine, Shared, Worker, workers_of};
 use mx_engine::{Engine, OpenGate};
 use mx_http::{Announcer, Limits, ServeError, ServerRuntime, serve_on};
@@ -39,8 +40,12 @@ pub fn serve<R: ServerRuntime, W: Write, E: Write>(
     err: &mut E,
 ) -> Result<(), StartError> {
     let (files, rooms) = rows_and_rooms(host, &options)?;
-    let ServerFiles { shards, books } = files;
-    serve_rows(rt, shards, books, &rooms, options, out, err)
+    let ServerFiles {
+        shards,
+        books,
+        files,
+    } = files;
+    serve_rows(rt, shards, books, files, &rooms, options, out, err)
 }
 
 // The files of the server's directory, and the bytes of its file of rooms.
@@ -90,6 +95,7 @@ fn serve_rows<S, R, W: Write, E: Write>(
     rt: &R,
     shards: Vec<SqliteKeeper<S, ShardRow>>,
     books: Vec<SqliteKeeper<S, BookRow>>,
+    files: Vec<RowFile>,
     rooms: &[u8],
     options: ServeOptions,
     out: &mut W,
@@ -112,7 +118,7 @@ where
     let is_accepted = options.accept_loss;
     check_losses(alloc, &server, count, &options.data, is_accepted, err)?;
     host_rooms(alloc, &mut server, rooms, file_of_rooms(&options), err)?;
-    listen(rt, server, options, out, err)
+    listen(rt, server, files, options, out, err)
 }
 
 // Files whose rows are read, and are none that a server can have.
@@ -200,6 +206,7 @@ impl<'a, W: Write, E: Write> Announcer for Opening<'a, W, E> {
 fn listen<K, L, R, W: Write, E: Write>(
     rt: &R,
     server: World<K, L>,
+    files: Vec<RowFile>,
     options: ServeOptions,
     out: &mut W,
     err: &mut E,
@@ -220,7 +227,11 @@ where
         stop_on_storage,
         ..
     } = options;
-    let workers = workers(rt, server, threads, name, stop_on_storage)?;
+    let files = RowFiles {
+        files,
+        stop_on_failure: stop_on_storage,
+    };
+    let workers = workers(rt, server, threads, name, files)?;
     let mut opening = Opening {
         out,
         err,
@@ -277,7 +288,7 @@ fn workers<K: Keeper<Row = ShardRow>, L: Keeper<Row = BookRow>, R: Wait + AllocG
     server: World<K, L>,
     threads: SeatCount,
     name: ServerName,
-    stop_on_storage: bool,
+    files: RowFiles,
 ) -> Result<Vec<Worker<K, L>>, StartError> {
     let alloc = rt.alloc();
     let wire_server = WireServer::new(alloc, name)?;
@@ -292,7 +303,7 @@ fn workers<K: Keeper<Row = ShardRow>, L: Keeper<Row = BookRow>, R: Wait + AllocG
         OpenGate,
         threads.count,
     )?;
-    let shared = shared_of(alloc, engine, wire_server, stop_on_storage)?;
+    let shared = shared_of(alloc, engine, wire_server, files)?;
     Ok(workers_of(alloc, &shared, seats)?)
 }
 
@@ -301,14 +312,14 @@ fn shared_of<K: Keeper<Row = ShardRow>, L: Keeper<Row = BookRow>>(
     alloc: Global,
     engine: ServerEngine<K, L>,
     server: WireServer,
-    stop_on_storage: bool,
+    files: RowFiles,
 ) -> Result<Arc<Shared<K, L>>, AllocError>
     ensures { IfOk result (λ shared. shared.value.engine ≡ engine) }
 {
     let shared = Shared {
         engine,
         server,
-        stop_on_storage,
+        files,
     };
     let shared = Arc::new(alloc, shared)?;
     Ok(shared)

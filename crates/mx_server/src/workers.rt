@@ -2,6 +2,7 @@
 ghost use Rattle.std.specs.Prelude.{◌≡◌, All};
 ghost use Rattle.mx_engine.specs.Seats.{IsSeatOf, seat_number};
 
+use crate::row_files::RowFiles;
 use bytes::Bytes;
 use mx_engine::{Engine, OpenGate, Seat};
 use mx_http::{HttpReply, HttpRequest, Responder};
@@ -27,13 +28,12 @@ const NOT_IMPLEMENTED: u16 = 501;
 /// The engine of the program.
 pub type ServerEngine<K, L> = Engine<K, L, PresenceVerifier, OpenGate>;
 
-/// What all workers share: the engine, and the server's name with the routes of its requests.
+/// What all workers share: the engine, the server's name with the routes of its requests, and the files of rows.
 #[derive(Drop)]
 pub struct Shared<K: Keeper<Row = ShardRow>, L: Keeper<Row = BookRow>> {
     pub engine: ServerEngine<K, L>,
     pub server: WireServer,
-    // Whether the server ends once what keeps rows has failed.
-    pub stop_on_storage: bool,
+    pub files: RowFiles,
 }
 
 /// A worker: a seat, and what it shares with the others, whose engine it is a seat of.
@@ -69,12 +69,14 @@ impl<K: Keeper<Row = ShardRow>, L: Keeper<Row = BookRow>> Responder for Worker<K
         let RequestReply { reply, refused } = answered;
         let has_failed = refused == Some(CallError::Storage);
         self.has_failed |= has_failed;
-        tell(rt, has_failed);
+        if has_failed {
+            self.shared.files.tell(rt, alloc);
+        }
         sent(&self.shared.server, &request, reply)
     }
 
     fn is_done(&self) -> bool {
-        self.has_failed && self.shared.stop_on_storage
+        self.has_failed && self.shared.files.stop_on_failure
     }
 
     fn refuse_body(&self, alloc: Global) -> HttpReply {
@@ -143,13 +145,6 @@ fn answer_in<K: Keeper<Row = ShardRow>, L: Keeper<Row = BookRow>, R: Wait + Cloc
         moment(rt),
         request,
     )
-}
-
-// Who runs the server has to know where its storage fails.
-fn tell<R: Eprint>(rt: &R, has_failed: bool) {
-    if has_failed {
-        let _ = rt.eprintln("storage");
-    }
 }
 
 // The moment of the clock: the first one where it can't be read, the latest one where it shows more.
