@@ -9,6 +9,7 @@ mod row_files;
 mod serving;
 mod workers;
 
+pub use directories::migrate;
 pub use errors::{ServerError, StartError};
 pub use options::{SeatCount, ServeOptions};
 pub use serving::serve;

@@ -43,8 +43,12 @@ pub fn serve<R: ServerRuntime, W: Write, E: Write>(
     let ServerFiles {
         shards,
         books,
+        is_moved,
         files,
     } = files;
+    if is_moved {
+        let _ = writeln!(err, "{}: brought to the second layout", options.data);
+    }
     serve_rows(rt, shards, books, files, &rooms, options, out, err)
 }
 

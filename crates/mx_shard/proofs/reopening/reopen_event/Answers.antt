@@ -24,6 +24,6 @@ returns-in-Ok-clause-made c =
     ∙ ap (λ n. c.args.journal.now.items ++ (let p : JournalPlace = record { room = c.args.number; row = n; caller = c.args.row.caller } in p) ∷ []) c.len.ensures)).made
 
 pub returns-clause-storage : goal.returns-clause-storage
-returns-clause-storage c = λ _.
+returns-clause-storage c = λ _ can.
     event-refused c.args.rooms.now.items c.args.numbers.now c.args.holders.now c.args.journal.now.items c.args.row c.requires.was c.args.number c.requires.found c.args.id c.index_mut-room.result.now
-    c.requires.id c.index_mut-room.ensures.value c.in-Err-NotReceived.field-0-0 ((c.in-Err-NotReceived.ensures.refused c.in-Err-NotReceived.field-0-0).0 (ap Err c.in-Err-NotReceived.field-0-is))
+    c.requires.id c.index_mut-room.ensures.value c.in-Err-NotReceived.field-0-0 ((c.in-Err-NotReceived.ensures.refused c.in-Err-NotReceived.field-0-0).0 (ap Err c.in-Err-NotReceived.field-0-is)) can.0

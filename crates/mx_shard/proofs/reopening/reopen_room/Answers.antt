@@ -15,6 +15,6 @@ returns-in-Ok-clause-made c =
     c.in_ok-push-in-Ok.ensures.items c.in_ok-insert-in-Ok.ensures.updates.0 c.in_ok-add_holder.ensures.moved c.in_ok-push-in-Ok-2.ensures.items).made
 
 pub returns-clause-storage : goal.returns-clause-storage
-returns-clause-storage c = λ _.
+returns-clause-storage c = λ _ can.
     no-room c.args.rooms.now.items c.args.numbers.now c.args.holders.now c.args.journal.now.items c.args.row c.requires.was c.requires.missing c.in-Err-NotARoom.field-0-0
-    ((c.in-Err-NotARoom.ensures.refused c.in-Err-NotARoom.field-0-0).0 (ap Err c.in-Err-NotARoom.field-0-is))
+    ((c.in-Err-NotARoom.ensures.refused c.in-Err-NotARoom.field-0-0).0 (ap Err c.in-Err-NotARoom.field-0-is)) can.0
