@@ -10,7 +10,7 @@ ghost use Rattle.mx_keeper.specs.Refusals.{RefusesRow};
 
 use crate::faults::KeeperFault;
 use crate::storing::Storable;
-use sqlite::{Alter, Connection};
+use sqlite::{Alter, Connection, Error};
 use sqlite_schema::schema::Schema;
 use std::alloc::Global;
 
