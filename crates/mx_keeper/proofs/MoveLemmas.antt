@@ -1,5 +1,5 @@
 -- The statements that bring a file to the second layout.
-use Rattle.std.proofs.Common.{arith, ◌≡◌, ◌≢◌, ◌⊎◌, ◌≤◌, ◌<◌, ◌^◌, ◌+◌, ℕ, ℤ, pos, List, [], ◌∷◌, ◌++◌, length, Bool, true, false, Option, Some, None, Result, Ok, Err, IsTrue, inl, inr, refl, sym, ap, ap₂, subst, ◌∙◌}
+use Rattle.std.proofs.Common.{arith, ◌≡◌, ◌≢◌, ◌⊎◌, ◌≤◌, ◌<◌, ◌^◌, ◌+◌, ℕ, ℤ, pos, List, [], ◌∷◌, ◌++◌, length, true, false, Some, Result, Ok, Err, IsTrue, inl, inr, refl, sym, ap, ap₂, subst, ◌∙◌}
 use Rattle.std.specs.Prelude.{⊤}
 use Rattle.std.specs.Str.{is_utf8}
 use Rattle.std.proofs.lemmas.Bool.{cases_Bool}
@@ -7,7 +7,7 @@ use Rattle.sqlite.specs.Order.{Row}
 use Rattle.sqlite.specs.Schema.{Schema}
 use Rattle.sqlite.specs.Table.{Table}
 use Rattle.sqlite.specs.Term.{Term}
-use Rattle.sqlite.specs.Effect.{Database, IsDatabase}
+use Rattle.sqlite.specs.Effect.{IsDatabase}
 use Rattle.sqlite.specs.Tree.{Trees, put_row}
 use Rattle.sqlite.specs.Command.{Command}
 use Rattle.sqlite.specs.Command.TheVariants.{CreateTable, DropTable}
@@ -15,14 +15,14 @@ use Rattle.sqlite.specs.Listing.{understood}
 use Rattle.sqlite.specs.State.{State, Executes, ExecutesInside, EndsScope, Escapes, HasCleanDisk, Survives, mode_of, text_of}
 use Rattle.sqlite.specs.Does.{Does}
 use Rattle.sqlite.specs.declared.error.Error.{Error}
-use Rattle.sqlite.proofs.Callers.{IsPlain, command_of}
+use Rattle.sqlite.proofs.Callers.{command_of}
 use Rattle.mx_auth.specs.declared.versions.RoomVersion.{RoomVersion}
 use Rattle.mx_ident.specs.Identifier.{is_room_id}
 use Rattle.mx_keeper.specs.Cells.{event_of_text}
 use Rattle.mx_keeper.specs.Connections.{IsPut, MayRefuse}
 use Rattle.mx_keeper.specs.Keeping.{with_row}
 use Rattle.mx_keeper.specs.FirstLayout.{kept_schema, first_columns, first_shown}
-use Rattle.mx_keeper.specs.Moving.{AreEmpty, AreOthers, Changes, HasOneMore, HasRun, HasTheseRows, IsInside, IsStopped, ReadsSoMany}
+use Rattle.mx_keeper.specs.Moving.{AreEmpty, Changes, HasOneMore, HasRun, HasTheseRows, IsInside, IsStopped, ReadsSoMany}
 use Rattle.mx_keeper.specs.Refusals.{IsRefused}
 use Rattle.mx_keeper.specs.Schemas.{no_schema}
 use Rattle.mx_keeper.specs.ShardTable.{IsMoveStep, RefusesMove, create_first_text, create_layout_text, create_text, drop_text, given_row, insert_layout_text, insert_text, is_laid, laid, layout_columns, layout_row, layout_shown, pair_schema, read_shard, read_shown, read_table, row_columns, shard_schema, stored}

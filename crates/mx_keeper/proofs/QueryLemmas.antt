@@ -1,5 +1,5 @@
 -- What the SELECT of all rows of a table shows.
-use Rattle.std.proofs.Common.{◌≡◌, ℕ, pos, List, [], ◌≢◌, ◌≤◌, IsTrue, Option, Some, inl, inr, refl, sym, ap, subst, ◌∙◌}
+use Rattle.std.proofs.Common.{◌≡◌, ℕ, pos, List, [], ◌≢◌, ◌≤◌, IsTrue, Option, Some, inl, inr, sym, ap, subst, ◌∙◌}
 use Rattle.sqlite.specs.declared.types.Value.TheVariants.{Null, Int}
 use Rattle.sqlite_value.specs.Order.{Row}
 use Rattle.sqlite_trees.specs.Tree.{Trees, rowid}

@@ -1,5 +1,5 @@
 -- Rows of a shard in their table.
-use Rattle.std.proofs.Common.{◌≡◌, ◌≢◌, ℕ, ◌+◌, ◌<◌, ◌^◌, ℤ, pos, List, [], ◌∷◌, ◌++◌, length, Option, Some, None, Bool, true, false, cond, length-append, IsTrue, refl, sym, ap, ap₂, ◌∙◌, inl, inr, arith}
+use Rattle.std.proofs.Common.{◌≡◌, ℕ, ◌+◌, ◌<◌, ◌^◌, ℤ, pos, List, [], ◌∷◌, ◌++◌, length, Option, Some, None, Bool, true, false, cond, length-append, IsTrue, refl, sym, ap, ap₂, ◌∙◌, inl, inr, arith}
 use Rattle.std.specs.Str.{chars, is_utf8}
 use Rattle.std.proofs.lemmas.Bool.{cases_Bool}
 use Rattle.sqlite_value.specs.Order.{Row}
@@ -12,7 +12,7 @@ use Rattle.mx_auth.specs.declared.versions.RoomVersion.TheVariants.{V6, V7}
 use Rattle.mx_ident.specs.Identifier.{is_room_id}
 use Rattle.mx_keeper.specs.Keeping.{with_row}
 use Rattle.mx_keeper.specs.declared.rows.ShardRow.{ShardRow}
-use Rattle.mx_keeper.specs.Cells.{event_of_text, text_in, version_of_text}
+use Rattle.mx_keeper.specs.Cells.{event_of_text, version_of_text}
 use Rattle.mx_keeper.specs.FirstLayout.{first_columns, first_shown}
 use Rattle.mx_keeper.specs.ShardTable.{is_laid, laid, layout_columns, layout_shown, row_columns, shard_schema, read_shard, read_shown, read_table, stored}
 use Rattle.mx_keeper.specs.TableRows.{shown, read_rows}

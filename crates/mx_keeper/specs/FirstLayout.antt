@@ -1,5 +1,5 @@
 -- The table of a shard's file in the first layout, and what its rows read as (our own).
-use Rattle.std.specs.Prelude.{ℕ, pos, true, false, [], ◌∷◌, ◌++◌, ◌==◌, if◌then◌else◌, bytes_eq, codes, find, List, Option, Some, None, option_and_then, option_map}
+use Rattle.std.specs.Prelude.{ℕ, true, false, [], ◌∷◌, ◌++◌, ◌==◌, if◌then◌else◌, bytes_eq, codes, find, List, Option, Some, None, option_and_then, option_map}
 use Rattle.serde_json.specs.Data.{Data}
 use Rattle.sqlite.specs.Kind.TheVariants.{Integer, Text}
 use Rattle.sqlite.specs.Order.{Row, column}

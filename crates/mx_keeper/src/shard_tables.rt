@@ -1,9 +1,8 @@
 // The tables of a shard.
-ghost use Rattle.std.specs.Prelude.{◌≡◌, ◌≢◌, ◌⊎◌, ◌≤◌, IfErr, ◌+◌, ◌-◌, ◌<◌, ◌^◌, FitsSigned, pos, false, IfOk, Some, OnErr, OnOk, IsTrue, string_bytes};
+ghost use Rattle.std.specs.Prelude.{◌≡◌, ◌≢◌, ◌⊎◌, ◌≤◌, IfErr, ◌+◌, ◌-◌, ◌<◌, ◌^◌, FitsSigned, pos, false, IfOk, Some, OnErr, OnOk, IsTrue};
 ghost use Rattle.std.specs.Int.{w64};
 ghost use Rattle.sqlite.specs.Held.{state};
 ghost use Rattle.sqlite.specs.State.{HasCleanDisk, IsUnchanged, Survives};
-ghost use Rattle.mx_auth.specs.Versions.{version_text};
 ghost use Rattle.mx_keeper.specs.Cells.{event_of_text};
 ghost use Rattle.mx_keeper.specs.Connections.{HasSchema, IsIdle, IsPut, MayRefuse, Puts, Stays};
 ghost use Rattle.mx_keeper.specs.Refusals.{IsRefused};

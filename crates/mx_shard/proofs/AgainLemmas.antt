@@ -1,7 +1,5 @@
 -- A shard that is opened again over the rows of a journal.
-use Rattle.std.proofs.Common.{◌≡◌, ℕ, suc, ◌<◌, List, [], ◌∷◌, ◌++◌, refl, sym, ap, arith}
-use Rattle.std.specs.Prelude.{All}
-use Rattle.mx_redact.specs.Hashes.{event_id}
+use Rattle.std.proofs.Common.{◌≡◌, suc, List, [], ◌∷◌, ◌++◌, refl, sym, arith}
 use Rattle.mx_shard.specs.Journal.{Entry, stored, stored_behind, reopened, AreWorkedOut}
 
 again-behind : (earlier journal : List Entry) → AreWorkedOut journal → reopened (stored_behind earlier journal) ≡ journal

@@ -1,11 +1,10 @@
-use Rattle.std.proofs.Common.{◌≡◌, ℕ, ◌++◌, ◌∷◌, [], List, Some, None, sym, ap, ◌∙◌, refl}
+use Rattle.std.proofs.Common.{◌≡◌, ℕ, ◌++◌, ◌∷◌, [], List, Some, None, sym, ap, ◌∙◌}
 use Rattle.std.specs.Prelude.{bytes_eq, cond, option_map}
 use Rattle.std.specs.Option.{option_or}
 use Rattle.std.specs.BTreeMap.{get}
 use Rattle.std.specs.Cmp.Lexicographic.{slice_cmp}
 use Rattle.std.specs.Ordering.{nat_cmp}
 use Rattle.mx_keeper.specs.FirstLayout.{created_version, flat, version_among, with_versions}
-use Rattle.mx_keeper.specs.declared.first_rows.FirstRow.{FirstRow}
 use Rattle.mx_keeper.proofs.FirstRowLemmas.{among_push, row_refused, row_taken}
 use Rattle.mx_keeper.proofs.first_rows.versioned.Goals as goal
 

@@ -1,4 +1,4 @@
-use Rattle.std.proofs.Common.{arith, ap, refl, subst, sym, ◌∙◌}
+use Rattle.std.proofs.Common.{arith, ap, subst, sym, ◌∙◌}
 use Rattle.std.proofs.lemmas.Result.{err_from_is_err_and, on_ok_weaker}
 use Rattle.sqlite.specs.Effect.{Database}
 use Rattle.mx_keeper.specs.Connections.{HasSchema}
