@@ -21,7 +21,7 @@ from make_first import KEPT  # noqa: E402
 from row_events import A, ROOM, canonical, create, id_of, join, sealed  # noqa: E402
 
 PROGRAM = Path(sys.argv[1] if len(sys.argv) > 1 else TOP / "crates/mx_federd/out/mx_federd")
-ROWS = int(sys.argv[2]) if len(sys.argv) > 2 else 50_000
+ROWS = int(sys.argv[2]) if sys.argv[2:] and sys.argv[1] != "--copy" else 50_000
 COPY = (
     "CREATE TABLE kept2 (place INTEGER PRIMARY KEY, room TEXT NOT NULL, version TEXT NOT NULL, event TEXT NOT NULL, caller INTEGER NOT NULL)",
     "CREATE TABLE layout (place INTEGER PRIMARY KEY, number INTEGER NOT NULL)",

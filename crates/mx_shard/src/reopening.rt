@@ -110,8 +110,10 @@ fn reopen_room(
     let number = rooms.as_slice().len();
     add_holder(holders, &id, number)?;
     match Room::reopen(alloc, row.event, id) {
-        Ok(room) if room.version() != row.version => Err(CallError::Storage),
         Ok(room) => {
+            if room.version() != row.version {
+                return Err(CallError::Storage);
+            }
             numbers.insert(row.room, number)?;
             rooms.push(room)?;
             journal.push(JournalPlace {
