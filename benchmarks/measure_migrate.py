@@ -1,7 +1,8 @@
 #!/usr/bin/env python3
 """Measures `mx_federd migrate` over a shard's file of the first layout: `measure_migrate.py [PROGRAM [ROWS]]`. Beside it
-SQLite's own library makes the same copy in one transaction. Of each it prints seconds, the least of three runs, and the most
-memory that was held."""
+SQLite's own library makes the same copy in one transaction. Of each it prints seconds, by the clock and of the processor, the
+least of three runs, and the most memory that was held. A file that is in the second layout already shows what the opening
+takes alone."""
 
 import contextlib
 import os
@@ -50,7 +51,8 @@ def make_file(path):
 
 
 def copy(path):
-    """What SQLite's own library does in one transaction, with its log brought to the disk."""
+    """What SQLite's own library does in one transaction, with its log brought to the disk. Says how long it took."""
+    begun = time.monotonic(), time.process_time()
     connection = sqlite3.connect(path, isolation_level=None)
     connection.execute("PRAGMA journal_mode=wal")
     connection.execute("PRAGMA synchronous=full")
@@ -59,16 +61,17 @@ def copy(path):
         connection.execute(statement)
     connection.execute("COMMIT")
     connection.close()
+    print(time.monotonic() - begun[0], time.process_time() - begun[1])
 
 
 def timed(words):
-    """Seconds, and megabytes at most, of a process."""
+    """Seconds by the clock and of the processor, and megabytes at most, of a process, and what it printed."""
     begun = time.monotonic()
     child = subprocess.Popen([str(word) for word in words], stdout=subprocess.PIPE)
     out = child.stdout.read()
     _, status, usage = os.wait4(child.pid, 0)
     assert status == 0, status
-    return time.monotonic() - begun, usage.ru_maxrss / 1024, out
+    return time.monotonic() - begun, usage.ru_utime + usage.ru_stime, usage.ru_maxrss / 1024, out
 
 
 def main():
@@ -85,14 +88,16 @@ def main():
                 data.mkdir()
                 shutil.copy(whole, data / "shard-0.db")
                 if name == "SQLite's copy":
-                    runs.append(timed([sys.executable, __file__, "--copy", data / "shard-0.db"]))
+                    _, _, memory, out = timed([sys.executable, __file__, "--copy", data / "shard-0.db"])
+                    runs.append((*map(float, out.split()), memory))
                     continue
                 if name == "a second migrate":
                     timed([PROGRAM, "migrate", "--data", data])
                 run = timed([PROGRAM, "migrate", "--data", data])
-                assert run[2] == b"shard 0: %d rows\n" % ROWS, run
+                assert run[3] == b"shard 0: %d rows\n" % ROWS, run
                 runs.append(run)
-            print("%s: %.2f seconds, %.0f MB" % (name, min(it[0] for it in runs), max(it[1] for it in runs)))
+            told = min(it[0] for it in runs), min(it[1] for it in runs), max(it[2] for it in runs)
+            print("%s: %.2f seconds, %.2f of the processor, %.0f MB" % (name, *told), flush=True)
 
 
 if __name__ == "__main__":
