@@ -8,7 +8,7 @@ ghost use Rattle.mx_receipt.specs.Resolutions.{AreRight};
 use crate::room_states::version_in;
 use lru::LruCache;
 use mx_graph::{Graph, graph_is_sound};
-use mx_state_res::{StateNo, States, resolve_numbered};
+use mx_state_res::{KeptResolution, StateNo, States, resolve_keeping, resolve_numbered};
 use std::alloc::{AllocError, Global};
 use std::num::NonZeroUsize;
 
@@ -20,6 +20,8 @@ const MOST_RESOLUTIONS: usize = 256;
 pub(crate) struct ResolutionCache {
     // The number of a state, by those of the states that resolve to it, each once and rising.
     resolutions: LruCache<Vec<StateNo>, StateNo>,
+    // What is kept of the last one of many states.
+    last: Option<KeptResolution>,
 }
 
 impl ResolutionCache {
@@ -32,7 +34,10 @@ impl ResolutionCache {
     {
         let most = NonZeroUsize::new(MOST_RESOLUTIONS).unwrap();
         let resolutions = LruCache::sparse(alloc, most)?;
-        Ok(ResolutionCache { resolutions })
+        Ok(ResolutionCache {
+            resolutions,
+            last: None,
+        })
     }
 
     /// The state that these states resolve to, where it is there. It takes no memory.
@@ -60,6 +65,7 @@ impl ResolutionCache {
         ensures { self.new.resolutions.entries ≡ [] }
     {
         self.resolutions.clear();
+        self.last = None;
     }
 }
 
@@ -99,7 +105,14 @@ pub(crate) fn resolve_cached(
     if let Some(state) = resolutions.get(&numbers) {
         return Ok(state);
     }
-    let state = resolve_numbered(version_in(graph), alloc, graph, states, &numbers)?;
+    let state = resolve_keeping(
+        version_in(graph),
+        alloc,
+        graph,
+        states,
+        &numbers,
+        &mut resolutions.last,
+    )?;
     resolutions.put(numbers, state);
     Ok(state)
 }
