@@ -10,13 +10,14 @@ use Rattle.mx_graph.proofs.Closure.{is_in-from, is_in-to}
 use Rattle.mx_graph.proofs.Members.{In}
 use Rattle.mx_orders.specs.StateMap.{State, entry, key_cmp}
 use Rattle.mx_orders.specs.Mainline.{mainline, mainline_order, power_key}
-use Rattle.mx_state_res.specs.Numbered.{IsDiffering, state_at, without}
+use Rattle.mx_state_res.specs.Numbered.{AreKnown, IsDiffering, state_at, without}
 use Rattle.mx_state_res.specs.Resolution.{full_conflicted, power_events, resolve, unconflicted}
 use Rattle.mx_state_res.specs.LaterResolution.{agreed_line, checking_order}
 use Rattle.mx_state_res.specs.KeptResolutions.{AreChecked, DifferAtOneKey, IsKept, events_checked, states_of}
 use Rattle.mx_state_res.specs.declared.kept_resolutions.KeptResolution.{KeptResolution}
 use Rattle.mx_state_res.specs.declared.kept_resolutions.checked_events.CheckedEvent.{CheckedEvent}
 use Rattle.mx_state_res.proofs.KeyLemmas.{Sorted, key_cmp-itself}
+use Rattle.mx_state_res.proofs.KeptGrowthLemmas.{each-known}
 use Rattle.mx_state_res.proofs.LaterOrderLemmas.{distinct-full, order-members}
 use Rattle.mx_state_res.proofs.NumberedConflictLemmas.{at-sorted, unconflicted-is}
 use Rattle.mx_state_res.proofs.SetLemmas.{all-at}
@@ -31,7 +32,7 @@ one-there d e are none = cc (sym (ap (λ s. entry s e.0) are ∙ ap (λ r. cond 
     nothing : Option ℕ
     nothing = None
 
-module _ (v : RoomVersion) (rows : List Row) (states : List State) (base : ℕ) (others numbers : List ℕ) (are : numbers ≡ base ∷ others) (below : All (λ n. n < length states) numbers)
+module _ (v : RoomVersion) (rows : List Row) (states : List State) (base : ℕ) (others numbers : List ℕ) (are : numbers ≡ base ∷ others) (below : All (λ n. n < length states) numbers) (all_known : AreKnown rows states)
     (sorted : All (λ n. Sorted (state_at states n)) numbers) (d : State) (ordered : Sorted d) (differing : IsDiffering d (map (state_at states) numbers)) (e : Key × ℕ) (only : d ≡ e ∷ [])
     (full : List ℕ) (is_full : full ≡ full_conflicted rows (map (state_at states) numbers)) (known : All (λ p. p < length rows) full) (no_power : power_events rows full ≡ [])
     (at : All (λ p. key_of (event rows p) ≡ Some e.0) full) where
@@ -78,6 +79,7 @@ module _ (v : RoomVersion) (rows : List Row) (states : List State) (base : ℕ) 
     first-record = record {
       numbers = subst (All (λ n. n < length states)) (sym items) below;
       some = (let l : length kept.numbers.items ≡ length (base ∷ others) = ap length (items ∙ are) in omega arith);
+      known = subst (AreKnown rows) states-are (each-known rows states numbers all_known below);
       one_key = subst (λ ts. DifferAtOneKey rows ts (state_at states (slice_index_or kept.numbers.items 0 0)) kept) states-are (subst (λ b. DifferAtOneKey rows ss b kept) first-is one-key);
       checked = subst (λ ts. AreChecked v rows (unconflicted ts) kept.order.items) states-are (subst (λ t. AreChecked v rows t kept.order.items) (sym agreed-is) checked);
       below = lower;

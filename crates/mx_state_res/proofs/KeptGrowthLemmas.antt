@@ -45,6 +45,10 @@ all-grown old more new are ns h = λ k d l. grown-below old more new (get_or ns 
 first-at : (old more new : List State) (kept : KeptResolution) → new ≡ old ++ more → All (λ n. n < length old) kept.numbers.items → 0 < length kept.numbers.items → first_of new kept ≡ first_of old kept
 first-at old more new kept are h some = grown-at old more new (slice_index_or kept.numbers.items 0 0) are (h 0 0 some)
 
+pub each-known : (rows : List Row) (states : List State) (ns : List ℕ) → AreKnown rows states → All (λ n. n < length states) ns → AreKnown rows (map (state_at states) ns)
+each-known rows states ns known h =
+    All-map (λ t. All (λ e. e.1 < length rows) t) (state_at states) ns (λ k d m. All-get_or (λ t. All (λ e. e.1 < length rows) t) states (get_or ns k d) [] (h k d m) known)
+
 -- states that were added change nothing of it
 pub kept-grown : (v : RoomVersion) (rows : List Row) (old more new : List State) (kept : KeptResolution) → new ≡ old ++ more → IsKept v rows old kept → IsKept v rows new kept
 kept-grown v rows old more new kept are h =
@@ -53,6 +57,7 @@ kept-grown v rows old more new kept are h =
     record {
       numbers = all-grown old more new are kept.numbers.items h.numbers;
       some = h.some;
+      known = subst (AreKnown rows) ss h.known;
       one_key = subst (λ ts. DifferAtOneKey rows ts (first_of new kept) kept) ss (subst (λ b. DifferAtOneKey rows (states_of old kept) b kept) base h.one_key);
       checked = subst (λ ts. AreChecked v rows (unconflicted ts) kept.order.items) ss h.checked;
       below = grown-below old more new kept.resolved are h.below;
@@ -61,17 +66,18 @@ kept-grown v rows old more new kept are h =
 
 -- ---- one state more
 
-pub kept-one-more : (v : RoomVersion) (rows : List Row) → IsSound rows → (old more new : List State) (kept next : KeptResolution) (h : IsKept v rows old kept) (newest x : ℕ) (s : State) → newest < length old
+pub kept-one-more : (v : RoomVersion) (rows : List Row) → IsSound rows → (old more new : List State) (kept next : KeptResolution) (h : IsKept v rows old kept) (newest x : ℕ) (s : State) → AreKnown rows old → newest < length old
     → IsOneMore rows (states_of old kept) s h.one_key.key x → state_at old newest ≡ put key_cmp h.one_key.key x s → (place : ℕ)
     → put_in_order (mainline_cmp rows (agreed_line rows (states_of old kept))) x (events_checked kept.order.items) ≡ take place (events_checked kept.order.items) ++ (x ∷ drop place (events_checked kept.order.items))
     → (o : Outcome) → IsOutcome v rows h.one_key.key x (iterative_auth_checks v rows (unconflicted (states_of old kept)) (take place (events_checked kept.order.items))) (drop place (events_checked kept.order.items)) o
     → (c : CheckedEvent) → c.event ≡ x → c.is_put ≡ is_put_by o → next.numbers.items ≡ kept.numbers.items ++ newest ∷ [] → next.differing ≡ kept.differing → next.order.items ≡ take place kept.order.items ++ c ∷ drop place kept.order.items
     → new ≡ old ++ more → next.resolved < length new → state_at new next.resolved ≡ made_by o h.one_key.key x (state_at old kept.resolved)
     → IsKept v rows new next
-kept-one-more v rows sound old more new kept next h newest x s below one is place placed o outcome c event flag numbers same items are l resolved =
+kept-one-more v rows sound old more new kept next h newest x s known below one is place placed o outcome c event flag numbers same items are l resolved =
     record {
       numbers = subst (All (λ n. n < length new)) (sym numbers) (all-grown old more new are (kept.numbers.items ++ newest ∷ []) all_below);
       some = (let e : length next.numbers.items ≡ length (kept.numbers.items ++ newest ∷ []) = ap length numbers in let f : length (kept.numbers.items ++ newest ∷ []) ≡ length kept.numbers.items + 1 = length-append kept.numbers.items (newest ∷ []) in omega arith);
+      known = subst (AreKnown rows) (sym together) (each-known rows old (kept.numbers.items ++ newest ∷ []) known all_below);
       one_key = subst (λ ts. DifferAtOneKey rows ts (first_of new next) next) (sym ss) (subst (λ b. DifferAtOneKey rows (states_of old kept ++ put key_cmp h.one_key.key x s ∷ []) b next) (sym base)
           (differ-more rows sound v (states_of old kept) (first_of old kept) kept h.one_key h.checked s x one place placed o outcome c event flag next same items));
       checked = subst (λ ts. AreChecked v rows (unconflicted ts) next.order.items) (sym ss) (subst (AreChecked v rows (unconflicted (states_of old kept ++ put key_cmp h.one_key.key x s ∷ []))) (sym items)
@@ -84,9 +90,12 @@ kept-one-more v rows sound old more new kept next h newest x s below one is plac
     all_below : All (λ n. n < length old) (kept.numbers.items ++ newest ∷ [])
     all_below = All-append (λ n. n < length old) kept.numbers.items (newest ∷ []) h.numbers (All-cons (λ n. n < length old) newest [] below (All-nil (λ n. n < length old)))
 
+    together : states_of new next ≡ map (state_at old) (kept.numbers.items ++ newest ∷ [])
+    together = ap (map (state_at new)) numbers ∙ grown-states old more new are (kept.numbers.items ++ newest ∷ []) all_below
+
     ss : states_of new next ≡ states_of old kept ++ put key_cmp h.one_key.key x s ∷ []
     ss =
-        ap (map (state_at new)) numbers ∙ grown-states old more new are (kept.numbers.items ++ newest ∷ []) all_below
+        together
         ∙ map-append (state_at old) kept.numbers.items (newest ∷ []) ∙ ap (λ t. states_of old kept ++ t ∷ []) is
 
     base : first_of new next ≡ first_of old kept
@@ -115,18 +124,15 @@ module _ (v : RoomVersion) (rows longer : List Row) (l : IsLonger rows longer) w
       ap₂ (mainline_order longer) (mainline-longer rows longer l (entry (unconflicted ss) power_key) (find-known key_cmp (λ p. p < length rows) power_key (unconflicted ss) (unconflicted-known rows ss known))) (full-longer rows longer l ss known)
       ∙ mainline_order-longer rows longer l (agreed_line rows ss) (full_conflicted rows ss) (full-events rows ss)
 
-  states-known : (states : List State) (kept : KeptResolution) → AreKnown rows states → All (λ n. n < length states) kept.numbers.items → AreKnown rows (states_of states kept)
-  states-known states kept known h =
-      All-map (λ t. All (λ e. e.1 < length rows) t) (state_at states) kept.numbers.items (λ k d m. All-get_or (λ t. All (λ e. e.1 < length rows) t) states (get_or kept.numbers.items k d) [] (h k d m) known)
-
   -- rows that were added change nothing of it
-  pub kept-longer : (states : List State) (kept : KeptResolution) → AreKnown rows states → IsKept v rows states kept → IsKept v longer states kept
-  kept-longer states kept all_known h =
+  pub kept-longer : (states : List State) (kept : KeptResolution) → IsKept v rows states kept → IsKept v longer states kept
+  kept-longer states kept h =
       let ss = states_of states kept in
-      let known : AreKnown rows ss = states-known states kept all_known h.numbers in
+      let known = h.known in
       record {
         numbers = h.numbers;
         some = h.some;
+        known = λ k d m i e n. (let a : (get_or (get_or ss k d) i e).1 < length rows = h.known k d m i e n in let b = l.more in omega arith);
         one_key = record {
           key = h.one_key.key;
           there = h.one_key.there;

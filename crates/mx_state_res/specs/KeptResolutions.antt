@@ -8,7 +8,7 @@ use Rattle.mx_auth.specs.declared.versions.RoomVersion.{RoomVersion}
 use Rattle.mx_graph.specs.Record.{Row, event}
 use Rattle.mx_orders.specs.StateMap.{State, key_cmp}
 use Rattle.mx_state_res.specs.LaterResolution.{checking_order, is_put, stays}
-use Rattle.mx_state_res.specs.Numbered.{AllAlike, state_at, without}
+use Rattle.mx_state_res.specs.Numbered.{AllAlike, AreKnown, state_at, without}
 use Rattle.mx_state_res.specs.Resolution.{after_check, full_conflicted, power_events, resolve, unconflicted}
 use Rattle.mx_state_res.specs.declared.kept_resolutions.KeptResolution.{KeptResolution}
 use Rattle.mx_state_res.specs.declared.kept_resolutions.checked_events.CheckedEvent.{CheckedEvent}
@@ -82,6 +82,7 @@ pub record DifferAtOneKey (rows : List Row) (ss : List State) (base : State) (ke
 pub record IsKept (v : RoomVersion) (rows : List Row) (states : List State) (kept : KeptResolution) : Type 0 where
   pub numbers : All (λ n. n < length states) kept.numbers.items
   pub some : 0 < length kept.numbers.items
+  pub known : AreKnown rows (states_of states kept)
   pub one_key : DifferAtOneKey rows (states_of states kept) (first_of states kept) kept
   pub checked : AreChecked v rows (unconflicted (states_of states kept)) kept.order.items
   pub below : kept.resolved < length states

@@ -28,7 +28,7 @@ returns c =
     ap (power_events rows) (sym c.deref.ensures.value) ∙ sym c.in_ok-power_events.ensures.set ∙ none-left powers c.in_ok-power_events.field-0.len c.in_ok-power_events.field-0.ok.0 (sym c.is_empty-2.ensures ∙ c.if-not-is_empty-2.false) in
     let at : All (λ (p : ℕ). key_of (event rows p) ≡ Some e.0) full =
     subst (All (λ (p : ℕ). key_of (event rows p) ≡ Some e.0)) c.deref-else-not-is_empty-2.ensures.value (c.are_all_at.ensures (c.if-not-are_all_at.false)) in
-    first-record v rows states base c.in-Some.field-0-1.now numbers c.in-Some.ensures.cases.0 c.requires.numbers c.all_are_sorted.ensures d c.entries.ensures.sorted c.in_ok-differing.ensures e only
+    first-record v rows states base c.in-Some.field-0-1.now numbers c.in-Some.ensures.cases.0 c.requires.numbers c.requires.known c.all_are_sorted.ensures d c.entries.ensures.sorted c.in_ok-differing.ensures e only
     full c.in_ok-full.ensures.set c.in_ok-full.ensures.known no_power at _ c.in_ok-numbers.ensures.items refl
     (c.in_ok-order.ensures.order ∙ ap (mainline_order rows (mainline rows (entry (without d (state_at states base)) power_key))) c.deref-2.ensures.value)
     c.in_ok-order.ensures.checked c.requires.below c.requires.resolved

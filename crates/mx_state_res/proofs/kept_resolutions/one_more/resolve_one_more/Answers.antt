@@ -51,5 +51,5 @@ returns-clause-kept c =
     let outcome : IsOutcome v rows one.key x (iterative_auth_checks v rows (unconflicted ss) (take c.in-Some-3.place events)) (drop c.in-Some-3.place events) c.in-Some-3.outcome =
     subst (λ o. IfSome o (λ (found : ℕ × Outcome). IsOutcome v rows one.key x (iterative_auth_checks v rows (unconflicted ss) (take found.0 events)) (drop found.0 events) found.1)) c.in-Some-3.is (c.in_ok-place.ensures.outcome one.key one.there one.differing) in
     let added = c.in_ok-resolved.ensures.added rows told.1.known c.requires.known in
-    kept-one-more v rows c.graph_is_sound.ensures states added.more c.resolved_by.new.states kept _ c.requires.kept newest x told.0 below told.1 told.2 c.in-Some-3.place placed c.in-Some-3.outcome outcome
+    kept-one-more v rows c.graph_is_sound.ensures states added.more c.resolved_by.new.states kept _ c.requires.kept newest x told.0 c.requires.known below told.1 told.2 c.in-Some-3.place placed c.in-Some-3.outcome outcome
     (record { event = x; is_put = c.is_put-is_put.result }) refl c.is_put-is_put.ensures c.in_ok-push.ensures.items refl c.in_ok-insert.ensures.items added.are c.in_ok-resolved.ensures.number (c.in_ok-resolved.ensures.resolved one.key one.there one.differing)
