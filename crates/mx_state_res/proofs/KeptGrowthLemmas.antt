@@ -1,6 +1,6 @@
 -- What is kept of a resolution, as its room grows.
 use Rattle.std.proofs.Common.{◌≡◌, ◌+◌, ◌<◌, ◌&&◌, ℕ, suc, true, false, List, [], ◌∷◌, ◌++◌, map, length, take, drop, slice_index_or, refl, sym, ap, ap₂, subst, ◌∙◌, arith}
-use Rattle.std.specs.Prelude.{get_or, is_none, if◌then◌else◌}
+use Rattle.std.specs.Prelude.{IfSome, None, Option, Some, get_or, is_none, if◌then◌else◌}
 use Rattle.std.specs.List.{All}
 use Rattle.std.specs.FinMap.Entries.{put}
 use Rattle.std.proofs.lemmas.List.{get_or_append_left, length-append, map-append}
@@ -63,6 +63,10 @@ kept-grown v rows old more new kept are h =
       below = grown-below old more new kept.resolved are h.below;
       resolved = grown-at old more new kept.resolved are h.below ∙ h.resolved ∙ ap (resolve v rows) ss;
     }
+
+pub option-grown : (v : RoomVersion) (rows : List Row) (old more new : List State) → new ≡ old ++ more → (o : Option KeptResolution) → IfSome o (IsKept v rows old) → IfSome o (IsKept v rows new)
+option-grown v rows old more new are None h = tt
+option-grown v rows old more new are (Some kept) h = kept-grown v rows old more new kept are h
 
 -- ---- one state more
 

@@ -22,7 +22,7 @@ mod first_records;
 mod one_more;
 pub(crate) mod outcomes;
 
-// Fewer states than these are resolved from nothing.
+// Of fewer states than these nothing is kept.
 const FEWEST_STATES: usize = 8;
 
 /// What is kept of the resolution of some of a room's states, so that with one state more it is worked out from there.
@@ -39,7 +39,8 @@ pub struct KeptResolution {
 }
 
 /// [`resolve_numbered`], from the resolution that is kept, where it is that of all states but the last, and tells the
-/// answer. What is kept afterwards is of these states, or nothing.
+/// answer. What is kept afterwards is of these states, or nothing. Fewer than eight states are resolved from nothing, and
+/// what is kept stays.
 ///
 /// `AllocError` where no memory is left.
 ///
@@ -61,6 +62,9 @@ pub fn resolve_keeping(
     ensures added { AreAdded graph.now states.old states.new }
     ensures kept { IfSome kept.new (IsKept version graph.now states.new) }
 {
+    if numbers.len() < FEWEST_STATES {
+        return resolve_numbered(version, alloc, graph, states, numbers);
+    }
     let Some(last) = kept.take() else {
         return resolve_anew(version, alloc, graph, states, numbers, kept);
     };
@@ -72,7 +76,7 @@ pub fn resolve_keeping(
     Ok(state)
 }
 
-// The same from nothing, with nothing kept. Of many states it is kept.
+// The same from nothing, with nothing kept.
 fn resolve_anew(
     version: RoomVersion,
     alloc: Global,
@@ -91,8 +95,6 @@ fn resolve_anew(
     ensures kept { IfSome kept.new (IsKept version graph.now states.new) }
 {
     let state = resolve_numbered(version, alloc, graph, states, numbers)?;
-    if numbers.len() >= FEWEST_STATES {
-        *kept = kept_resolution(version, alloc, graph, states, numbers, state)?;
-    }
+    *kept = kept_resolution(version, alloc, graph, states, numbers, state)?;
     Ok(state)
 }

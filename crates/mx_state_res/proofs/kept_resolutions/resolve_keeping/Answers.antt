@@ -4,7 +4,7 @@ use Rattle.mx_state_res.specs.KeptResolutions.{IsKept}
 use Rattle.mx_state_res.specs.Numbered.{state_at}
 use Rattle.mx_state_res.specs.Resolution.{resolve}
 use Rattle.mx_state_res.specs.declared.kept_resolutions.KeptResolution.{KeptResolution}
-use Rattle.mx_state_res.proofs.KeptGrowthLemmas.{grown-states}
+use Rattle.mx_state_res.proofs.KeptGrowthLemmas.{grown-states, option-grown}
 use Rattle.mx_state_res.proofs.kept_resolutions.resolve_keeping.Goals as goal
 
 pub returns-clause-resolved : goal.returns-clause-resolved
@@ -17,3 +17,7 @@ returns-clause-resolved c =
     let numbers : c.in-Some-2.last.numbers.items ≡ c.args.numbers.now = subst (λ o. IfSome o (λ (k : KeptResolution). k.numbers.items ≡ c.args.numbers.now)) c.in-Some-2.is c.in_ok-last.ensures.numbers in
     is.resolved ∙ ap (λ ns. resolve v rows (map (state_at new) ns)) numbers
     ∙ ap (resolve v rows) (grown-states c.args.states.now added.more new added.are c.args.numbers.now c.requires.numbers)
+
+pub returns-then-numbers-lt-FEWEST_STATES-clause-kept : goal.returns-then-numbers-lt-FEWEST_STATES-clause-kept
+returns-then-numbers-lt-FEWEST_STATES-clause-kept c =
+    option-grown c.args.version c.args.graph.now c.args.states.now c.resolve_numbered.ensures.added.more c.resolve_numbered.new.states c.resolve_numbered.ensures.added.are c.args.kept.now c.requires.kept
