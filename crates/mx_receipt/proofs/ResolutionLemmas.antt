@@ -26,7 +26,7 @@ use Rattle.mx_graph.proofs.LongerRecordLemmas.{longer-push}
 use Rattle.mx_auth.specs.Rules.{Key}
 use Rattle.mx_state_res.specs.KeptResolutions.{IsKept, states_of}
 use Rattle.mx_state_res.specs.declared.kept_resolutions.KeptResolution.{KeptResolution}
-use Rattle.mx_state_res.proofs.KeptGrowthLemmas.{kept-grown, kept-longer}
+use Rattle.mx_state_res.proofs.KeptGrowthLemmas.{kept-longer, option-grown}
 use Rattle.mx_receipt.specs.Receipt.{created_version, resolve_in, version_in}
 use Rattle.mx_receipt.specs.Resolutions.{AreResolutions, AreRight, IsResolution}
 use Rattle.mx_receipt.specs.declared.resolution_cache.ResolutionCache.{ResolutionCache}
@@ -103,12 +103,8 @@ pub right-empty : (rows : List Row) (states : List State) (cache : ResolutionCac
 right-empty rows states cache empty none =
     (λ e m. absurd (Contains-nil e (subst (λ es. Contains es e) empty m)), subst (λ o. IfSome o (IsKept (version_in rows) rows states)) (sym none) tt)
 
-last-grown : (rows : List Row) (old more new : List State) → new ≡ old ++ more → (o : Option KeptResolution) → IfSome o (IsKept (version_in rows) rows old) → IfSome o (IsKept (version_in rows) rows new)
-last-grown rows old more new are None h = tt
-last-grown rows old more new are (Some kept) h = kept-grown (version_in rows) rows old more new kept are h
-
 pub right-grown : (rows : List Row) (old more new : List State) (cache : ResolutionCache) → new ≡ old ++ more → AreRight rows old cache → AreRight rows new cache
-right-grown rows old more new cache are h = (λ e m. resolution-grown rows old more new are e.0.items e.1 (h.0 e m), last-grown rows old more new are cache.last h.1)
+right-grown rows old more new cache are h = (λ e m. resolution-grown rows old more new are e.0.items e.1 (h.0 e m), option-grown (version_in rows) rows old more new are cache.last h.1)
 
 -- of a record without events nothing is kept
 alike-empty : (k : Key) (ss : List State) → AreKnown [] ss → AllAlike k ss
