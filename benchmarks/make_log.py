@@ -1,8 +1,9 @@
 #!/usr/bin/env python3
 """Makes logs for `mx_federd replay`, for measuring, with true ids and hashes, and signatures of the presence form.
 
-    make_log.py --shape linear|fork|conflict|joins|wide|soft --events N [--members 50] [--batch 50]
-                 [--form step|call] [--ask COUNT] [--seed 1] [--body BYTES] [--room ID] > log
+    make_log.py --shape linear|fork|conflict|joins|wide|soft|siblings|members|topics|bans|ladder --events N
+                 [--members 50] [--batch 50] [--form step|call] [--times rising|falling|random] [--ask COUNT]
+                 [--seed 1] [--body BYTES] [--room ID] > log
     make_log.py --check-power BYTES > event       (one power levels event for `check`)
 
 linear    a base room, then N messages, each after the one before.
@@ -12,10 +13,17 @@ conflict  rounds of eight: two power levels, a ban and two topics, all on the la
           that merges the five; the unban and the new join of the banned member.
 joins     N new members join, one after the other: each event changes the state.
 wide      N messages that all follow the same event: N forward extremities.
+siblings  one member joins again N times, each time on the same event with another name: N forward extremities, whose
+          states differ at one key.
+members   the same, three members in turn: the states differ at three keys.
+topics    N topics by moderators on the same event.
+bans      one moderator bans and unbans a member N times, each time on the same event.
+ladder    two members rename themselves side by side, and the next two renames each cite both.
 soft      A moderator is demoted; N topics of hers follow one another on the other side of a fork.
 
 In `soft` the topics are soft failed; every other event is accepted. Each transaction is an open line, its next lines
-and a close line, or with `call` the line of a request. The base room isn't counted in N. `--ask` adds lines that ask a
+and a close line, or with `call` the line of a request. The base room isn't counted in N. `--times` are the
+timestamps of the events past the base room. `--ask` adds lines that ask a
 query about the last event, so many of them, of the kind that `--kind` names.
 """
 
@@ -27,6 +35,7 @@ import random
 import sys
 import urllib.parse
 
+SHAPES = ["linear", "fork", "conflict", "joins", "wide", "soft", "siblings", "members", "topics", "bans", "ladder"]
 NAME = "hub.example"
 ROOM = "!room:s0.example"
 KEPT = {
@@ -96,7 +105,7 @@ class Room:
             "content": content,
             "depth": 1 + max((self.depths[other] for other in prev), default=0),
             "origin": sender.partition(":")[2],
-            "origin_server_ts": self.now,
+            "origin_server_ts": self.time(),
             "prev_events": prev,
             "room_id": self.options.room,
             "sender": sender,
@@ -109,6 +118,12 @@ class Room:
         self.depths[id_] = event["depth"]
         self.events.append(event)
         return id_
+
+    def time(self):
+        if not hasattr(self, "base") or self.options.times == "rising":
+            return self.now
+        count = self.now - 1000 * self.base
+        return 3_200_000_000_000 - count if self.options.times == "falling" else 1_600_000_000_000 + self.random.randrange(10**9)
 
     def auth(self, sender, *more):
         return [self.create, self.power, self.member[sender], *more]
@@ -165,6 +180,33 @@ class Room:
 
     def wide(self):
         self.message(self.random.choice(self.users), [self.tip])
+
+    def rename(self, user, prev, before):
+        return self.add("m.room.member", user, prev, [self.create, self.power, self.rules, before],
+                        {"displayname": "n%d" % len(self.events), "membership": "join"}, user)
+
+    def siblings(self):
+        self.rename(self.users[-1], [self.tip], self.member[self.users[-1]])
+
+    def members(self):
+        user = self.users[-1 - len(self.events) % 3]
+        self.rename(user, [self.tip], self.member[user])
+
+    def topics(self):
+        self.topic(self.mods[len(self.events) % 3], [self.tip])
+
+    def bans(self):
+        target = self.users[-1]
+        content = {"membership": "ban" if len(self.events) % 2 else "leave", "reason": "%d" % len(self.events)}
+        self.add("m.room.member", self.mods[0], [self.tip], self.auth(self.mods[0], self.member[target]), content, target)
+
+    def ladder(self):
+        if len(self.events) == self.base:
+            self.tips = [self.tip]
+        prev, one, other = self.tips, self.users[-1], self.users[-2]
+        left, right = self.rename(one, prev, self.member[one]), self.rename(other, prev, self.member[other])
+        self.member[one], self.member[other] = left, right
+        self.tips = [left, right]
 
     def soft(self):
         if len(self.events) == self.base:
@@ -241,11 +283,12 @@ def power_event(size):
 
 def main():
     parser = argparse.ArgumentParser()
-    parser.add_argument("--shape", choices=["linear", "fork", "conflict", "joins", "wide", "soft"], default="linear")
+    parser.add_argument("--shape", choices=SHAPES, default="linear")
     parser.add_argument("--events", type=int, default=1000)
     parser.add_argument("--members", type=int, default=50)
     parser.add_argument("--batch", type=int, default=50)
     parser.add_argument("--form", choices=["step", "call"], default="step")
+    parser.add_argument("--times", choices=["rising", "falling", "random"], default="rising")
     parser.add_argument("--ask", type=int, default=0)
     parser.add_argument("--kind", default="event")
     parser.add_argument("--seed", type=int, default=1)

@@ -13,8 +13,8 @@ use Rattle.lru.proofs.CallerLemmas.{Contains-lookup, Contains-put_entries}
 use Rattle.lru.proofs.Splits.{Contains-nil}
 use Rattle.mx_graph.specs.Graph.{IsSound}
 use Rattle.mx_graph.specs.Record.{Row, is_in}
-use Rattle.mx_orders.specs.StateMap.{State}
-use Rattle.mx_state_res.specs.Numbered.{AreAdded, AreKnown, state_at}
+use Rattle.mx_orders.specs.StateMap.{State, entry}
+use Rattle.mx_state_res.specs.Numbered.{AllAlike, AreAdded, AreKnown, state_at}
 use Rattle.mx_state_res.specs.Resolution.{resolve}
 use Rattle.mx_state_res.proofs.ChangeLemmas.{resolve-none}
 use Rattle.mx_state_res.proofs.EqualStateLemmas.{resolve-same}
@@ -22,8 +22,13 @@ use Rattle.mx_state_res.proofs.KeyLemmas.{Sorted}
 use Rattle.mx_state_res.proofs.LongerRecordLemmas.{resolve-longer}
 use Rattle.mx_auth.specs.declared.versions.RoomVersion.{RoomVersion}
 use Rattle.mx_auth.specs.declared.versions.RoomVersion.TheVariants.{V6}
-use Rattle.mx_receipt.specs.Receipt.{created_version, resolve_in}
-use Rattle.mx_receipt.specs.Resolutions.{AreRight, IsResolution}
+use Rattle.mx_graph.proofs.LongerRecordLemmas.{longer-push}
+use Rattle.mx_auth.specs.Rules.{Key}
+use Rattle.mx_state_res.specs.KeptResolutions.{IsKept, states_of}
+use Rattle.mx_state_res.specs.declared.kept_resolutions.KeptResolution.{KeptResolution}
+use Rattle.mx_state_res.proofs.KeptGrowthLemmas.{kept-longer, option-grown}
+use Rattle.mx_receipt.specs.Receipt.{created_version, resolve_in, version_in}
+use Rattle.mx_receipt.specs.Resolutions.{AreResolutions, AreRight, IsResolution}
 use Rattle.mx_receipt.specs.declared.resolution_cache.ResolutionCache.{ResolutionCache}
 use Rattle.mx_receipt.proofs.HeldLemmas.{grown-length, grown-state, known-longer, one-longer}
 
@@ -94,20 +99,31 @@ resolution-longer rows r states ns s sound after h = record {
 
 -- ---- a cache of them
 
-pub right-empty : (rows : List Row) (states : List State) (cache : ResolutionCache) → cache.resolutions.entries ≡ [] → AreRight rows states cache
-right-empty rows states cache empty = λ e m. absurd (Contains-nil e (subst (λ es. Contains es e) empty m))
+pub right-empty : (rows : List Row) (states : List State) (cache : ResolutionCache) → cache.resolutions.entries ≡ [] → cache.last ≡ None → AreRight rows states cache
+right-empty rows states cache empty none =
+    (λ e m. absurd (Contains-nil e (subst (λ es. Contains es e) empty m)), subst (λ o. IfSome o (IsKept (version_in rows) rows states)) (sym none) tt)
 
 pub right-grown : (rows : List Row) (old more new : List State) (cache : ResolutionCache) → new ≡ old ++ more → AreRight rows old cache → AreRight rows new cache
-right-grown rows old more new cache are h = λ e m. resolution-grown rows old more new are e.0.items e.1 (h e m)
+right-grown rows old more new cache are h = (λ e m. resolution-grown rows old more new are e.0.items e.1 (h.0 e m), option-grown (version_in rows) rows old more new are cache.last h.1)
+
+-- of a record without events nothing is kept
+alike-empty : (k : Key) (ss : List State) → AreKnown [] ss → AllAlike k ss
+alike-empty k [] known = tt
+alike-empty k (s ∷ ss) known = λ i d l. (λ j. entry (no_events (get_or ss i d) (known (suc i) d (omega arith)) j) k) ∙ (λ j. entry (sym (no_events s (known 0 s (omega arith))) j) k)
+
+last-longer : (rows : List Row) (r : Row) (states : List State) → IsSound rows → IsSound (rows ++ r ∷ []) → (o : Option KeptResolution) → IfSome o (IsKept (version_in rows) rows states) → IfSome o (IsKept (version_in (rows ++ r ∷ [])) (rows ++ r ∷ []) states)
+last-longer rows r states sound after None h = tt
+last-longer [] r states sound after (Some kept) h = absurd (h.one_key.apart (alike-empty h.one_key.key (states_of states kept) h.known))
+last-longer (q ∷ rows) r states sound after (Some kept) h = kept-longer (created_version q.event) (q ∷ rows) (q ∷ rows ++ r ∷ []) (longer-push (q ∷ rows) r sound after) states kept h
 
 pub right-longer : (rows : List Row) (r : Row) (states : List State) (cache : ResolutionCache) → IsSound rows → IsSound (rows ++ r ∷ []) → AreRight rows states cache → AreRight (rows ++ r ∷ []) states cache
-right-longer rows r states cache sound after h = λ e m. resolution-longer rows r states e.0.items e.1 sound after (h e m)
+right-longer rows r states cache sound after h = (λ e m. resolution-longer rows r states e.0.items e.1 sound after (h.0 e m), last-longer rows r states sound after cache.last h.1)
 
 -- with the entries of another one, and one that was found
-pub right-put : (rows : List Row) (old new : List State) (cache after : ResolutionCache) (ns : List ℕ) (s : ℕ) → AreAdded rows old new → AreKnown rows old → AreRight rows old cache
+pub right-put : (rows : List Row) (old new : List State) (cache after : ResolutionCache) (ns : List ℕ) (s : ℕ) → AreAdded rows old new → AreKnown rows old → AreResolutions rows old cache
     → All (λ n. n < length old) ns → s < length new → state_at new s ≡ resolve_in rows (map (state_at old) ns)
     → ((e : Vec ℕ Global × ℕ) → Contains after.resolutions.entries e → Contains cache.resolutions.entries e ⊎ ((e.0.items ≡ ns) × (e.1 ≡ s)))
-    → AreRight rows new after
+    → AreResolutions rows new after
 right-put rows old new cache after ns s added known h below l is put = λ e m. by e (put e m)
   where
     by : (e : Vec ℕ Global × ℕ) → Contains cache.resolutions.entries e ⊎ ((e.0.items ≡ ns) × (e.1 ≡ s)) → IsResolution rows new e.0.items e.1

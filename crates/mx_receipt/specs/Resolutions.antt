@@ -1,11 +1,12 @@
 -- For proofs and private clauses alone.
 -- What a cache of resolutions says of a room's states.
-use Rattle.std.specs.Prelude.{◌≡◌, ◌<◌, ℕ, List, All, Contains, Vec, length, map}
+use Rattle.std.specs.Prelude.{◌≡◌, ◌<◌, ℕ, List, All, Contains, IfSome, Vec, length, map}
 use Rattle.std.specs.declared.alloc.Global.{Global}
 use Rattle.mx_graph.specs.Record.{Row}
 use Rattle.mx_orders.specs.StateMap.{State}
 use Rattle.mx_state_res.specs.Numbered.{AreKnown, state_at}
-use Rattle.mx_receipt.specs.Receipt.{resolve_in}
+use Rattle.mx_state_res.specs.KeptResolutions.{IsKept}
+use Rattle.mx_receipt.specs.Receipt.{resolve_in, version_in}
 use Rattle.mx_receipt.specs.declared.resolution_cache.ResolutionCache.{ResolutionCache}
 
 -- states by their numbers, and the one that they resolve to
@@ -15,6 +16,9 @@ pub record IsResolution (rows : List Row) (states : List State) (numbers : List 
   pub known : AreKnown rows (map (state_at states) numbers)
   pub resolved : state_at states state ≡ resolve_in rows (map (state_at states) numbers)
 
--- each entry is a resolution
+-- each entry is a resolution, and what is kept of the last one is so
+abbrev pub AreResolutions : List Row → List State → ResolutionCache → Type 0
+AreResolutions rows states cache = (e : Vec ℕ Global × ℕ) → Contains cache.resolutions.entries e → IsResolution rows states e.0.items e.1
+
 abbrev pub AreRight : List Row → List State → ResolutionCache → Type 0
-AreRight rows states cache = (e : Vec ℕ Global × ℕ) → Contains cache.resolutions.entries e → IsResolution rows states e.0.items e.1
+AreRight rows states cache = AreResolutions rows states cache × IfSome cache.last (IsKept (version_in rows) rows states)

@@ -8,7 +8,7 @@ ghost use Rattle.mx_receipt.specs.Resolutions.{AreRight};
 use crate::room_states::version_in;
 use lru::LruCache;
 use mx_graph::{Graph, graph_is_sound};
-use mx_state_res::{StateNo, States, resolve_numbered};
+use mx_state_res::{KeptResolution, StateNo, States, resolve_keeping, resolve_numbered};
 use std::alloc::{AllocError, Global};
 use std::num::NonZeroUsize;
 
@@ -20,19 +20,25 @@ const MOST_RESOLUTIONS: usize = 256;
 pub(crate) struct ResolutionCache {
     // The number of a state, by those of the states that resolve to it, each once and rising.
     resolutions: LruCache<Vec<StateNo>, StateNo>,
+    // What is kept of the last one of many states.
+    last: Option<KeptResolution>,
 }
 
 impl ResolutionCache {
-    ghost use Rattle.std.specs.Prelude.{◌≡◌, ◌⊎◌, Contains, IfOk, IfSome, Vec, [], ℕ};
+    ghost use Rattle.std.specs.Prelude.{◌≡◌, ◌⊎◌, Contains, IfOk, IfSome, None, Vec, [], ℕ};
     ghost use Rattle.std.specs.declared.alloc.Global.{Global as Heap};
 
     /// A cache with no resolutions.
     pub fn new(alloc: Global) -> Result<ResolutionCache, AllocError>
-        ensures { IfOk result (λ cache. cache.resolutions.entries ≡ []) }
+        ensures entries { IfOk result (λ cache. cache.resolutions.entries ≡ []) }
+        ensures last { IfOk result (λ cache. cache.last ≡ None) }
     {
         let most = NonZeroUsize::new(MOST_RESOLUTIONS).unwrap();
         let resolutions = LruCache::sparse(alloc, most)?;
-        Ok(ResolutionCache { resolutions })
+        Ok(ResolutionCache {
+            resolutions,
+            last: None,
+        })
     }
 
     /// The state that these states resolve to, where it is there. It takes no memory.
@@ -41,14 +47,16 @@ impl ResolutionCache {
             × Contains self.old.resolutions.entries (key, state) × (key.items ≡ numbers.now)) }
         ensures stay { (e : Vec ℕ Heap × ℕ) → Contains self.new.resolutions.entries e
             → Contains self.old.resolutions.entries e }
+        ensures last { self.new.last ≡ self.old.last }
     {
         self.resolutions.get(numbers).copied()
     }
 
     /// Puts the state that these states resolve to. Where no memory is left it is not put.
     pub fn put(&mut self, mut numbers: Vec<StateNo>, state: StateNo)
-        ensures { (e : Vec ℕ Heap × ℕ) → Contains self.new.resolutions.entries e
+        ensures entries { (e : Vec ℕ Heap × ℕ) → Contains self.new.resolutions.entries e
             → Contains self.old.resolutions.entries e ⊎ ((e.0.items ≡ numbers.items) × (e.1 ≡ state)) }
+        ensures last { self.new.last ≡ self.old.last }
     {
         // The list was made for a number of each event.
         numbers.shrink_to_fit();
@@ -57,9 +65,11 @@ impl ResolutionCache {
 
     /// Gives up all resolutions. It takes no memory.
     pub fn clear(&mut self)
-        ensures { self.new.resolutions.entries ≡ [] }
+        ensures entries { self.new.resolutions.entries ≡ [] }
+        ensures last { self.new.last ≡ None }
     {
         self.resolutions.clear();
+        self.last = None;
     }
 }
 
@@ -75,7 +85,7 @@ pub(crate) fn each_once(mut numbers: Vec<StateNo>) -> Vec<StateNo>
 }
 
 /// The one state that some of a room's states resolve to, by its number: it is looked up, and resolved where it is not
-/// there. See [`resolve_numbered`].
+/// there. What is kept of the last one may tell it. See [`resolve_keeping`].
 pub(crate) fn resolve_cached(
     alloc: Global,
     graph: &Graph,
@@ -99,7 +109,14 @@ pub(crate) fn resolve_cached(
     if let Some(state) = resolutions.get(&numbers) {
         return Ok(state);
     }
-    let state = resolve_numbered(version_in(graph), alloc, graph, states, &numbers)?;
+    let state = resolve_keeping(
+        version_in(graph),
+        alloc,
+        graph,
+        states,
+        &numbers,
+        &mut resolutions.last,
+    )?;
     resolutions.put(numbers, state);
     Ok(state)
 }

@@ -16,7 +16,7 @@ use Rattle.mx_state_res.proofs.LaterStateLemmas.{sorted-put}
 
 -- ---- two events put
 
-put-twice : (k : Key) (x p : ℕ) (s : State) → Sorted s → put key_cmp k p (put key_cmp k x s) ≡ put key_cmp k p s
+pub put-twice : (k : Key) (x p : ℕ) (s : State) → Sorted s → put key_cmp k p (put key_cmp k x s) ≡ put key_cmp k p s
 put-twice k x p s h =
     same-states (put key_cmp k p (put key_cmp k x s)) (put key_cmp k p s) (sorted-put k p (put key_cmp k x s) (sorted-put k x s h)) (sorted-put k p s h)
     (λ q. entry-put q k p (put key_cmp k x s) ∙ ap (cond (is_eq (key_cmp q k)) (Some p)) (entry-put q k x s) ∙ by (is_eq (key_cmp q k)) (entry s q) ∙ sym (entry-put q k p s))

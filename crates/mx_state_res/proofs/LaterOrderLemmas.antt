@@ -1,5 +1,5 @@
 -- The order of events to which one more is added is their order with it put in.
-use Rattle.std.proofs.Common.{◌≡◌, ℕ, zero, suc, ◌+◌, ◌==◌, ◌≤◌, ◌<◌, true, false, ◌||◌, ◌⊎◌, inl, inr, List, [], ◌∷◌, length, refl, sym, ap, subst, ◌∙◌, arith, eq-eqb, eqb-true}
+use Rattle.std.proofs.Common.{◌≡◌, ℕ, zero, suc, ◌+◌, ◌==◌, ◌≤◌, ◌<◌, true, false, ◌||◌, ◌⊎◌, inl, inr, List, [], ◌∷◌, length, slice_index_or, refl, sym, ap, subst, ◌∙◌, arith, eq-eqb, eqb-true}
 use Rattle.std.specs.declared.cmp.Ordering.{Ordering}
 use Rattle.std.specs.declared.cmp.Ordering.TheVariants.{Less, Equal, Greater}
 use Rattle.std.specs.Ordering.{is_gt, ordering_reverse}
@@ -7,7 +7,7 @@ use Rattle.std.specs.Cmp.{IsTotalOrder, tied_itself}
 use Rattle.std.specs.List.{range_with_len}
 use Rattle.mx_graph.specs.Record.{Row, is_in, places}
 use Rattle.mx_graph.specs.Graph.{IsSound}
-use Rattle.mx_graph.proofs.Closure.{or_cases, or_left, or_right, range-parts, is_in-from, is_in-to}
+use Rattle.mx_graph.proofs.Closure.{one_answer, or_cases, or_left, or_right, range-parts, is_in-from, is_in-to}
 use Rattle.mx_orders.specs.Mainline.{put_in_order, sorted, mainline_cmp, mainline_order}
 use Rattle.mx_orders.proofs.Members.{In, Distinct, filter-distinct}
 use Rattle.mx_orders.proofs.LeastOrder.{TellsApart}
@@ -99,3 +99,31 @@ pub order-later : (rows : List Row) → IsSound rows → (line xs ys : List ℕ)
 unfolding mainline_order
 order-later rows sound line xs ys x known d e new same =
     sorted-later (mainline_cmp rows line) (mainline_cmp-total rows line) xs ys x (mainline_cmp-tells rows line sound ys known) d e new same
+
+-- ---- the order of a mainline
+
+pub order-members : (rows : List Row) (line xs : List ℕ) → Distinct xs → (p : ℕ) → is_in (mainline_order rows line xs) p ≡ is_in xs p
+unfolding mainline_order
+order-members rows line xs d p =
+    let same = sorted-permutes (mainline_cmp rows line) (mainline_cmp-total rows line) xs d in
+    one_answer (is_in (sorted (mainline_cmp rows line) xs) p) (is_in xs p)
+    (λ e. is_in-from p xs (same.within p (is_in-to p (sorted (mainline_cmp rows line) xs) e)))
+    (λ e. is_in-from p (sorted (mainline_cmp rows line) xs) (same.whole p (is_in-to p xs e)))
+
+module _ (cmp : ℕ → ℕ → Ordering) (o : IsTotalOrder cmp) where
+  there : (xs : List ℕ) (i : ℕ) → i < length xs → In (slice_index_or xs i 0) xs
+  there [] i l = absurd (omega arith)
+  there (x ∷ xs) zero l = inl refl
+  there (x ∷ xs) (suc i) l = inr (there xs i (omega arith))
+
+  rising-in-order : (xs : List ℕ) → Rising cmp o xs → (i j : ℕ) → i ≤ j → j < length xs → is_gt (cmp (slice_index_or xs i 0) (slice_index_or xs j 0)) ≡ false
+  rising-in-order [] r i j h l = absurd (omega arith)
+  rising-in-order (x ∷ xs) r zero zero h l = ap is_gt (tied_itself o x)
+  rising-in-order (x ∷ xs) r zero (suc j) h l = r.0 (slice_index_or xs j 0) (there xs j (omega arith))
+  rising-in-order (x ∷ xs) r (suc i) zero h l = absurd (omega arith)
+  rising-in-order (x ∷ xs) r (suc i) (suc j) h l = rising-in-order xs r.1 i j (omega arith) (omega arith)
+
+pub order-in-order : (rows : List Row) (line xs : List ℕ) (i j : ℕ) → i ≤ j → j < length (mainline_order rows line xs)
+    → is_gt (mainline_cmp rows line (slice_index_or (mainline_order rows line xs) i 0) (slice_index_or (mainline_order rows line xs) j 0)) ≡ false
+unfolding mainline_order
+order-in-order rows line xs = rising-in-order (mainline_cmp rows line) (mainline_cmp-total rows line) (sorted (mainline_cmp rows line) xs) (sorted-rising (mainline_cmp rows line) (mainline_cmp-total rows line) xs)

@@ -44,3 +44,7 @@ pub mod LaterCheckLemmas
 pub mod LaterResolutionLemmas
 pub mod KeyOrderLemmas
 pub mod KeyEventLemmas
+pub mod KeptResolutionLemmas
+pub mod OneMoreLemmas
+pub mod KeptGrowthLemmas
+pub mod FirstRecordLemmas

@@ -40,14 +40,14 @@ module _ (rows : List Row) where
   each-known : (states : List State) → AreKnown rows states → (s : State) → In s states → IsKnown s
   each-known states known s m = all-at (λ s. IsKnown s) states known s m
 
-  unconflicted-known : (states : List State) → AreKnown rows states → IsKnown (unconflicted states)
+  pub unconflicted-known : (states : List State) → AreKnown rows states → IsKnown (unconflicted states)
   unfolding unconflicted
   unconflicted-known [] known = all-of (λ e. e.1 < length rows) [] (λ e m. absurd m)
   unconflicted-known (s ∷ states) known =
       all-of (λ e. e.1 < length rows) (filter (in_every states) s)
       (λ e m. all-at (λ e. e.1 < length rows) s (each-known (s ∷ states) known s (inl refl)) e (in_filter-parts (in_every states) e s m).0)
 
-  full-events : (states : List State) → AreEvents rows (full_conflicted rows states)
+  pub full-events : (states : List State) → AreEvents rows (full_conflicted rows states)
   full-events states p m = all-at (λ p. p < length rows) (full_conflicted rows states) (full-known rows states) p m
 
   power_events-events : (full : List ℕ) → AreEvents rows full → AreEvents rows (power_events rows full)
@@ -58,7 +58,7 @@ module _ (rows : List Row) where
   with-known s None p known h = known
   with-known s (Some key) p known h = put-known key_cmp (λ q. q < length rows) key p s h known
 
-  after_check-known : (v : RoomVersion) (s : State) (p : ℕ) → IsKnown s → p < length rows → IsKnown (after_check v rows s p)
+  pub after_check-known : (v : RoomVersion) (s : State) (p : ℕ) → IsKnown s → p < length rows → IsKnown (after_check v rows s p)
   unfolding after_check
   after_check-known v s p known h = by (is_state (event rows p) && is_allowed v rows s (event rows p))
     where
@@ -137,7 +137,7 @@ module _ (rows longer : List Row) (l : IsLonger rows longer) where
   either-known None b h k = k
   either-known (Some p) b h k = h
 
-  judged_in-longer : (v : RoomVersion) (s : State) (p : ℕ) → IsKnown rows s → p < length rows → judged_in v longer s (event longer p) ≡ judged_in v rows s (event rows p)
+  pub judged_in-longer : (v : RoomVersion) (s : State) (p : ℕ) → IsKnown rows s → p < length rows → judged_in v longer s (event longer p) ≡ judged_in v rows s (event rows p)
   judged_in-longer v s p known h =
       ap (view_by longer) (λ i key. option_or (entry s key) (usable-longer v p key h i))
       ∙ view_by-longer rows longer l (λ key. option_or (entry s key) (usable_auth_event v rows (event rows p) key))
@@ -145,7 +145,7 @@ module _ (rows longer : List Row) (l : IsLonger rows longer) where
 
   -- ---- iterative auth checks
 
-  after_check-longer : (v : RoomVersion) (s : State) (p : ℕ) → IsKnown rows s → p < length rows → after_check v longer s p ≡ after_check v rows s p
+  pub after_check-longer : (v : RoomVersion) (s : State) (p : ℕ) → IsKnown rows s → p < length rows → after_check v longer s p ≡ after_check v rows s p
   unfolding after_check is_allowed
   after_check-longer v s p known h = λ i.
       if is_state (event-longer rows longer l p h i) && is_none (rules v (event-longer rows longer l p h i) (judged_in-longer v s p known h i))
@@ -202,7 +202,7 @@ module _ (rows longer : List Row) (l : IsLonger rows longer) where
   set-known states p (inl e) = where-known rows _ p e
   set-known states p (inr e) = where-known rows _ p e
 
-  full-longer : (states : List State) → AreKnown rows states → full_conflicted longer states ≡ full_conflicted rows states
+  pub full-longer : (states : List State) → AreKnown rows states → full_conflicted longer states ≡ full_conflicted rows states
   unfolding full_conflicted
   full-longer states known =
       ap₂ (λ xs ys. events_where longer (λ p. is_in xs p || is_in ys p)) (conflicted-longer states known) (auth_difference-longer states known)
@@ -211,7 +211,7 @@ module _ (rows longer : List Row) (l : IsLonger rows longer) where
 
   -- ---- the events of the two orders
 
-  power_events-longer : (full : List ℕ) → AreEvents rows full → power_events longer full ≡ power_events rows full
+  pub power_events-longer : (full : List ℕ) → AreEvents rows full → power_events longer full ≡ power_events rows full
   unfolding power_events
   power_events-longer full h =
       ap (λ xs. filter (λ p. is_in xs p || is_in (auth_chain longer xs) p) full) power-is

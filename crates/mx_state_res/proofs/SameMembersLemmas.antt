@@ -78,7 +78,7 @@ module _ (ss ts : List State) (sorted : (s : State) → In s ss → Sorted s) (t
   every-same : (e : Key × ℕ) → in_every ss e ≡ in_every ts e
   every-same e = all-same (has_entry e) ss ts to from
 
-  unconflicted-same : unconflicted ss ≡ unconflicted ts
+  pub unconflicted-same : unconflicted ss ≡ unconflicted ts
   unconflicted-same =
       same-states (unconflicted ss) (unconflicted ts) (sorted-unconflicted ss sorted) (sorted-unconflicted ts (λ t m. sorted t (from t m)))
       (entry-same (unconflicted ss) (unconflicted ts) (by ss ts sorted to from every-same))
@@ -114,7 +114,7 @@ module _ (ss ts : List State) (sorted : (s : State) → In s ss → Sorted s) (t
       let g : Within (chains ts) (chains ss) = within-map (λ s. auth_chain rows (events_of s)) ts ss from in
       λ i. events_where rows (λ p. any-same (λ chain. is_in chain p) (chains ss) (chains ts) f g i && not (all-same (λ chain. is_in chain p) (chains ss) (chains ts) f g i))
 
-  full-same : (rows : List Row) → full_conflicted rows ss ≡ full_conflicted rows ts
+  pub full-same : (rows : List Row) → full_conflicted rows ss ≡ full_conflicted rows ts
   unfolding full_conflicted
   full-same rows = ap₂ (λ xs ys. events_where rows (λ p. is_in xs p || is_in ys p)) (conflicted-same rows) (auth_difference-same rows)
 

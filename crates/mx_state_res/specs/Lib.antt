@@ -12,3 +12,4 @@ pub mod MemberLists
 pub mod KeyNumbers
 pub mod RowSets
 pub mod LaterResolution
+pub mod KeptResolutions

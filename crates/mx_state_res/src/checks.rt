@@ -2,6 +2,6 @@
 
 pub(crate) mod auth_checks;
 pub(crate) mod conflict_checks;
-mod judged_states;
-mod powers;
+pub(crate) mod judged_states;
+pub(crate) mod powers;
 pub(crate) mod working_states;

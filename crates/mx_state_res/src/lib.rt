@@ -6,6 +6,7 @@ mod chains;
 mod checks;
 mod conflicts;
 mod entries;
+mod kept_resolutions;
 mod laws;
 mod numbered_resolution;
 pub mod plain;
@@ -18,6 +19,7 @@ pub use chains::chain_difference::sparse_chain_difference;
 pub use chains::dense_difference::dense_chain_difference;
 pub use conflicts::{full_conflicted, unconflicted};
 pub use entries::StateEntry;
+pub use kept_resolutions::{KeptResolution, resolve_keeping};
 pub use laws::{
     equal_states_resolve_to_themselves, one_state_resolves_to_itself,
     resolutions_follow_from_the_one_before,

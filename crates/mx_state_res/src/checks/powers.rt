@@ -124,7 +124,7 @@ fn own_power_events(
 
 // Whether an event sets power levels or join rules, or removes another user from the room.
 #[tactic(auto, unfolding(crate::specs::Resolution::is_power_event))]
-fn is_power_event(event: &Pdu) -> bool
+pub(crate) fn is_power_event(event: &Pdu) -> bool
     ensures { result ≡ definition.is_power_event event.now }
 {
     event.state_key().is_some()

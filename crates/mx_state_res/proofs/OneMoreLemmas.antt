@@ -1,0 +1,275 @@
+-- One state more among those that were resolved.
+use Rattle.std.proofs.Common.{◌≡◌, ℕ, zero, suc, ◌+◌, ◌≤◌, ◌<◌, Bool, true, false, List, [], ◌∷◌, ◌++◌, map, length, take, drop, slice_index_or, Option, Some, None, inl, inr, refl, sym, ap, ap₂, subst, ◌∙◌, arith}
+use Rattle.std.specs.Prelude.{if◌then◌else◌, fold, option_map, unwrap_or, IfSome, get_or}
+use Rattle.std.specs.List.{All}
+use Rattle.std.specs.FinMap.Entries.{put}
+use Rattle.std.specs.Ordering.{eq_by_cmp}
+use Rattle.mx_redact.specs.Fields.{is_some_and}
+use Rattle.std.proofs.lemmas.List.{drop-map, get_or_append_left, length-append, map-append, take-append-drop, take-map}
+use Rattle.std.proofs.lemmas.List.Elements.{All-append, All-cons, All-drop, All-take, All-tail}
+use Rattle.std.proofs.lemmas.List.Sums.{fold-append}
+use Rattle.mx_auth.specs.Rules.{Key, key_of}
+use Rattle.mx_auth.specs.declared.versions.RoomVersion.{RoomVersion}
+use Rattle.mx_graph.specs.Record.{Row, event, is_in}
+use Rattle.mx_graph.specs.Graph.{IsSound}
+use Rattle.mx_graph.proofs.Members.{In}
+use Rattle.mx_orders.specs.StateMap.{State, key_cmp, entry, with_event}
+use Rattle.mx_orders.specs.Mainline.{mainline, mainline_cmp, mainline_order, power_key, put_in_order}
+use Rattle.mx_state_res.specs.Numbered.{AllAlike, without}
+use Rattle.mx_state_res.specs.Resolution.{after_check, full_conflicted, iterative_auth_checks, power_events, resolve, unconflicted}
+use Rattle.mx_state_res.specs.LaterResolution.{IsOneMore, agreed_line, checking_order, is_put, resolution_with, stays}
+use Rattle.mx_state_res.specs.KeptResolutions.{AreAt, AreChecked, DifferAtOneKey, IsOutcome, events_checked, is_put_by, last_put, made_by, with_last}
+use Rattle.mx_state_res.specs.declared.kept_resolutions.KeptResolution.{KeptResolution}
+use Rattle.mx_state_res.specs.declared.kept_resolutions.checked_events.CheckedEvent.{CheckedEvent}
+use Rattle.mx_state_res.specs.declared.kept_resolutions.outcomes.Outcome.{Outcome}
+use Rattle.mx_state_res.specs.declared.kept_resolutions.outcomes.Outcome.TheVariants.{Refused, Replaced, Stays}
+use Rattle.mx_state_res.proofs.KeyLemmas.{Sorted}
+use Rattle.mx_state_res.proofs.LaterCheckLemmas.{put-twice, sorted-checks}
+use Rattle.mx_state_res.proofs.LaterStateLemmas.{all-sorted, unconflicted-later}
+use Rattle.mx_state_res.proofs.LaterResolutionLemmas.{from-one-before, no-powers, order-is}
+use Rattle.mx_state_res.proofs.SameMembersLemmas.{Within, full-same, resolve-members, sorted-unconflicted, unconflicted-same}
+use Rattle.mx_state_res.proofs.KeptResolutionLemmas.{passed}
+
+-- ---- events at one key, as they were checked
+
+module _ (v : RoomVersion) (rows : List Row) (key : Key) where
+  after-event : (p : ℕ) (b : Bool) (s : State) → is_put v rows s p ≡ b → key_of (event rows p) ≡ Some key → after_check v rows s p ≡ (if b then put key_cmp key p s else s)
+  unfolding after_check
+  after-event p b s flag at =
+      ap (λ c. if c then with_event s (event rows p) p else s) flag
+      ∙ ap (λ t. if b then t else s) (ap (λ o. unwrap_or (option_map (λ k. put key_cmp k p s) o) s) at)
+
+  last-one : (p : ℕ) (b : Bool) (s : State) (o : Option ℕ) → Sorted s → (if b then put key_cmp key p (with_last key s o) else with_last key s o) ≡ with_last key s (if b then Some p else o)
+  last-one p true s None h = refl
+  last-one p true s (Some q) h = put-twice key q p s h
+  last-one p false s o h = refl
+
+  -- the last event that was put is the one that stands there
+  pub checks-last : (cs : List CheckedEvent) (s : State) (o : Option ℕ) → Sorted s → AreChecked v rows (with_last key s o) cs → AreAt rows key cs
+      → iterative_auth_checks v rows (with_last key s o) (events_checked cs) ≡ with_last key s (last_put o cs)
+  checks-last [] s o h f a = refl
+  checks-last (c ∷ cs) s o h f a =
+      let next : after_check v rows (with_last key s o) c.event ≡ with_last key s (if c.is_put then Some c.event else o) =
+      after-event c.event c.is_put (with_last key s o) (sym f.0) (a 0 c (omega arith)) ∙ last-one c.event c.is_put s o h in
+      ap (λ t. iterative_auth_checks v rows t (events_checked cs)) next
+      ∙ checks-last cs s (if c.is_put then Some c.event else o) h (subst (λ t. AreChecked v rows t cs) next f.1) (All-tail (λ (d : CheckedEvent). key_of (event rows d.event) ≡ Some key) c cs a)
+
+  -- ---- some of them
+
+  pub checked-front : (fs bs : List CheckedEvent) (s : State) → AreChecked v rows s (fs ++ bs) → AreChecked v rows s fs
+  checked-front [] bs s f = tt
+  checked-front (c ∷ fs) bs s f = (f.0, checked-front fs bs (after_check v rows s c.event) f.1)
+
+  pub checked-back : (fs bs : List CheckedEvent) (s : State) → AreChecked v rows s (fs ++ bs) → AreChecked v rows (iterative_auth_checks v rows s (events_checked fs)) bs
+  checked-back [] bs s f = f
+  checked-back (c ∷ fs) bs s f = checked-back fs bs (after_check v rows s c.event) f.1
+
+  checked-join : (fs bs : List CheckedEvent) (s : State) → AreChecked v rows s fs → AreChecked v rows (iterative_auth_checks v rows s (events_checked fs)) bs → AreChecked v rows s (fs ++ bs)
+  checked-join [] bs s f g = g
+  checked-join (c ∷ fs) bs s f g = (f.0, checked-join fs bs (after_check v rows s c.event) f.1 g)
+
+  -- ---- with an event before them
+
+  checked-after : (x : ℕ) (cs : List CheckedEvent) (s : State) (b : Bool) → Sorted s → AreChecked v rows s cs → AreAt rows key cs → stays v rows key x s (events_checked cs) ≡ Some b
+      → AreChecked v rows (put key_cmp key x s) cs
+  checked-after x [] s b h f a e = tt
+  checked-after x (c ∷ cs) s b h f a e =
+      by (λ g i k. checked-after x cs s b h g i k) (is_put v rows s c.event) refl (is_put v rows (put key_cmp key x s) c.event) refl
+    where
+      at : key_of (event rows c.event) ≡ Some key
+      at = a 0 c (omega arith)
+
+      by : (AreChecked v rows s cs → AreAt rows key cs → stays v rows key x s (events_checked cs) ≡ Some b → AreChecked v rows (put key_cmp key x s) cs)
+          → (i : Bool) → is_put v rows s c.event ≡ i → (j : Bool) → is_put v rows (put key_cmp key x s) c.event ≡ j → AreChecked v rows (put key_cmp key x s) (c ∷ cs)
+      by later true p true q = (
+        f.0 ∙ p ∙ sym q,
+        subst (λ t. AreChecked v rows t cs) (after-event c.event true s p at ∙ sym (put-twice key x c.event s h) ∙ sym (after-event c.event true (put key_cmp key x s) q at)) f.1,
+      )
+      by later true p false q =
+          let gone : stays v rows key x s (events_checked (c ∷ cs)) ≡ None = (λ k. if p k then
+          (if q k then (if is_some_and (eq_by_cmp key_cmp key) (key_of (event rows c.event)) then Some false else stays v rows key x (with_event s (event rows c.event) c.event) (events_checked cs)) else None)
+          else (if q k then None else stays v rows key x s (events_checked cs))) in
+          absurd (cc (sym gone ∙ e))
+      by later false p true q =
+          let gone : stays v rows key x s (events_checked (c ∷ cs)) ≡ None = (λ k. if p k then
+          (if q k then (if is_some_and (eq_by_cmp key_cmp key) (key_of (event rows c.event)) then Some false else stays v rows key x (with_event s (event rows c.event) c.event) (events_checked cs)) else None)
+          else (if q k then None else stays v rows key x s (events_checked cs))) in
+          absurd (cc (sym gone ∙ e))
+      by later false p false q =
+          let r = passed v rows key x s c cs (c ∷ cs) refl (f.0 ∙ p) q f in (
+            f.0 ∙ p ∙ sym q,
+            subst (λ t. AreChecked v rows t cs) (sym (after-event c.event false (put key_cmp key x s) q at))
+                (later r.0 (All-tail (λ (d : CheckedEvent). key_of (event rows d.event) ≡ Some key) c cs a) (sym r.1 ∙ e)),
+          )
+
+-- ---- the state between two of them
+
+module _ (v : RoomVersion) (rows : List Row) (key : Key) (order : List CheckedEvent) (place : ℕ) (agreed : State) (h : Sorted agreed) (checked : AreChecked v rows agreed order) (at : AreAt rows key order) where
+  parts : AreChecked v rows agreed (take place order ++ drop place order)
+  parts = subst (AreChecked v rows agreed) (sym (take-append-drop place order)) checked
+
+  last-is : iterative_auth_checks v rows agreed (events_checked (take place order)) ≡ with_last key agreed (last_put None (take place order))
+  last-is =
+      checks-last v rows key (take place order) agreed None h (checked-front v rows key (take place order) (drop place order) agreed parts)
+      (All-take (λ (d : CheckedEvent). key_of (event rows d.event) ≡ Some key) place order at)
+
+  pub state-between : with_last key agreed (last_put None (take place order)) ≡ iterative_auth_checks v rows agreed (take place (events_checked order))
+  state-between = sym last-is ∙ ap (iterative_auth_checks v rows agreed) (sym (take-map (λ (d : CheckedEvent). d.event) place order))
+
+  pub checked-between : AreChecked v rows (with_last key agreed (last_put None (take place order))) (drop place order)
+  checked-between = subst (λ t. AreChecked v rows t (drop place order)) last-is (checked-back v rows key (take place order) (drop place order) agreed parts)
+
+-- ---- lists
+
+to-front : {A : Type 0} (xs : List A) (t y : A) → In y (xs ++ t ∷ []) → In y (t ∷ xs)
+to-front [] t y m = m
+to-front (z ∷ xs) t y (inl e) = inr (inl e)
+to-front (z ∷ xs) t y (inr m) = elim (to-front xs t y m) [
+  | inl e ↦ inl e
+  | inr n ↦ inr (inr n)
+]
+
+pub to-back : {A : Type 0} (xs : List A) (t y : A) → In y (t ∷ xs) → In y (xs ++ t ∷ [])
+to-back [] t y m = m
+to-back (z ∷ xs) t y (inl e) = inr (to-back xs t y (inl e))
+to-back (z ∷ xs) t y (inr (inl e)) = inl e
+to-back (z ∷ xs) t y (inr (inr n)) = inr (to-back xs t y (inr n))
+
+alike-front : (key : Key) (ss : List State) (t : State) → AllAlike key (ss ++ t ∷ []) → AllAlike key ss
+alike-front key [] t h = tt
+alike-front key (u ∷ ss) t h = λ k d l.
+    subst (λ w. entry w key ≡ entry u key) (get_or_append_left ss (t ∷ []) d k l)
+    (h k d (let e : length (ss ++ t ∷ []) ≡ length ss + 1 = length-append ss (t ∷ []) in omega arith))
+
+-- ---- the resolution with one state more
+
+module _ (rows : List Row) (sound : IsSound rows) (v : RoomVersion) (ss : List State) (base : State) (kept : KeptResolution) (one_key : DifferAtOneKey rows ss base kept)
+    (checked : AreChecked v rows (unconflicted ss) kept.order.items) (s : State) (x : ℕ) (one : IsOneMore rows ss s one_key.key x) (place : ℕ)
+    (placed : put_in_order (mainline_cmp rows (agreed_line rows ss)) x (events_checked kept.order.items) ≡ take place (events_checked kept.order.items) ++ (x ∷ drop place (events_checked kept.order.items)))
+    (o : Outcome) (outcome : IsOutcome v rows one_key.key x (iterative_auth_checks v rows (unconflicted ss) (take place (events_checked kept.order.items))) (drop place (events_checked kept.order.items)) o) where
+  abbrev key : Key
+  key = one_key.key
+
+  abbrev order : List CheckedEvent
+  order = kept.order.items
+
+  abbrev before : List ℕ
+  before = take place (events_checked order)
+
+  abbrev after : List ℕ
+  after = drop place (events_checked order)
+
+  abbrev agreed : State
+  agreed = unconflicted ss
+
+  abbrev before_it : State
+  before_it = iterative_auth_checks v rows agreed before
+
+  abbrev later : List State
+  later = put key_cmp key x s ∷ ss
+
+  abbrev more : List State
+  more = ss ++ put key_cmp key x s ∷ []
+
+  to : Within more later
+  to = λ y m. to-front ss (put key_cmp key x s) y m
+
+  from : Within later more
+  from = λ y m. to-back ss (put key_cmp key x s) y m
+
+  sorted : (t : State) → In t more → Sorted t
+  sorted t m = all-sorted ss one.sorted s one.member key x one.in_conflict t (to t m)
+
+  unconflicted-more : unconflicted more ≡ agreed
+  unconflicted-more = unconflicted-same more later sorted to from ∙ unconflicted-later ss one.sorted s one.member key x one.in_conflict
+
+  full-more : full_conflicted rows more ≡ full_conflicted rows later
+  full-more = full-same more later sorted to from rows
+
+  order-more : checking_order rows more ≡ put_in_order (mainline_cmp rows (agreed_line rows ss)) x (checking_order rows ss)
+  order-more =
+      ap₂ (λ u full. mainline_order rows (mainline rows (entry u power_key)) full) (unconflicted-same more later sorted to from) full-more
+      ∙ order-is rows sound v ss s key x one
+
+  in-turn : checking_order rows ss ≡ before ++ after
+  in-turn = sym one_key.order ∙ sym (take-append-drop place (events_checked order))
+
+  resolution-is : (p : Outcome) → IsOutcome v rows key x before_it after p → resolution_with v rows ss key x before after ≡ Some (made_by p key x (resolve v rows ss))
+  resolution-is Refused h = λ i. if h i then option_map (λ here. if here then put key_cmp key x (resolve v rows ss) else resolve v rows ss) (stays v rows key x before_it after) else Some (resolve v rows ss)
+  resolution-is Replaced h = λ i. if h.0 i then option_map (λ here. if here then put key_cmp key x (resolve v rows ss) else resolve v rows ss) (h.1 i) else Some (resolve v rows ss)
+  resolution-is Stays h = λ i. if h.0 i then option_map (λ here. if here then put key_cmp key x (resolve v rows ss) else resolve v rows ss) (h.1 i) else Some (resolve v rows ss)
+
+  pub resolved-more : resolve v rows more ≡ made_by o key x (resolve v rows ss)
+  resolved-more =
+      resolve-members more later sorted to from v rows
+      ∙ subst (λ r. IfSome r (λ resolved. resolve v rows later ≡ resolved)) (resolution-is o outcome)
+      (from-one-before rows sound v ss s key x one before after in-turn (ap (put_in_order (mainline_cmp rows (agreed_line rows ss)) x) (take-append-drop place (events_checked order)) ∙ placed))
+
+  -- the events that were checked, with the event among them
+  module _ (c : CheckedEvent) (is : c.event ≡ x) (flag : c.is_put ≡ is_put_by o) where
+    abbrev order_more : List CheckedEvent
+    order_more = take place order ++ c ∷ drop place order
+
+    at-more : AreAt rows key order_more
+    at-more =
+        let P : CheckedEvent → Type 0 = λ d. key_of (event rows d.event) ≡ Some key in
+        All-append P (take place order) (c ∷ drop place order) (All-take P place order one_key.at)
+        (All-cons P c (drop place order) (ap (λ y. key_of (event rows y)) is ∙ one.at_key) (All-drop P place order one_key.at))
+
+    known-more : All (λ (d : CheckedEvent). d.event < length rows) order_more
+    known-more =
+        let P : CheckedEvent → Type 0 = λ d. d.event < length rows in
+        All-append P (take place order) (c ∷ drop place order) (All-take P place order one_key.known)
+        (All-cons P c (drop place order) (subst (λ n. n < length rows) (sym is) one.known) (All-drop P place order one_key.known))
+
+    events-more : events_checked order_more ≡ checking_order rows more
+    events-more =
+        map-append (λ (d : CheckedEvent). d.event) (take place order) (c ∷ drop place order)
+        ∙ (λ i. sym (take-map (λ (d : CheckedEvent). d.event) place order) i ++ is i ∷ sym (drop-map (λ (d : CheckedEvent). d.event) place order) i)
+        ∙ sym placed ∙ ap (put_in_order (mainline_cmp rows (agreed_line rows ss)) x) one_key.order ∙ sym order-more
+
+    whole : AreChecked v rows agreed (take place order ++ drop place order)
+    whole = subst (AreChecked v rows agreed) (sym (take-append-drop place order)) checked
+
+    behind : AreChecked v rows before_it (drop place order)
+    behind =
+        subst (λ ps. AreChecked v rows (iterative_auth_checks v rows agreed ps) (drop place order)) (sym (take-map (λ (d : CheckedEvent). d.event) place order))
+        (checked-back v rows key (take place order) (drop place order) agreed whole)
+
+    sorted_before : Sorted before_it
+    sorted_before = sorted-checks v rows before agreed (sorted-unconflicted ss one.sorted)
+
+    put-in : (b : Bool) → is_put v rows before_it x ≡ true → stays v rows key x before_it after ≡ Some b → AreChecked v rows (after_check v rows before_it x) (drop place order)
+    put-in b h g =
+        subst (λ t. AreChecked v rows t (drop place order)) (sym (after-event v rows key x true before_it h one.at_key))
+        (checked-after v rows key x (drop place order) before_it b sorted_before behind (All-drop (λ (d : CheckedEvent). key_of (event rows d.event) ≡ Some key) place order one_key.at)
+        (ap (stays v rows key x before_it) (sym (drop-map (λ (d : CheckedEvent). d.event) place order)) ∙ g))
+
+    with-it : (p : Outcome) → IsOutcome v rows key x before_it after p → (is_put_by p ≡ is_put v rows before_it x) × AreChecked v rows (after_check v rows before_it x) (drop place order)
+    with-it Refused h = (sym h, subst (λ t. AreChecked v rows t (drop place order)) (sym (after-event v rows key x false before_it h one.at_key)) behind)
+    with-it Replaced h = (sym h.0, put-in false h.0 h.1)
+    with-it Stays h = (sym h.0, put-in true h.0 h.1)
+
+    tail : AreChecked v rows before_it (c ∷ drop place order)
+    tail =
+        let r = with-it o outcome in
+        (flag ∙ r.0 ∙ ap (is_put v rows before_it) (sym is), subst (λ y. AreChecked v rows (after_check v rows before_it y) (drop place order)) (sym is) r.1)
+
+    pub checked-more : AreChecked v rows (unconflicted more) order_more
+    checked-more =
+        subst (λ t. AreChecked v rows t order_more) (sym unconflicted-more)
+        (checked-join v rows key (take place order) (c ∷ drop place order) agreed (checked-front v rows key (take place order) (drop place order) agreed whole)
+        (subst (λ ps. AreChecked v rows (iterative_auth_checks v rows agreed ps) (c ∷ drop place order)) (take-map (λ (d : CheckedEvent). d.event) place order) tail))
+
+    pub differ-more : (next : KeptResolution) → next.differing ≡ kept.differing → next.order.items ≡ order_more → DifferAtOneKey rows more base next
+    differ-more next same items = record {
+      key = key;
+      there = one_key.there;
+      differing = same ∙ one_key.differing;
+      apart = λ h. one_key.apart (alike-front key ss (put key_cmp key x s) h);
+      agreed = unconflicted-more ∙ one_key.agreed ∙ ap (λ t. without t base) (sym same);
+      order = ap events_checked items ∙ events-more;
+      known = subst (All (λ (d : CheckedEvent). d.event < length rows)) (sym items) known-more;
+      at = subst (AreAt rows key) (sym items) at-more;
+      no_powers = ap (power_events rows) full-more ∙ no-powers rows sound v ss s key x one;
+    }

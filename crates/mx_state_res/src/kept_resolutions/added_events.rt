@@ -1,0 +1,125 @@
+// The event by which a state differs from one that was resolved.
+ghost use Rattle.std.specs.Prelude.{◌≡◌, ◌<◌, ◌∷◌, [], ℕ, All, IfOk, IfSome, IsTrue, Some, false, length};
+ghost use Rattle.std.specs.Ordering.{is_eq};
+ghost use Rattle.std.specs.FinMap.Entries.{put};
+ghost use Rattle.mx_auth.specs.Rules.{Key, key_of};
+ghost use Rattle.mx_graph.specs.Record as record_of;
+ghost use Rattle.mx_graph.specs.Record.{auth_events, is_in};
+ghost use Rattle.mx_orders.specs.StateMap.{State, entry as entry_at, key_cmp};
+ghost use Rattle.mx_state_res.specs.KeptResolutions.{DifferAtOneKey, events_checked, first_of, states_of};
+ghost use Rattle.mx_state_res.specs.LaterResolution.{IsOneMore};
+ghost use Rattle.mx_state_res.specs.Numbered.{AreKnown, state_at};
+ghost use Rattle.mx_state_res.specs.Resolution as definition;
+
+use crate::checks::powers::is_power_event;
+use crate::conflicts::numbered_conflicts::all_are_sorted;
+use crate::entries::StateEntry;
+use crate::kept_resolutions::KeptResolution;
+use crate::kept_resolutions::checked_events::CheckedEvent;
+use crate::states::States;
+use crate::states::state_numbers::StateNo;
+use mx_auth::is_at;
+use mx_graph::{EventNo, Graph};
+use std::alloc::{AllocError, Global};
+
+// The event by which a state differs from the last one that was resolved: at a key that is in conflict already, with the
+// auth events of what stands there, new among what is in conflict, and no power event.
+pub(crate) fn added_event(
+    alloc: Global,
+    graph: &Graph,
+    states: &States,
+    kept: &KeptResolution,
+    newest: StateNo,
+) -> Result<Option<EventNo>, AllocError>
+    requires newest { newest < length states.now }
+    requires known { AreKnown graph.now states.now }
+    requires numbers { All (λ number. number < length states.now) kept.now.numbers.items }
+    requires one_key { DifferAtOneKey graph.now (states_of states.now kept.now) (first_of states.now kept.now) kept.now }
+    ensures event { (key : Key) (there : ℕ) → kept.now.differing ≡ (key, there) ∷ [] → IfOk result (λ told. IfSome told (λ event.
+        (s : State) × IsOneMore graph.now (states_of states.now kept.now) s key event
+        × (state_at states.now newest ≡ put key_cmp key event s))) }
+    ensures new { IfOk result (λ told. IfSome told (λ event. is_in (events_checked kept.now.order.items) event ≡ false)) }
+    ensures known { IfOk result (λ told. IfSome told (λ event. event < length graph.now)) }
+{
+    all_are_sorted(states, &kept.numbers);
+    states.state_is_sorted(newest);
+    let Some((last, _)) = kept.numbers.split_last() else {
+        return Ok(None);
+    };
+    let Some(entry) = kept.differing.entries().first() else {
+        return Ok(None);
+    };
+    if !differ_there(alloc, states, *last, newest, entry)? {
+        return Ok(None);
+    }
+    Ok(taking_its_place(graph, states, kept, *last, newest, entry))
+}
+
+/// Whether two states differ at the key of an entry, and nowhere else.
+pub(crate) fn differ_there(
+    alloc: Global,
+    states: &States,
+    one: StateNo,
+    other: StateNo,
+    entry: &StateEntry,
+) -> Result<bool, AllocError>
+    requires one { one < length states.now }
+    requires other { other < length states.now }
+    ensures { IfOk result (λ there. IsTrue there → (key : Key) → is_eq (key_cmp key entry.now.0) ≡ false
+        → entry_at (state_at states.now one) key ≡ entry_at (state_at states.now other) key) }
+{
+    let differing = states.differing(alloc, &[one, other])?;
+    if differing.entries().len() != 1 {
+        return Ok(false);
+    }
+    Ok(differing.get(entry.kind(), entry.state_key()).is_some())
+}
+
+// The event at the key of an entry in the newest state, where it may take the place of the one there.
+fn taking_its_place(
+    graph: &Graph,
+    states: &States,
+    kept: &KeptResolution,
+    last: StateNo,
+    newest: StateNo,
+    entry: &StateEntry,
+) -> Option<EventNo>
+    requires last { last < length states.now }
+    requires newest { newest < length states.now }
+    requires known { AreKnown graph.now states.now }
+    ensures { IfSome result (λ event.
+        (event < length graph.now)
+        × (entry_at (state_at states.now newest) entry.now.0 ≡ Some event)
+        × (key_of (record_of.event graph.now event) ≡ Some entry.now.0)
+        × (is_in (events_checked kept.now.order.items) event ≡ false)
+        × (definition.is_power_event (record_of.event graph.now event) ≡ false)
+        × ((other : ℕ) × (entry_at (state_at states.now last) entry.now.0 ≡ Some other)
+        × (auth_events graph.now (record_of.event graph.now event) ≡ auth_events graph.now (record_of.event graph.now other)))) }
+{
+    let (kind, state_key) = (entry.kind(), entry.state_key());
+    let event = states.get(newest, kind, state_key)?;
+    let other = states.get(last, kind, state_key)?;
+    let row = &graph.row(event).event;
+    if !is_at(row, kind, state_key) || is_power_event(row) {
+        return None;
+    }
+    if graph.auth_events(event) != graph.auth_events(other) {
+        return None;
+    }
+    if is_checked(&kept.order, event) {
+        return None;
+    }
+    Some(event)
+}
+
+// Whether an event is among those that were checked.
+fn is_checked(order: &[CheckedEvent], event: EventNo) -> bool
+    ensures { result ≡ is_in (events_checked order.now) event }
+{
+    for checked in order {
+        if checked.event == event {
+            return true;
+        }
+    }
+    false
+}

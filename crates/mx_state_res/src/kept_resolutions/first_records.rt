@@ -1,0 +1,103 @@
+// What is kept of a resolution that was worked out from nothing.
+ghost use Rattle.std.specs.Prelude.{◌≡◌, ◌<◌, All, IfOk, IfSome, IsTrue, Some, length, map};
+ghost use Rattle.mx_auth.specs.Rules.{key_of};
+ghost use Rattle.mx_graph.specs.Record as record_of;
+ghost use Rattle.mx_orders.specs.Mainline.{mainline, mainline_order as ordered, power_key};
+ghost use Rattle.mx_orders.specs.StateMap.{entry as entry_at};
+ghost use Rattle.mx_state_res.specs.KeptResolutions.{AreChecked, IsKept, events_checked};
+ghost use Rattle.mx_state_res.specs.Numbered.{AreKnown, state_at, without};
+ghost use Rattle.mx_state_res.specs.Resolution as definition;
+
+use crate::checks::powers::power_events;
+use crate::checks::working_states::WorkingState;
+use crate::conflicts::numbered_conflicts::{all_are_sorted, full_conflicted_at};
+use crate::entries::StateEntry;
+use crate::kept_resolutions::KeptResolution;
+use crate::kept_resolutions::checked_events::{CheckedEvent, checked_each};
+use crate::state_maps::StateMap;
+use crate::states::States;
+use crate::states::state_numbers::StateNo;
+use mx_auth::{RoomVersion, is_at};
+use mx_graph::{EventNo, Graph};
+use mx_orders::mainline_order;
+use std::alloc::{AllocError, Global};
+
+/// What is kept of a resolution, where states differ at one key, and the events in conflict stand there and are no power
+/// events.
+pub(crate) fn kept_resolution(
+    version: RoomVersion,
+    alloc: Global,
+    graph: &Graph,
+    states: &States,
+    numbers: &[StateNo],
+    resolved: StateNo,
+) -> Result<Option<KeptResolution>, AllocError>
+    requires numbers { All (λ number. number < length states.now) numbers.now }
+    requires known { AreKnown graph.now states.now }
+    requires below { resolved < length states.now }
+    requires resolved { state_at states.now resolved
+        ≡ definition.resolve version graph.now (map (state_at states.now) numbers.now) }
+    ensures { IfOk result (λ told. IfSome told (IsKept version graph.now states.now)) }
+{
+    let Some((base, _)) = numbers.split_first() else {
+        return Ok(None);
+    };
+    all_are_sorted(states, numbers);
+    let differing = states.differing(alloc, numbers)?;
+    let Some((entry, others)) = differing.entries().split_first() else {
+        return Ok(None);
+    };
+    if !others.is_empty() {
+        return Ok(None);
+    }
+    let full = full_conflicted_at(alloc, graph, states, numbers, *base, &differing)?;
+    if !power_events(alloc, graph, &full)?.is_empty() || !are_all_at(graph, &full, entry) {
+        return Ok(None);
+    }
+    let order = order_checked(version, alloc, graph, states, *base, &differing, &full)?;
+    let numbers = Vec::from_slice(alloc, numbers)?;
+    Ok(Some(KeptResolution {
+        numbers,
+        differing,
+        order,
+        resolved,
+    }))
+}
+
+// The events in conflict, none of which is a power event, as they are checked.
+fn order_checked(
+    version: RoomVersion,
+    alloc: Global,
+    graph: &Graph,
+    states: &States,
+    base: StateNo,
+    differing: &StateMap,
+    full: &[EventNo],
+) -> Result<Vec<CheckedEvent>, AllocError>
+    requires base { base < length states.now }
+    requires known { AreKnown graph.now states.now }
+    requires full { All (λ event. event < length graph.now) full.now }
+    ensures order { IfOk result (λ order. events_checked order.items
+        ≡ ordered graph.now (mainline graph.now (entry_at (without differing.now (state_at states.now base)) power_key)) full.now) }
+    ensures checked { IfOk result (λ order. AreChecked version graph.now (without differing.now (state_at states.now base)) order.items) }
+{
+    states.state_is_sorted(base);
+    let mut state = WorkingState::without(alloc, states.state(base), differing);
+    let power_levels = state.get("m.room.power_levels", "");
+    let order = mainline_order(alloc, graph, power_levels, full)?;
+    let order = checked_each(version, alloc, graph, &mut state, &order)?;
+    Ok(order)
+}
+
+// Whether each of these events stands at the key of an entry.
+fn are_all_at(graph: &Graph, events: &[EventNo], entry: &StateEntry) -> bool
+    requires { All (λ event. event < length graph.now) events.now }
+    ensures { IsTrue result → All (λ event. key_of (record_of.event graph.now event) ≡ Some entry.now.0) events.now }
+{
+    for event in events {
+        if !is_at(&graph.row(*event).event, entry.kind(), entry.state_key()) {
+            return false;
+        }
+    }
+    true
+}

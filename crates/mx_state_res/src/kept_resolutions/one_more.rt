@@ -1,0 +1,112 @@
+// One state more among those that were resolved.
+ghost use Rattle.std.specs.Prelude.{◌≡◌, ◌<◌, ◌∷◌, [], ℕ, All, IfOk, IfSome, List, None, Some, length};
+ghost use Rattle.std.specs.FinMap.Entries.{put};
+ghost use Rattle.mx_auth.specs.Rules.{Key};
+ghost use Rattle.mx_graph.specs.Record.{Row};
+ghost use Rattle.mx_orders.specs.StateMap.{entry as entry_at, key_cmp};
+ghost use Rattle.mx_state_res.specs.KeptResolutions.{IsKept, made_by};
+ghost use Rattle.mx_state_res.specs.Numbered.{AreAdded, AreKnown, state_at};
+
+use crate::kept_resolutions::KeptResolution;
+use crate::kept_resolutions::added_events::{added_event, differ_there};
+use crate::kept_resolutions::checked_events::CheckedEvent;
+use crate::kept_resolutions::outcomes::{Outcome, outcome_of};
+use crate::states::States;
+use crate::states::state_numbers::StateNo;
+use mx_auth::RoomVersion;
+use mx_graph::{EventNo, Graph, graph_is_sound};
+use std::alloc::{AllocError, Global};
+
+/// What is kept of the resolution of all states but the last, with the last one; `None` where that one is more than an
+/// event at their key, or another event would be judged otherwise because of it.
+pub(crate) fn resolve_one_more(
+    version: RoomVersion,
+    alloc: Global,
+    graph: &Graph,
+    states: &mut States,
+    numbers: &[StateNo],
+    mut kept: KeptResolution,
+) -> Result<Option<KeptResolution>, AllocError>
+    requires numbers { All (λ number. number < length states.old) numbers.now }
+    requires known { AreKnown graph.now states.old }
+    requires kept { IsKept version graph.now states.old kept }
+    ensures numbers { IfOk result (λ told. IfSome told (λ kept. kept.numbers.items ≡ numbers.now)) }
+    ensures kept { IfOk result (λ told. IfSome told (IsKept version graph.now states.new)) }
+    ensures added { AreAdded graph.now states.old states.new }
+    ensures stay { IfOk result (λ told. told ≡ None → states.new ≡ states.old) }
+{
+    graph_is_sound(graph);
+    let Some((newest, before)) = numbers.split_last() else {
+        return Ok(None);
+    };
+    if before != kept.numbers.as_slice() {
+        return Ok(None);
+    }
+    let Some(event) = added_event(alloc, graph, states, &kept, *newest)? else {
+        return Ok(None);
+    };
+    let Some((place, outcome)) = outcome_of(version, alloc, graph, states, &kept, event)? else {
+        return Ok(None);
+    };
+    let resolved = resolved_by(alloc, states, &kept, *newest, event, outcome)?;
+    let is_put = outcome.is_put();
+    kept.order.insert(place, CheckedEvent { event, is_put })?;
+    kept.numbers.push(*newest)?;
+    kept.resolved = resolved;
+    Ok(Some(kept))
+}
+
+// What was resolved, with an event of which this becomes.
+fn resolved_by(
+    alloc: Global,
+    states: &mut States,
+    kept: &KeptResolution,
+    newest: StateNo,
+    event: EventNo,
+    outcome: Outcome,
+) -> Result<StateNo, AllocError>
+    requires newest { newest < length states.old }
+    requires below { kept.now.resolved < length states.old }
+    requires there { (key : Key) (there : ℕ) → kept.now.differing ≡ (key, there) ∷ []
+        → entry_at (state_at states.old newest) key ≡ Some event }
+    ensures number { IfOk result (λ number. number < length states.new) }
+    ensures resolved { (key : Key) (there : ℕ) → kept.now.differing ≡ (key, there) ∷ [] → IfOk result (λ number.
+        state_at states.new number ≡ made_by outcome key event (state_at states.old kept.now.resolved)) }
+    ensures added { (rows : List Row) → event < length rows → AreKnown rows states.old
+        → AreAdded rows states.old states.new }
+{
+    match outcome {
+        Outcome::Stays => resolved_with(alloc, states, kept, newest, event),
+        Outcome::Refused | Outcome::Replaced => Ok(kept.resolved),
+    }
+}
+
+// What was resolved, with an event at the key. Where the newest state is that one, it is that.
+fn resolved_with(
+    alloc: Global,
+    states: &mut States,
+    kept: &KeptResolution,
+    newest: StateNo,
+    event: EventNo,
+) -> Result<StateNo, AllocError>
+    requires newest { newest < length states.old }
+    requires below { kept.now.resolved < length states.old }
+    requires there { (key : Key) (there : ℕ) → kept.now.differing ≡ (key, there) ∷ []
+        → entry_at (state_at states.old newest) key ≡ Some event }
+    ensures number { IfOk result (λ number. number < length states.new) }
+    ensures resolved { (key : Key) (there : ℕ) → kept.now.differing ≡ (key, there) ∷ [] → IfOk result (λ number.
+        state_at states.new number ≡ put key_cmp key event (state_at states.old kept.now.resolved)) }
+    ensures added { (rows : List Row) → event < length rows → AreKnown rows states.old
+        → AreAdded rows states.old states.new }
+{
+    let Some(entry) = kept.differing.entries().first() else {
+        return Ok(kept.resolved);
+    };
+    states.state_is_sorted(kept.resolved);
+    states.state_is_sorted(newest);
+    if differ_there(alloc, states, kept.resolved, newest, entry)? {
+        return Ok(newest);
+    }
+    let number = states.with(kept.resolved, entry.kind(), entry.state_key(), event)?;
+    Ok(number)
+}
