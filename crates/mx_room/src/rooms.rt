@@ -8,7 +8,7 @@ ghost use Rattle.mx_room.specs.Hosting.{host_error, reopen_error};
 ghost use Rattle.mx_access.specs.Acl as access;
 ghost use Rattle.mx_room.specs.Joins.{join_reply, row_by_join, takes_memory};
 ghost use Rattle.mx_room.specs.Offer.{allowed_outcome, is_kept, offer_outcome, refusal_by, refusal_error, row_by};
-ghost use Rattle.mx_room.specs.Queries.{query_answer};
+ghost use Rattle.mx_room.specs.Queries.{query_answer, room_version};
 ghost use Rattle.mx_room.specs.RoomView.{IsHosted, create_id, has_event};
 ghost use Rattle.mx_room.specs.declared.hosting.NotARoom.{NotARoom as Cause};
 ghost use Rattle.mx_receipt.specs.declared.refusals.NotReceived.{NotReceived as WhyNot};
@@ -21,6 +21,7 @@ use crate::moments::Moment;
 use crate::outcomes::{Outcome, Refusal};
 use crate::queries::{Denied, Query, QueryReply};
 use mx_access::acl_allows;
+use mx_auth::RoomVersion;
 use mx_graph::EventNo;
 use mx_ident::{EventId, RoomId, ServerName};
 use mx_pdu::{Offered, Pdu};
@@ -249,6 +250,15 @@ impl Room {
         ensures hosted { IsHosted self.now.kept }
     {
         &self.timeline.row(EventNo::at(0)).id
+    }
+
+    /// Its version, which its create event names. It takes no memory.
+    ///
+    /// Source: the Matrix specification, `m.room.create`.
+    pub fn version(&self) -> RoomVersion
+        ensures { result ≡ room_version self.now.kept }
+    {
+        self.timeline.version()
     }
 
     /// Whether it has an event with this id. One that is prepared does not count. It takes no memory, and the time is
