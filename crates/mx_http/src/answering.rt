@@ -16,6 +16,7 @@ use std::net::Net;
 use std::rc::Rc;
 use std::sync::atomic::{AtomicBool, Ordering};
 use std::sync::{Arc, Mutex, Wait};
+use std::thread::Threads;
 use std::time::Clock;
 use thiserror::Error;
 
@@ -74,14 +75,21 @@ impl<A: Drop> SharedResponder<A> {
 }
 
 impl<A: Responder> SharedResponder<A> {
-    fn end<N: Net>(&self, net: &N) {
+    fn want_ending(&self) {
         if let Some(ending) = &self.ending {
-            ending.want(net);
+            ending.want();
+        }
+    }
+
+    // Tells the listener where it is to end.
+    fn tell_ending<N: Net>(&self, net: &N) {
+        if let Some(ending) = &self.ending {
+            ending.tell(net);
         }
     }
 
     // The reply to a request. Where the responder wants no more of them, its listener is to end.
-    fn respond<R: Wait + Clock + Eprint + Net>(
+    fn respond<R: Threads + Wait + Sync + Clock + Eprint>(
         &self,
         rt: &R,
         alloc: Global,
@@ -91,9 +99,40 @@ impl<A: Responder> SharedResponder<A> {
         let (reply, is_done) = respond_by(rt, alloc, &self.responder, request);
         self.is_busy.store(false, Ordering::SeqCst);
         if is_done {
-            self.end(rt);
+            self.want_ending();
         }
         reply
+    }
+
+    // The response to the request with this body, which may come in a transfer coding other than `chunked`.
+    fn reply<R: Threads + Wait + Sync + Clock + Eprint>(
+        &self,
+        rt: &R,
+        alloc: Global,
+        request: HttpRequest,
+        body: Vec<u8>,
+        has_other_coding: bool,
+    ) -> Response<Full<Bytes>> {
+        if has_other_coding {
+            let reply = self.responder.lock(rt).refuse_coding(alloc);
+            return self.response(alloc, reply);
+        }
+        let mut request = request;
+        request.body = body;
+        let reply = self.respond(rt, alloc, request);
+        self.response(alloc, reply)
+    }
+
+    // The response to a request whose body is too long.
+    fn refuse_body<R: Wait>(&self, rt: &R, alloc: Global) -> Response<Full<Bytes>> {
+        let reply = self.responder.lock(rt).refuse_body(alloc);
+        self.response(alloc, reply)
+    }
+
+    // The response to a request whose body does not come in its coding.
+    fn refuse_framing<R: Wait>(&self, rt: &R, alloc: Global) -> Response<Full<Bytes>> {
+        let reply = self.responder.lock(rt).refuse_framing(alloc);
+        self.response(alloc, reply)
     }
 
     // The response with a reply. Where the listener is to end, the connection is closed behind it.
@@ -108,7 +147,7 @@ impl<A: Responder> SharedResponder<A> {
 }
 
 // The reply of a responder, and whether it wants no more requests.
-fn respond_by<R: Wait + Clock + Eprint, A: Responder>(
+fn respond_by<R: Threads + Wait + Sync + Clock + Eprint, A: Responder>(
     rt: &R,
     alloc: Global,
     responder: &Mutex<A>,
@@ -180,60 +219,31 @@ fn has_other_coding<I>(request: &Request<Incoming<I>>) -> bool {
     }
 }
 
-impl<A: Responder> Call<A> {
-    // The response to the request with this body.
-    fn reply<R: Wait + Clock + Eprint + Net>(
-        self,
-        rt: &R,
-        alloc: Global,
-        body: Vec<u8>,
-    ) -> Response<Full<Bytes>> {
-        let Call {
-            shared,
-            mut request,
-            has_other_coding,
-            ..
-        } = self;
-        if has_other_coding {
-            let reply = shared.responder.lock(rt).refuse_coding(alloc);
-            return shared.response(alloc, reply);
-        }
-        request.body = body;
-        let reply = shared.respond(rt, alloc, request);
-        shared.response(alloc, reply)
-    }
-
-    // The response to a request whose body is too long.
-    fn refuse_body<R: Wait>(self, rt: &R, alloc: Global) -> Response<Full<Bytes>> {
-        let Call { shared, .. } = self;
-        let reply = shared.responder.lock(rt).refuse_body(alloc);
-        shared.response(alloc, reply)
-    }
-
-    // The response to a request whose body does not come in its coding.
-    fn refuse_framing<R: Wait>(self, rt: &R, alloc: Global) -> Response<Full<Bytes>> {
-        let Call { shared, .. } = self;
-        let reply = shared.responder.lock(rt).refuse_framing(alloc);
-        shared.response(alloc, reply)
-    }
-}
-
-// The response to a request, once its body has come or not.
-fn answered<R: Wait + Clock + Eprint + Net, A: Responder>(
+// The answer to a request, once its body has come or not, and who gave it.
+fn answered<R: Threads + Wait + Sync + Clock + Eprint, A: Responder>(
     rt: &R,
     alloc: Global,
-    call: Result<Call<A>, AllocError>,
+    call: Call<A>,
     body: Result<Vec<u8>, BodyError>,
-) -> Result<Response<Full<Bytes>>, Unanswered> {
-    let call = call?;
-    call.stage.set(Stage::Reply);
-    match body {
-        Ok(body) => Ok(call.reply(rt, alloc, body)),
-        Err(BodyError::TooLong) => Ok(call.refuse_body(rt, alloc)),
-        Err(BodyError::Malformed) => Ok(call.refuse_framing(rt, alloc)),
+) -> (
+    Result<Response<Full<Bytes>>, Unanswered>,
+    SharedResponder<A>,
+) {
+    let Call {
+        shared,
+        stage,
+        request,
+        has_other_coding,
+    } = call;
+    stage.set(Stage::Reply);
+    let answer = match body {
+        Ok(body) => Ok(shared.reply(rt, alloc, request, body, has_other_coding)),
+        Err(BodyError::TooLong) => Ok(shared.refuse_body(rt, alloc)),
+        Err(BodyError::Malformed) => Ok(shared.refuse_framing(rt, alloc)),
         Err(BodyError::Memory) => Err(Unanswered::Memory),
         Err(BodyError::Cut) => Err(Unanswered::Cut),
-    }
+    };
+    (answer, shared)
 }
 
 /// The requests of a connection go to a responder.
@@ -248,15 +258,20 @@ pub struct Answers<R, A> {
 
 impl<R, I, A> Service<Request<Incoming<I>>> for Answers<R, A>
 where
-    R: Wait + Clock + Eprint + Net + AllocGlobal + Copy + Drop,
+    R: Threads + Wait + Sync + Clock + Eprint + Net + AllocGlobal + Copy + Drop,
     I: Drop,
     A: Responder,
 {
+    ghost use Rattle.std.specs.Thread.{IsSync};
+
     type Response = Response<Full<Bytes>>;
 
     type Error = Unanswered;
 
     type Future = Answer<R, A, WholeBody<Incoming<I>>>;
+
+    // Who answers may share what it runs on with threads.
+    ghost can_call = { λ _. IsSync R.row };
 
     fn call(&self, request: Request<Incoming<I>>) -> Self::Future {
         let alloc = self.rt.alloc();
@@ -280,21 +295,27 @@ pub struct Answer<R, A, F> {
 
 impl<R, A, F> Future for Answer<R, A, F>
 where
-    R: Wait + Clock + Eprint + Net + AllocGlobal + Copy + Drop,
+    R: Threads + Wait + Sync + Clock + Eprint + Net + AllocGlobal + Copy + Drop,
     A: Responder,
     F: Future<Output = Result<Vec<u8>, BodyError>>,
 {
+    ghost use Rattle.std.specs.Thread.{IsSync};
+
     type Output = Result<Response<Full<Bytes>>, Unanswered>;
 
-    ghost can_poll = { λ answer. F.can_poll answer.body };
+    ghost can_poll = { λ answer. IsSync R.row × F.can_poll answer.body };
 
     ghost needs = { λ answer. F.needs answer.body };
 
     fn poll(&mut self, cx: &mut Context<'_>) -> Poll<Result<Response<Full<Bytes>>, Unanswered>> {
         let body = ready!(self.body.poll(cx));
         match self.call.take() {
-            Some(call) => Poll::Ready(answered(&self.rt, self.rt.alloc(), call, body)),
-            None => Poll::Ready(Err(Unanswered::Memory)),
+            Some(Ok(call)) => {
+                let (answer, shared) = answered(&self.rt, self.rt.alloc(), call, body);
+                shared.tell_ending(&self.rt);
+                Poll::Ready(answer)
+            }
+            _ => Poll::Ready(Err(Unanswered::Memory)),
         }
     }
 }

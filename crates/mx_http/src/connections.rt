@@ -19,6 +19,7 @@ use std::random::RandomSource;
 use std::rc::Rc;
 use std::sync::atomic::AtomicBool;
 use std::sync::{Arc, Mutex, Wait};
+use std::thread::Threads;
 use std::time::{Clock, Duration};
 use tokio::io::{AsyncRead, AsyncWrite};
 use tokio::net::TcpStream;
@@ -56,11 +57,15 @@ pub type Arrival<S> = (S, Option<ConnectionGuard>);
 
 impl<R, S, A> Opener<Arrival<S>> for Serving<R, A>
 where
-    R: Wait + Clock + Eprint + Net + AllocGlobal + Copy + Drop,
+    R: Threads + Wait + Sync + Clock + Eprint + Net + AllocGlobal + Copy + Drop,
     S: Source,
     A: Responder,
 {
+    ghost use Rattle.std.specs.Thread.{IsSync};
+
     type Served = Connection<Timed<S::Io, R>, Answers<R, A>, Full<Bytes>, TokioTimer<R>>;
+
+    ghost can_open = { λ _. IsSync R.row };
 
     fn open(&self, arrival: Arrival<S>, handle: &Handle) -> io::Result<Self::Served> {
         let (source, guard) = arrival;
@@ -93,7 +98,7 @@ pub fn serve_one<R, S, A>(
     largest_body: usize,
 ) -> anyhow::Result<()>
 where
-    R: Wait + Clock + Eprint + Net + RandomSource + AllocGlobal + Copy + Drop,
+    R: Threads + Wait + Sync + Clock + Eprint + Net + RandomSource + AllocGlobal + Copy + Drop,
     S: Source,
     A: Responder,
 {
@@ -129,7 +134,7 @@ pub fn serve_all<R, A>(
     patience: Patience,
 ) -> io::Result<()>
 where
-    R: Wait + Clock + Eprint + Net + RandomSource + AllocGlobal + Copy + Drop,
+    R: Threads + Wait + Sync + Clock + Eprint + Net + RandomSource + AllocGlobal + Copy + Drop,
     A: Responder,
 {
     let serving = Serving {

@@ -4,6 +4,7 @@ use mx_http::{Announcer, HttpReply, HttpRequest, Responder};
 use std::alloc::{AllocError, Global};
 use std::io;
 use std::sync::Wait;
+use std::thread::Threads;
 use std::time::Clock;
 
 /// Gives each request one answer, and counts them.
@@ -35,7 +36,7 @@ fn reply(status: u16) -> HttpReply {
 }
 
 impl Responder for Counter {
-    fn respond<R: Wait + Clock + Eprint>(
+    fn respond<R: Threads + Wait + Sync + Clock + Eprint>(
         &mut self,
         _rt: &R,
         _alloc: Global,

@@ -272,7 +272,7 @@ fn unserved(alloc: Global, error: &ServeError) -> StartError {
 }
 
 // The workers of a server.
-fn workers<K: Keeper<Row = ShardRow>, L: Keeper<Row = BookRow>, R: Wait + AllocGlobal>(
+fn workers<K: Keeper<Row = ShardRow> + Send, L: Keeper<Row = BookRow>, R: Wait + AllocGlobal>(
     rt: &R,
     server: World<K, L>,
     threads: SeatCount,

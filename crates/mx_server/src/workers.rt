@@ -15,6 +15,7 @@ use mx_wire::{
 use std::alloc::{AllocError, Global};
 use std::marker::Model;
 use std::sync::{Arc, Wait};
+use std::thread::Threads;
 use std::time::Clock;
 
 // The status where a body does not come in its coding.
@@ -47,6 +48,7 @@ pub struct Worker<K: Keeper<Row = ShardRow>, L: Keeper<Row = BookRow>> {
 
 impl<K: Keeper<Row = ShardRow>, L: Keeper<Row = BookRow>> Model for Worker<K, L> {
     ghost use Rattle.std.specs.Prelude.{ℕ};
+    ghost use Rattle.std.specs.Thread.{IsSend};
     ghost use Rattle.mx_engine.specs.Seats.{IsSeatOf, seat_number};
 
     // The number of its seat.
@@ -54,11 +56,12 @@ impl<K: Keeper<Row = ShardRow>, L: Keeper<Row = BookRow>> Model for Worker<K, L>
 
     ghost view = { λ worker. seat_number worker.seat };
 
-    ghost invariant = { λ worker. IsSeatOf worker.shared.value.engine worker.seat };
+    // What keeps the rows of rooms may be sent to the threads of a transaction.
+    ghost invariant = { λ worker. IsSend K.row × IsSeatOf worker.shared.value.engine worker.seat };
 }
 
-impl<K: Keeper<Row = ShardRow>, L: Keeper<Row = BookRow>> Responder for Worker<K, L> {
-    fn respond<R: Wait + Clock + Eprint>(
+impl<K: Keeper<Row = ShardRow> + Send, L: Keeper<Row = BookRow>> Responder for Worker<K, L> {
+    fn respond<R: Threads + Wait + Sync + Clock + Eprint>(
         &mut self,
         rt: &R,
         alloc: Global,
@@ -123,7 +126,11 @@ fn asked(request: HttpRequest) -> WireRequest {
 }
 
 // The reply to a request through a seat.
-fn answer_in<K: Keeper<Row = ShardRow>, L: Keeper<Row = BookRow>, R: Wait + Clock>(
+fn answer_in<
+    K: Keeper<Row = ShardRow> + Send,
+    L: Keeper<Row = BookRow>,
+    R: Threads + Wait + Sync + Clock,
+>(
     rt: &R,
     alloc: Global,
     shared: &Shared<K, L>,
@@ -205,7 +212,7 @@ fn without_memory() -> HttpReply {
 }
 
 /// A worker at each seat of an engine.
-pub fn workers_of<K: Keeper<Row = ShardRow>, L: Keeper<Row = BookRow>>(
+pub fn workers_of<K: Keeper<Row = ShardRow> + Send, L: Keeper<Row = BookRow>>(
     alloc: Global,
     shared: &Arc<Shared<K, L>>,
     seats: Vec<Seat<K, L>>,
@@ -219,7 +226,7 @@ pub fn workers_of<K: Keeper<Row = ShardRow>, L: Keeper<Row = BookRow>>(
     Ok(workers)
 }
 
-fn worker_of<K: Keeper<Row = ShardRow>, L: Keeper<Row = BookRow>>(
+fn worker_of<K: Keeper<Row = ShardRow> + Send, L: Keeper<Row = BookRow>>(
     shared: &Arc<Shared<K, L>>,
     seat: Seat<K, L>,
 ) -> Result<Worker<K, L>, AllocError>
