@@ -16,7 +16,6 @@ use std::net::Net;
 use std::rc::Rc;
 use std::sync::atomic::{AtomicBool, Ordering};
 use std::sync::{Arc, Mutex, Wait};
-use std::thread::Threads;
 use std::time::Clock;
 use thiserror::Error;
 
@@ -75,64 +74,28 @@ impl<A: Drop> SharedResponder<A> {
 }
 
 impl<A: Responder> SharedResponder<A> {
-    fn want_ending(&self) {
+    fn end<N: Net>(&self, net: &N) {
         if let Some(ending) = &self.ending {
-            ending.want();
-        }
-    }
-
-    // Tells the listener where it is to end.
-    fn tell_ending<N: Net>(&self, net: &N) {
-        if let Some(ending) = &self.ending {
-            ending.tell(net);
+            ending.want(net);
         }
     }
 
     // The reply to a request. Where the responder wants no more of them, its listener is to end.
-    fn respond<R: Threads + Wait + Sync + Clock + Eprint>(
+    fn respond<R: Wait + Clock + Eprint + Net>(
         &self,
         rt: &R,
         alloc: Global,
         request: HttpRequest,
-    ) -> HttpReply {
+    ) -> HttpReply
+        requires { A.can_respond }
+    {
         self.is_busy.store(true, Ordering::SeqCst);
         let (reply, is_done) = respond_by(rt, alloc, &self.responder, request);
         self.is_busy.store(false, Ordering::SeqCst);
         if is_done {
-            self.want_ending();
+            self.end(rt);
         }
         reply
-    }
-
-    // The response to the request with this body, which may come in a transfer coding other than `chunked`.
-    fn reply<R: Threads + Wait + Sync + Clock + Eprint>(
-        &self,
-        rt: &R,
-        alloc: Global,
-        request: HttpRequest,
-        body: Vec<u8>,
-        has_other_coding: bool,
-    ) -> Response<Full<Bytes>> {
-        if has_other_coding {
-            let reply = self.responder.lock(rt).refuse_coding(alloc);
-            return self.response(alloc, reply);
-        }
-        let mut request = request;
-        request.body = body;
-        let reply = self.respond(rt, alloc, request);
-        self.response(alloc, reply)
-    }
-
-    // The response to a request whose body is too long.
-    fn refuse_body<R: Wait>(&self, rt: &R, alloc: Global) -> Response<Full<Bytes>> {
-        let reply = self.responder.lock(rt).refuse_body(alloc);
-        self.response(alloc, reply)
-    }
-
-    // The response to a request whose body does not come in its coding.
-    fn refuse_framing<R: Wait>(&self, rt: &R, alloc: Global) -> Response<Full<Bytes>> {
-        let reply = self.responder.lock(rt).refuse_framing(alloc);
-        self.response(alloc, reply)
     }
 
     // The response with a reply. Where the listener is to end, the connection is closed behind it.
@@ -147,12 +110,14 @@ impl<A: Responder> SharedResponder<A> {
 }
 
 // The reply of a responder, and whether it wants no more requests.
-fn respond_by<R: Threads + Wait + Sync + Clock + Eprint, A: Responder>(
+fn respond_by<R: Wait + Clock + Eprint, A: Responder>(
     rt: &R,
     alloc: Global,
     responder: &Mutex<A>,
     request: HttpRequest,
-) -> (HttpReply, bool) {
+) -> (HttpReply, bool)
+    requires { A.can_respond }
+{
     let mut responder = responder.lock(rt);
     let reply = responder.respond(rt, alloc, request);
     let is_done = responder.is_done();
@@ -219,31 +184,64 @@ fn has_other_coding<I>(request: &Request<Incoming<I>>) -> bool {
     }
 }
 
-// The answer to a request, once its body has come or not, and who gave it.
-fn answered<R: Threads + Wait + Sync + Clock + Eprint, A: Responder>(
+impl<A: Responder> Call<A> {
+    // The response to the request with this body.
+    fn reply<R: Wait + Clock + Eprint + Net>(
+        self,
+        rt: &R,
+        alloc: Global,
+        body: Vec<u8>,
+    ) -> Response<Full<Bytes>>
+        requires { A.can_respond }
+    {
+        let Call {
+            shared,
+            mut request,
+            has_other_coding,
+            ..
+        } = self;
+        if has_other_coding {
+            let reply = shared.responder.lock(rt).refuse_coding(alloc);
+            return shared.response(alloc, reply);
+        }
+        request.body = body;
+        let reply = shared.respond(rt, alloc, request);
+        shared.response(alloc, reply)
+    }
+
+    // The response to a request whose body is too long.
+    fn refuse_body<R: Wait>(self, rt: &R, alloc: Global) -> Response<Full<Bytes>> {
+        let Call { shared, .. } = self;
+        let reply = shared.responder.lock(rt).refuse_body(alloc);
+        shared.response(alloc, reply)
+    }
+
+    // The response to a request whose body does not come in its coding.
+    fn refuse_framing<R: Wait>(self, rt: &R, alloc: Global) -> Response<Full<Bytes>> {
+        let Call { shared, .. } = self;
+        let reply = shared.responder.lock(rt).refuse_framing(alloc);
+        shared.response(alloc, reply)
+    }
+}
+
+// The response to a request, once its body has come or not.
+fn answered<R: Wait + Clock + Eprint + Net, A: Responder>(
     rt: &R,
     alloc: Global,
-    call: Call<A>,
+    call: Result<Call<A>, AllocError>,
     body: Result<Vec<u8>, BodyError>,
-) -> (
-    Result<Response<Full<Bytes>>, Unanswered>,
-    SharedResponder<A>,
-) {
-    let Call {
-        shared,
-        stage,
-        request,
-        has_other_coding,
-    } = call;
-    stage.set(Stage::Reply);
-    let answer = match body {
-        Ok(body) => Ok(shared.reply(rt, alloc, request, body, has_other_coding)),
-        Err(BodyError::TooLong) => Ok(shared.refuse_body(rt, alloc)),
-        Err(BodyError::Malformed) => Ok(shared.refuse_framing(rt, alloc)),
+) -> Result<Response<Full<Bytes>>, Unanswered>
+    requires { A.can_respond }
+{
+    let call = call?;
+    call.stage.set(Stage::Reply);
+    match body {
+        Ok(body) => Ok(call.reply(rt, alloc, body)),
+        Err(BodyError::TooLong) => Ok(call.refuse_body(rt, alloc)),
+        Err(BodyError::Malformed) => Ok(call.refuse_framing(rt, alloc)),
         Err(BodyError::Memory) => Err(Unanswered::Memory),
         Err(BodyError::Cut) => Err(Unanswered::Cut),
-    };
-    (answer, shared)
+    }
 }
 
 /// The requests of a connection go to a responder.
@@ -258,20 +256,17 @@ pub struct Answers<R, A> {
 
 impl<R, I, A> Service<Request<Incoming<I>>> for Answers<R, A>
 where
-    R: Threads + Wait + Sync + Clock + Eprint + Net + AllocGlobal + Copy + Drop,
+    R: Wait + Clock + Eprint + Net + AllocGlobal + Copy + Drop,
     I: Drop,
     A: Responder,
 {
-    ghost use Rattle.std.specs.Thread.{IsSync};
-
     type Response = Response<Full<Bytes>>;
 
     type Error = Unanswered;
 
     type Future = Answer<R, A, WholeBody<Incoming<I>>>;
 
-    // Who answers may share what it runs on with threads.
-    ghost can_call = { λ _. IsSync R.row };
+    ghost can_call = { λ _. A.can_respond };
 
     fn call(&self, request: Request<Incoming<I>>) -> Self::Future {
         let alloc = self.rt.alloc();
@@ -295,27 +290,21 @@ pub struct Answer<R, A, F> {
 
 impl<R, A, F> Future for Answer<R, A, F>
 where
-    R: Threads + Wait + Sync + Clock + Eprint + Net + AllocGlobal + Copy + Drop,
+    R: Wait + Clock + Eprint + Net + AllocGlobal + Copy + Drop,
     A: Responder,
     F: Future<Output = Result<Vec<u8>, BodyError>>,
 {
-    ghost use Rattle.std.specs.Thread.{IsSync};
-
     type Output = Result<Response<Full<Bytes>>, Unanswered>;
 
-    ghost can_poll = { λ answer. IsSync R.row × F.can_poll answer.body };
+    ghost can_poll = { λ answer. A.can_respond × F.can_poll answer.body };
 
     ghost needs = { λ answer. F.needs answer.body };
 
     fn poll(&mut self, cx: &mut Context<'_>) -> Poll<Result<Response<Full<Bytes>>, Unanswered>> {
         let body = ready!(self.body.poll(cx));
         match self.call.take() {
-            Some(Ok(call)) => {
-                let (answer, shared) = answered(&self.rt, self.rt.alloc(), call, body);
-                shared.tell_ending(&self.rt);
-                Poll::Ready(answer)
-            }
-            _ => Poll::Ready(Err(Unanswered::Memory)),
+            Some(call) => Poll::Ready(answered(&self.rt, self.rt.alloc(), call, body)),
+            None => Poll::Ready(Err(Unanswered::Memory)),
         }
     }
 }

@@ -19,7 +19,6 @@ use std::random::RandomSource;
 use std::rc::Rc;
 use std::sync::atomic::AtomicBool;
 use std::sync::{Arc, Mutex, Wait};
-use std::thread::Threads;
 use std::time::{Clock, Duration};
 use tokio::io::{AsyncRead, AsyncWrite};
 use tokio::net::TcpStream;
@@ -57,15 +56,13 @@ pub type Arrival<S> = (S, Option<ConnectionGuard>);
 
 impl<R, S, A> Opener<Arrival<S>> for Serving<R, A>
 where
-    R: Threads + Wait + Sync + Clock + Eprint + Net + AllocGlobal + Copy + Drop,
+    R: Wait + Clock + Eprint + Net + AllocGlobal + Copy + Drop,
     S: Source,
     A: Responder,
 {
-    ghost use Rattle.std.specs.Thread.{IsSync};
-
     type Served = Connection<Timed<S::Io, R>, Answers<R, A>, Full<Bytes>, TokioTimer<R>>;
 
-    ghost can_open = { λ _. IsSync R.row };
+    ghost can_open = { λ _. A.can_respond };
 
     fn open(&self, arrival: Arrival<S>, handle: &Handle) -> io::Result<Self::Served> {
         let (source, guard) = arrival;
@@ -98,9 +95,10 @@ pub fn serve_one<R, S, A>(
     largest_body: usize,
 ) -> anyhow::Result<()>
 where
-    R: Threads + Wait + Sync + Clock + Eprint + Net + RandomSource + AllocGlobal + Copy + Drop,
+    R: Wait + Clock + Eprint + Net + RandomSource + AllocGlobal + Copy + Drop,
     S: Source,
     A: Responder,
+    requires { A.can_respond }
 {
     let is_busy = Arc::new(rt.alloc(), AtomicBool::new(false)).map_err(AllocError::from)?;
     let serving = Serving {
@@ -134,8 +132,9 @@ pub fn serve_all<R, A>(
     patience: Patience,
 ) -> io::Result<()>
 where
-    R: Threads + Wait + Sync + Clock + Eprint + Net + RandomSource + AllocGlobal + Copy + Drop,
+    R: Wait + Clock + Eprint + Net + RandomSource + AllocGlobal + Copy + Drop,
     A: Responder,
+    requires { A.can_respond }
 {
     let serving = Serving {
         rt,

@@ -4,7 +4,6 @@ use mx_http::{Announcer, HttpReply, HttpRequest, Responder};
 use std::alloc::{AllocError, Global};
 use std::io;
 use std::sync::Wait;
-use std::thread::Threads;
 use std::time::Clock;
 
 /// Gives each request one answer, and counts them.
@@ -36,7 +35,11 @@ fn reply(status: u16) -> HttpReply {
 }
 
 impl Responder for Counter {
-    fn respond<R: Threads + Wait + Sync + Clock + Eprint>(
+    ghost use Rattle.std.specs.Prelude.{⊤};
+
+    ghost can_respond = { ⊤ };
+
+    fn respond<R: Wait + Clock + Eprint>(
         &mut self,
         _rt: &R,
         _alloc: Global,

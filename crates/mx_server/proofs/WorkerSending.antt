@@ -72,14 +72,14 @@ module _ (K L : RattleType) (g : Ghosts K.Denot ShardRow) (h : Ghosts L.Denot Bo
   shared_send : IsSend (shared.the_row K L g h)
   shared_send = declared_send (shared.the_type K L g h) (
     engine_send K L presence_verifier.the_row open_gate.the_row g h k l presence.the_send gate.the_send,
-    (declared_send wire_server.the_type (server_name.the_send, (routes_send, tt)), (search sendable depth 20, tt)),
+    (declared_send wire_server.the_type (server_name.the_send, (routes_send, tt)), tt),
   )
 
   shared_sync : IsSync (shared.the_row K L g h)
   shared_sync = declared_sync (shared.the_type K L g h) (
     engine_sync K L presence_verifier.the_row open_gate.the_row g h k l presence.the_sync gate.the_sync,
-    (declared_sync wire_server.the_type (server_name.the_sync, (routes_sync, tt)), (search sendable depth 20, tt)),
+    (declared_sync wire_server.the_type (server_name.the_sync, (routes_sync, tt)), tt),
   )
 
   pub worker_send : IsSend (worker.the_row K L g h)
-  worker_send = view_send _ _ _ _ _ (declared_send (worker_inside.the_type K L g h) (Arc-send _ shared_send shared_sync, (seat_send K L g h k l, (search sendable depth 20, tt))))
+  worker_send = view_send _ _ _ _ _ (declared_send (worker_inside.the_type K L g h) (Arc-send _ shared_send shared_sync, (seat_send K L g h k l, tt)))

@@ -5,12 +5,13 @@ use crate::directories::{ServerFiles, open_directory};
 use crate::errors::{ServerError, StartError};
 use crate::losses::check_losses;
 use crate::options::{SeatCount, ServeOptions};
-use crate::workers::{ServerEngine, Shared, Worker, workers_of};
+use crate::workers::{Handler, ServerEngine, Shared, Worker, workers_of};
 use mx_engine::{Engine, OpenGate};
-use mx_http::{Announcer, Limits, ServeError, ServerRuntime, serve_on};
+use mx_http::{Announcer, HttpRequest, Limits, ServeError, ServerRuntime, serve_on};
 use mx_ident::ServerName;
 use mx_keeper::{BookRow, CallError, Keeper, MOST_PLACES, ShardRow, SqliteKeeper};
 use mx_pdu::PresenceVerifier;
+use mx_room::Moment;
 use mx_wire::{HostLineOutcome, LARGEST_BODY, WireServer, first_line, host_by_line, read_all};
 use mx_world::World;
 use sqlite::Alter;
@@ -220,17 +221,53 @@ where
         stop_on_storage,
         ..
     } = options;
-    let workers = workers(rt, server, threads, name, stop_on_storage)?;
+    let workers = workers(rt, server, threads, name)?;
     let mut opening = Opening {
         out,
         err,
         port,
         data,
     };
-    match serve_on(rt, &listener, workers, limits, &mut opening) {
-        Ok(_workers) => Err(StartError::from(ServerError::Storage)),
+    let served = serve_by(
+        rt,
+        &listener,
+        workers,
+        stop_on_storage,
+        limits,
+        &mut opening,
+    );
+    match served {
+        Ok(()) => Err(StartError::from(ServerError::Storage)),
         Err(error) => Err(unserved(alloc, &error)),
     }
+}
+
+// Serves the connections that come to a listener by these workers, in a thread each.
+fn serve_by<K, L, R, T: Announcer>(
+    rt: &R,
+    listener: &TcpListener,
+    workers: Vec<Worker<K, L>>,
+    stop_on_storage: bool,
+    limits: Limits,
+    announcer: &mut T,
+) -> Result<(), ServeError>
+where
+    K: Keeper<Row = ShardRow> + Send,
+    L: Keeper<Row = BookRow> + Send,
+    R: ServerRuntime,
+{
+    let runtime = *rt;
+    let mut handlers = Vec::new(rt.alloc());
+    for worker in workers {
+        let mut worker = worker;
+        let answer = move |alloc: Global, now: Moment, request: HttpRequest| {
+            worker.answer(&runtime, alloc, now, request)
+        };
+        let handler = Handler::new(answer, stop_on_storage);
+        handlers.push(handler).map_err(AllocError::from)?;
+    }
+    serve_on(rt, listener, handlers, limits, announcer)?;
+    Ok(())
 }
 
 fn listener_at<R: ServerRuntime>(rt: &R, port: u16) -> Result<TcpListener, StartError> {
@@ -272,12 +309,11 @@ fn unserved(alloc: Global, error: &ServeError) -> StartError {
 }
 
 // The workers of a server.
-fn workers<K: Keeper<Row = ShardRow> + Send, L: Keeper<Row = BookRow>, R: Wait + AllocGlobal>(
+fn workers<K: Keeper<Row = ShardRow>, L: Keeper<Row = BookRow>, R: Wait + AllocGlobal>(
     rt: &R,
     server: World<K, L>,
     threads: SeatCount,
     name: ServerName,
-    stop_on_storage: bool,
 ) -> Result<Vec<Worker<K, L>>, StartError> {
     let alloc = rt.alloc();
     let wire_server = WireServer::new(alloc, name)?;
@@ -292,7 +328,7 @@ fn workers<K: Keeper<Row = ShardRow> + Send, L: Keeper<Row = BookRow>, R: Wait +
         OpenGate,
         threads.count,
     )?;
-    let shared = shared_of(alloc, engine, wire_server, stop_on_storage)?;
+    let shared = shared_of(alloc, engine, wire_server)?;
     Ok(workers_of(alloc, &shared, seats)?)
 }
 
@@ -301,15 +337,10 @@ fn shared_of<K: Keeper<Row = ShardRow>, L: Keeper<Row = BookRow>>(
     alloc: Global,
     engine: ServerEngine<K, L>,
     server: WireServer,
-    stop_on_storage: bool,
 ) -> Result<Arc<Shared<K, L>>, AllocError>
     ensures { IfOk result (λ shared. shared.value.engine ≡ engine) }
 {
-    let shared = Shared {
-        engine,
-        server,
-        stop_on_storage,
-    };
+    let shared = Shared { engine, server };
     let shared = Arc::new(alloc, shared)?;
     Ok(shared)
 }

@@ -33,8 +33,6 @@ pub type ServerEngine<K, L> = Engine<K, L, PresenceVerifier, OpenGate>;
 pub struct Shared<K: Keeper<Row = ShardRow>, L: Keeper<Row = BookRow>> {
     pub engine: ServerEngine<K, L>,
     pub server: WireServer,
-    // Whether the server ends once what keeps rows has failed.
-    pub stop_on_storage: bool,
 }
 
 /// A worker: a seat, and what it shares with the others, whose engine it is a seat of.
@@ -42,13 +40,10 @@ pub struct Shared<K: Keeper<Row = ShardRow>, L: Keeper<Row = BookRow>> {
 pub struct Worker<K: Keeper<Row = ShardRow>, L: Keeper<Row = BookRow>> {
     shared: Arc<Shared<K, L>>,
     seat: Seat<K, L>,
-    // Whether it saw that what keeps rows has failed.
-    has_failed: bool,
 }
 
 impl<K: Keeper<Row = ShardRow>, L: Keeper<Row = BookRow>> Model for Worker<K, L> {
     ghost use Rattle.std.specs.Prelude.{ℕ};
-    ghost use Rattle.std.specs.Thread.{IsSend};
     ghost use Rattle.mx_engine.specs.Seats.{IsSeatOf, seat_number};
 
     // The number of its seat.
@@ -56,28 +51,75 @@ impl<K: Keeper<Row = ShardRow>, L: Keeper<Row = BookRow>> Model for Worker<K, L>
 
     ghost view = { λ worker. seat_number worker.seat };
 
-    // What keeps the rows of rooms may be sent to the threads of a transaction.
-    ghost invariant = { λ worker. IsSend K.row × IsSeatOf worker.shared.value.engine worker.seat };
+    ghost invariant = { λ worker. IsSeatOf worker.shared.value.engine worker.seat };
 }
 
-impl<K: Keeper<Row = ShardRow> + Send, L: Keeper<Row = BookRow>> Responder for Worker<K, L> {
-    fn respond<R: Threads + Wait + Sync + Clock + Eprint>(
+/// What a request is answered, and whether what keeps rows has failed then.
+#[derive(Drop)]
+pub struct AnsweredRequest {
+    reply: HttpReply,
+    has_failed: bool,
+}
+
+impl<K: Keeper<Row = ShardRow> + Send, L: Keeper<Row = BookRow>> Worker<K, L> {
+    /// The answer to a request that came at this moment.
+    pub fn answer<R: Threads + Wait + Sync>(
+        &mut self,
+        rt: &R,
+        alloc: Global,
+        now: Moment,
+        request: HttpRequest,
+    ) -> AnsweredRequest {
+        let request = asked(request);
+        let answered = answer_in(rt, alloc, &self.shared, &mut self.seat, now, &request);
+        let RequestReply { reply, refused } = answered;
+        AnsweredRequest {
+            reply: sent(&self.shared.server, &request, reply),
+            has_failed: refused == Some(CallError::Storage),
+        }
+    }
+}
+
+/// Answers the requests of connections by a call, as of a worker.
+#[derive(Drop)]
+pub struct Handler<F: Drop> {
+    answer: F,
+    // Whether it ends once what keeps rows has failed.
+    stop_on_storage: bool,
+    // Whether it saw that what keeps rows has failed.
+    has_failed: bool,
+}
+
+impl<F: Drop> Handler<F> {
+    pub fn new(answer: F, stop_on_storage: bool) -> Handler<F>
+        ensures { result.answer ≡ answer }
+    {
+        Handler {
+            answer,
+            stop_on_storage,
+            has_failed: false,
+        }
+    }
+}
+
+impl<F: FnMut(Global, Moment, HttpRequest) -> AnsweredRequest + Drop> Responder for Handler<F> {
+    ghost can_respond = { (answer : F) → F.IsAlwaysCallable answer };
+
+    fn respond<R: Wait + Clock + Eprint>(
         &mut self,
         rt: &R,
         alloc: Global,
         request: HttpRequest,
     ) -> HttpReply {
-        let request = asked(request);
-        let answered = answer_in(rt, alloc, &self.shared, &mut self.seat, &request);
-        let RequestReply { reply, refused } = answered;
-        let has_failed = refused == Some(CallError::Storage);
+        let now = moment(rt);
+        let AnsweredRequest { reply, has_failed } = (self.answer)(alloc, now, request);
         self.has_failed |= has_failed;
         tell(rt, has_failed);
-        sent(&self.shared.server, &request, reply)
+        reply
     }
 
     fn is_done(&self) -> bool {
-        self.has_failed && self.shared.stop_on_storage
+        self.has_failed && self.stop_on_storage
     }
 
     fn refuse_body(&self, alloc: Global) -> HttpReply {
@@ -125,16 +167,13 @@ fn asked(request: HttpRequest) -> WireRequest {
     }
 }
 
-// The reply to a request through a seat.
-fn answer_in<
-    K: Keeper<Row = ShardRow> + Send,
-    L: Keeper<Row = BookRow>,
-    R: Threads + Wait + Sync + Clock,
->(
+// The reply to a request through a seat, at a moment.
+fn answer_in<K: Keeper<Row = ShardRow> + Send, L: Keeper<Row = BookRow>, R: Threads + Wait + Sync>(
     rt: &R,
     alloc: Global,
     shared: &Shared<K, L>,
     seat: &mut Seat<K, L>,
+    now: Moment,
     request: &WireRequest,
 ) -> RequestReply
     requires { IsSeatOf shared.now.engine seat.old }
@@ -147,7 +186,7 @@ fn answer_in<
         &shared.server,
         &shared.engine,
         seat,
-        moment(rt),
+        now,
         request,
     )
 }
@@ -212,7 +251,7 @@ fn without_memory() -> HttpReply {
 }
 
 /// A worker at each seat of an engine.
-pub fn workers_of<K: Keeper<Row = ShardRow> + Send, L: Keeper<Row = BookRow>>(
+pub fn workers_of<K: Keeper<Row = ShardRow>, L: Keeper<Row = BookRow>>(
     alloc: Global,
     shared: &Arc<Shared<K, L>>,
     seats: Vec<Seat<K, L>>,
@@ -226,16 +265,12 @@ pub fn workers_of<K: Keeper<Row = ShardRow> + Send, L: Keeper<Row = BookRow>>(
     Ok(workers)
 }
 
-fn worker_of<K: Keeper<Row = ShardRow> + Send, L: Keeper<Row = BookRow>>(
+fn worker_of<K: Keeper<Row = ShardRow>, L: Keeper<Row = BookRow>>(
     shared: &Arc<Shared<K, L>>,
     seat: Seat<K, L>,
 ) -> Result<Worker<K, L>, AllocError>
     requires { IsSeatOf shared.now.value.engine seat }
 {
     let shared = Arc::try_clone(shared)?;
-    Ok(Worker {
-        shared,
-        seat,
-        has_failed: false,
-    })
+    Ok(Worker { shared, seat })
 }
