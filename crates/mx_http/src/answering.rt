@@ -318,7 +318,7 @@ fn response(alloc: Global, reply: HttpReply) -> Response<Full<Bytes>> {
     let kind = HeaderValue::from_static("application/json");
     let _ = response.headers_mut().insert(header::CONTENT_TYPE, kind);
     if let Some(method) = reply.allowed {
-        if let Ok(allowed) = HeaderValue::from_str(alloc, method) {
+        if let Ok(allowed) = HeaderValue::from_string(method) {
             let _ = response.headers_mut().insert(header::ALLOW, allowed);
         }
     }

@@ -74,7 +74,7 @@ impl<K: Keeper<Row = ShardRow> + Send, L: Keeper<Row = BookRow>> Worker<K, L> {
         let answered = answer_in(rt, alloc, &self.shared, &mut self.seat, now, &request);
         let RequestReply { reply, refused } = answered;
         AnsweredRequest {
-            reply: sent(&self.shared.server, &request, reply),
+            reply: sent(alloc, &self.shared.server, &request, reply),
             has_failed: refused == Some(CallError::Storage),
         }
     }
@@ -212,12 +212,17 @@ fn moment<C: Clock>(clock: &C) -> Moment {
 }
 
 // The reply to a request. Where its target has another method, that is told.
-fn sent(server: &WireServer, request: &WireRequest, reply: WireReply) -> HttpReply {
+fn sent(alloc: Global, server: &WireServer, request: &WireRequest, reply: WireReply) -> HttpReply {
     let mut sent = sent_plainly(reply);
     if sent.status == METHOD_NOT_ALLOWED {
-        sent.allowed = server.method_at(&request.target);
+        sent.allowed = allowed_at(alloc, server, &request.target);
     }
     sent
+}
+
+// The method that a target has. Where no memory is left for it the reply goes without it.
+fn allowed_at(alloc: Global, server: &WireServer, target: &[u8]) -> Option<String> {
+    String::from_str(alloc, server.method_at(target)?).ok()
 }
 
 // A reply, or where no memory is left for it that one.
