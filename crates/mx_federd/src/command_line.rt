@@ -1,5 +1,6 @@
 // The words of the command line.
 use crate::auditing::{AuditOptions, AuditQuestion, AuditSource};
+use crate::migrating::MigrateOptions;
 use clap::builder::ValueParser;
 use clap::error::ErrorKind;
 use clap::{Arg, ArgAction, ArgMatches, Error};
@@ -23,6 +24,8 @@ pub(crate) enum Command {
     Serve(ServeOptions),
     // What became of the events of a room, and why.
     Audit(AuditOptions),
+    // To bring the files of a directory to the current layout.
+    Migrate(MigrateOptions),
 }
 
 /// Why the words ask for nothing.
@@ -56,7 +59,8 @@ pub(crate) fn parse(alloc: Global, words: &[String]) -> Result<Command, CommandL
         .subcommand(check_words(alloc))?
         .subcommand(replay_words(alloc)?)?
         .subcommand(serve_words(alloc)?)?
-        .subcommand(audit_words(alloc)?)?;
+        .subcommand(audit_words(alloc)?)?
+        .subcommand(migrate_words(alloc)?)?;
     match program.try_get_matches_from(words) {
         Ok(matches) => chosen(alloc, &matches),
         Err(error) if error.kind() == ErrorKind::OutOfMemory => Err(CommandLineError::Memory),
@@ -172,12 +176,25 @@ fn audit_words<'a>(alloc: Global) -> Result<clap::Command<'a>, AllocError> {
         .arg(flag_word(alloc, "dot").help("The room as a graph for Graphviz"))
 }
 
+fn migrate_words<'a>(alloc: Global) -> Result<clap::Command<'a>, AllocError> {
+    let data = text_word(alloc, "data")
+        .required(true)
+        .help("The directory of the files of a server that is stopped");
+    clap::Command::new(alloc, "migrate")
+        .about(
+            "Brings the file of each shard to the current layout, and prints how many rows it has",
+        )
+        .arg(data)?
+        .arg(shards_word(alloc))
+}
+
 fn chosen(alloc: Global, matches: &ArgMatches) -> Result<Command, CommandLineError> {
     match matches.subcommand() {
         Some(("check", _)) => Ok(Command::Check),
         Some(("replay", given)) => replay_of(alloc, given),
         Some(("serve", given)) => serve_of(alloc, given),
         Some(("audit", given)) => audit_of(alloc, given),
+        Some(("migrate", given)) => migrate_of(alloc, given),
         _ => misused(alloc, "no subcommand\n"),
     }
 }
@@ -225,6 +242,17 @@ fn audit_of(alloc: Global, given: &ArgMatches) -> Result<Command, CommandLineErr
             question,
         })),
         None => misused(alloc, "at most one question, with an event id\n"),
+    }
+}
+
+// `migrate`, where the directory has a name.
+fn migrate_of(alloc: Global, given: &ArgMatches) -> Result<Command, CommandLineError> {
+    let Some(shards) = shards_of(given) else {
+        return misused(alloc, "the number of shards is not 1 to 64\n");
+    };
+    match text_of(alloc, given, "data")? {
+        Some(data) if !data.is_empty() => Ok(Command::Migrate(MigrateOptions { data, shards })),
+        _ => misused(alloc, "the directory has no name\n"),
     }
 }
 

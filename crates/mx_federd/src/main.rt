@@ -2,12 +2,13 @@
 //! whether its content hash holds, and its canonical text. `replay` reads a log of steps and of other servers' requests
 //! from standard input and prints what a server answers to each. `serve` answers such requests on loopback, and keeps its
 //! rows in files. `audit` tells of a room, of a log or of such files, why its events were accepted or refused, and what its
-//! states are.
+//! states are. `migrate` brings such files to the current layout.
 #![tactic(auto)]
 
 mod auditing;
 mod checking;
 mod command_line;
+mod migrating;
 mod output;
 mod progress;
 mod replaying;
@@ -15,6 +16,7 @@ mod replaying;
 use auditing::{AuditOptions, audit};
 use checking::check_event;
 use command_line::{Command, CommandLineError};
+use migrating::{MigrateOptions, migrate};
 use mx_server::{ServeOptions, serve};
 use mx_wire::read_all;
 use output::{Failure, MISUSED, SUCCESS, lines_of, report, report_server, write_to};
@@ -39,9 +41,11 @@ pub enum Asked {
     Serve(ServeOptions),
     // To audit a room. Its events may be in files, which `main` alone has.
     Audit(AuditOptions),
+    // To bring files to the current layout, which `main` alone has.
+    Migrate(MigrateOptions),
 }
 
-/// Does what the words of the command line ask for, the first of which is the program's name, all but to serve and to audit. The exit
+/// Does what the words of the command line ask for, the first of which is the program's name, all but to serve, to audit and to migrate. The exit
 /// status is 0, or 1 where the input is refused, memory runs out, storage fails, or a read or a write fails, or 2 where the
 /// command line is wrong. What went wrong is said on `err`, in one line but for the command line's own text.
 pub fn main_with<R: Read, W: Write, E: Write>(
@@ -58,6 +62,7 @@ pub fn main_with<R: Read, W: Write, E: Write>(
         }
         Ok(Command::Serve(options)) => Asked::Serve(options),
         Ok(Command::Audit(options)) => Asked::Audit(options),
+        Ok(Command::Migrate(options)) => Asked::Migrate(options),
         Err(CommandLineError::Memory) => Asked::Ended(report(Failure::Memory, err)),
         Err(CommandLineError::Misused(text)) => {
             let _ = err.write_all(text.as_bytes());
@@ -141,6 +146,10 @@ where
             Err(error) => report_server(error, err),
         },
         Asked::Audit(options) => status_of(audit(host, options, &mut counted, out), err),
+        Asked::Migrate(options) => match migrate(host, &options, out) {
+            Ok(()) => SUCCESS,
+            Err(error) => report_server(error, err),
+        },
     }
 }
 

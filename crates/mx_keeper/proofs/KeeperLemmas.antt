@@ -1,7 +1,7 @@
 -- Why a keeper over SQLite refused a call.
 use Rattle.std.proofs.Common.{◌≡◌, ◌⊎◌, ◌≤◌, ℕ, List, Option, Some, IsSome, IsTrue, inl, inr, refl, subst, sym, ◌∙◌, arith}
 use Rattle.std.proofs.lemmas.Bool.{cases_Bool}
-use Rattle.sqlite.specs.Order.{Row}
+use Rattle.sqlite.specs.Tree.{Trees}
 use Rattle.sqlite.specs.Schema.{Schema}
 use Rattle.sqlite.specs.State.{State}
 use Rattle.mx_keeper.specs.declared.faults.KeeperFault.{KeeperFault}
@@ -28,7 +28,7 @@ module _ (old mid new : State) (closes : IsTrue old.is_open → IsTrue mid.is_op
   refused_rows Table told is refused same store = absurd (let both = sym (same (λ other. absurd cc)).0 ∙ is in cc)
 
   -- what it tells of adding a row
-  module _ {Kept : Type 0} (schema : Schema) (read : List Row → Option (List Kept)) (refuses : Kept → ℕ → State → Type 0) (row : Kept) (count : ℕ) (kept : IsTrue old.is_open → HasRows schema read count old) where
+  module _ {Kept : Type 0} (schema : Schema) (read : Trees → Option (List Kept)) (refuses : Kept → ℕ → State → Type 0) (row : Kept) (count : ℕ) (kept : IsTrue old.is_open → HasRows schema read count old) where
     why : (is_mid : new ≡ mid) → MayRefuse old mid ⊎ RefusesRow (refuses row) count old → MayRefuseCall schema read refuses (Some row) old new
     why is_mid (inl may) = inl (subst (MayRefuse old) (sym is_mid) may)
     why is_mid (inr refused) = elim (cases_Bool old.is_open) [ inl live ↦ inr (count, kept live, refused) | inr closed ↦ inl (inl closed) ]

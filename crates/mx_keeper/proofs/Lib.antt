@@ -6,12 +6,13 @@ pub mod ReadLemmas
 pub mod CellLemmas
 pub mod AnswerLemmas
 pub mod RefusalLemmas
+pub mod QueryLemmas
 pub mod ProbeLemmas
 pub mod KeeperLemmas
 pub mod TableLemmas
 pub mod ShardTableLemmas
 pub mod ShardRowLemmas
-pub mod ShardQueryLemmas
+pub mod FirstRowLemmas
+pub mod MoveLemmas
 pub mod BookTableLemmas
 pub mod BookRowLemmas
-pub mod BookQueryLemmas

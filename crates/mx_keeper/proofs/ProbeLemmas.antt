@@ -12,7 +12,8 @@ use Rattle.sqlite.specs.Clock.{timed}
 use Rattle.sqlite.proofs.Callers.{IsPlain, command_of, runs_as}
 use Rattle.sqlite_tied.specs.Compute.{everything}
 use Rattle.mx_keeper.specs.Connections.{IsIdle, MayRefuse, Stays}
-use Rattle.mx_keeper.proofs.RefusalLemmas.{IsWhole, memory, not_run, failed_or}
+use Rattle.mx_keeper.specs.Selecting.{IsWhole}
+use Rattle.mx_keeper.proofs.RefusalLemmas.{memory, not_run, failed_or}
 use Rattle.mx_keeper.proofs.StayLemmas.{stays_same, stays_refused}
 
 probe_is : (s : Schema) → command_of (understood s []) ≡ Nothing

@@ -74,19 +74,19 @@ put_last : (new : Row) (rs : List Row) → AllByRecursion (λ r. by_place r new 
 put_last new [] all = refl
 put_last new (r ∷ rs) all = rw (all.0, put_last new rs all.1) refl
 
-module _ {Kept : Type 0} (one : ℕ → Row → Option Kept) (placed : (n : ℕ) (r : Row) (x : Kept) → one n r ≡ Some x → rowid r ≡ Int (pos n)) where
+module _ (columns : List ℕ) {Kept : Type 0} (one : ℕ → Row → Option Kept) (placed : (n : ℕ) (r : Row) (x : Kept) → one n r ≡ Some x → rowid r ≡ Int (pos n)) where
   -- one row more, at the next place
-  pub one_more : (rs : List Row) (all : List Kept) (new : Row) (x : Kept) → read_rows one rs ≡ Some all → rowid new ≡ Int (pos (length all + 1)) → one (length all + 1) (shown new) ≡ Some x
-      → read_rows one (put_row new rs) ≡ Some (all ++ x ∷ [])
+  pub one_more : (rs : List Row) (all : List Kept) (new : Row) (x : Kept) → read_rows columns one rs ≡ Some all → rowid new ≡ Int (pos (length all + 1)) → one (length all + 1) (shown columns new) ≡ Some x
+      → read_rows columns one (put_row new rs) ≡ Some (all ++ x ∷ [])
   one_more rs all new x reads at is =
-      let raw = λ (n : ℕ) (r : Row). one n (shown r) in
-      let stands = λ (n : ℕ) (r : Row) (y : Kept) (h : raw n r ≡ Some y). placed n (shown r) y h in
+      let raw = λ (n : ℕ) (r : Row). one n (shown columns r) in
+      let stands = λ (n : ℕ) (r : Row) (y : Kept) (h : raw n r ≡ Some y). placed n (shown columns r) y h in
       let sorted = sort_by by_place rs in
       let next : length all + 1 ≡ 1 + length all = omega arith in
       let low = all_below raw stands sorted 1 all new (length all + 1) reads (omega arith) at in
       let all_low = recursion_from_All (λ r. by_place r new ≡ Less) rs (All-permutation (λ r. by_place r new ≡ Less) sorted rs (IsPermutation-sort_by by_place place_total rs) (All-from_recursion (λ r. by_place r new ≡ Less) sorted low)) in
       let here : raw (1 + length all) new ≡ Some x = subst (λ k. raw k new ≡ Some x) next is in
-      ap (read_rows one) (put_last new rs all_low) ∙ ap (read_from raw 1) (sort_last by_place new rs all_low) ∙ reads_last raw stands sorted 1 all new x reads here
+      ap (read_rows columns one) (put_last new rs all_low) ∙ ap (read_from raw 1) (sort_last by_place new rs all_low) ∙ reads_last raw stands sorted 1 all new x reads here
 
 -- a loop that reads row by row
 module _ {Kept : Type 0} where

@@ -1,5 +1,5 @@
 -- Why SQLite refuses a statement.
-use Rattle.std.proofs.Common.{◌≡◌, ◌⊎◌, ◌≢◌, ◌≤◌, ℕ, List, [], length, true, false, nat_le, Option, None, Some, IsSome, IsTrue, Result, Ok, Err, inl, inr, sym, ap, subst, subst₂, ◌∙◌, append-nil, arith}
+use Rattle.std.proofs.Common.{◌≡◌, ◌⊎◌, ◌≢◌, ◌≤◌, ℕ, List, [], length, true, false, nat_le, Option, None, Some, IsSome, IsTrue, Ok, Err, inl, inr, sym, ap, subst, subst₂, ◌∙◌, append-nil, arith}
 use Rattle.std.proofs.lemmas.Bool.Decides.{nat_tests}
 use Rattle.sqlite.specs.Order.{Row}
 use Rattle.sqlite.specs.declared.error.Error.{Error}
@@ -8,7 +8,6 @@ use Rattle.sqlite.specs.declared.error.ErrorCode.TheVariants as code
 use Rattle.sqlite_trees.specs.declared.error.StoreError.{StoreError}
 use Rattle.sqlite_trees.specs.declared.error.StoreError.TheVariants.{OutOfMemory, Io, Corrupt, Full, Broken, Unstorable}
 use Rattle.sqlite_resolve.specs.declared.compiled.Compiled.{Compiled}
-use Rattle.sqlite_resolve.specs.declared.error.CompileError.{CompileError}
 use Rattle.sqlite.specs.Command.{Command}
 use Rattle.sqlite.specs.Command.TheVariants.{Select}
 use Rattle.sqlite.specs.Schema.{Schema}
@@ -20,15 +19,10 @@ use Rattle.sqlite.proofs.Callers.{IsPlain, command_of}
 use Rattle.sqlite_typing.specs.Types.{accepts_program}
 use Rattle.mx_keeper.specs.Connections.{MayRefuse}
 use Rattle.mx_keeper.specs.Refusals.{IsRefused}
-use Rattle.mx_keeper.proofs.AnswerLemmas.{query}
+use Rattle.mx_keeper.specs.Selecting.{IsWhole, query}
 
 abbrev pub memory : Error
 memory = SqliteFailure code.OutOfMemory
-
--- the text is one statement with so many parameters, which does not read the time
-abbrev pub IsWhole : List ℕ → ℕ → Result Compiled CompileError → Type 0
-IsWhole sql count (Ok c) = (nat_le (length sql) c.tail ≡ true) × (length c.names ≡ count) × (c.formats ≡ [])
-IsWhole sql count (Err e) = ⊥
 
 below : (a b : ℕ) → nat_le a b ≡ true → a ≤ b
 below a b h = grind (arith, nat_tests)
@@ -58,10 +52,10 @@ module _ (old new : State) where
     not_run e other (inr h) = failed_by e other h.0 h.1 h.2
 
   module _ (sql : List ℕ) (whole : IsTrue old.is_open → IsWhole sql 0 (understood old.now.schema sql)) where
-    module _ (schema : Schema) (has : old.now.schema ≡ schema) (plain : IsPlain (understood schema sql)) (names : List (List ℕ)) (is : command_of (understood schema sql) ≡ Select (record { lets = []; body = query }) names) (unlisted : reads_listing schema sql ≡ false)
-        (accepted : accepts_program schema [] query [] ≡ true) where
-      only_limit : (limit : Option ℕ) (db : Database) (e : Error) → db.schema ≡ schema → RefusesToRead limit (Select (record { lets = []; body = query }) names) db [] e → IsSome limit
-      only_limit limit db e known (inl h) = absurd (let both = sym accepted ∙ ap (λ s. accepts_program s [] query []) (sym known) ∙ h.1 in cc)
+    module _ (schema : Schema) (has : old.now.schema ≡ schema) (plain : IsPlain (understood schema sql)) (names : List (List ℕ)) (tree : ℕ) (columns : List ℕ) (is : command_of (understood schema sql) ≡ Select (record { lets = []; body = query tree columns }) names) (unlisted : reads_listing schema sql ≡ false)
+        (accepted : accepts_program schema [] (query tree columns) [] ≡ true) where
+      only_limit : (limit : Option ℕ) (db : Database) (e : Error) → db.schema ≡ schema → RefusesToRead limit (Select (record { lets = []; body = query tree columns }) names) db [] e → IsSome limit
+      only_limit limit db e known (inl h) = absurd (let both = sym accepted ∙ ap (λ s. accepts_program s [] (query tree columns) []) (sym known) ∙ h.1 in cc)
       only_limit limit db e known (inr (inl h)) = elim h.1 [ inl none ↦ absurd none | inr some ↦ absurd some.4 ]
       only_limit limit db e known (inr (inr h)) = h.1
 
@@ -73,7 +67,7 @@ module _ (old new : State) where
           let bare = subst IsPlain (sym known) plain in
           let it = rw (bare.0, bare.1, append-nil {A = Rattle.sqlite.specs.declared.types.Value.Value} []) at h.2 in
           let db : it.0 ≡ old.now = subst (λ b. IsSourceOf b old.now it.0) (ap (λ s. reads_listing s sql) has ∙ unlisted) it.1 in
-          let command : h.0.command ≡ Select (record { lets = []; body = query }) names = ap command_of known ∙ is in
+          let command : h.0.command ≡ Select (record { lets = []; body = query tree columns }) names = ap command_of known ∙ is in
           inr (inr (only_limit old.step_limit it.0 e (ap (λ (d : Database). d.schema) db ∙ has) (subst (λ k. RefusesToRead old.step_limit k it.0 [] e) command it.2)))
 
 -- ---- statements that write

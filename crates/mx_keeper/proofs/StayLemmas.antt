@@ -11,7 +11,6 @@ use Rattle.sqlite_trees.proofs.Doubt.{no_doubt}
 use Rattle.sqlite.specs.Tree.{Trees}
 use Rattle.sqlite.specs.Effect.{IsDatabase}
 use Rattle.mx_keeper.specs.Connections.{HasSchema, IsIdle, Finds, HasRows, HasTable, Stays}
-use Rattle.mx_keeper.specs.Schemas.{no_schema}
 
 module _ (old new : State) where
   pub stays_unchanged : IsIdle old → IsUnchanged old new → Stays old new
@@ -81,24 +80,24 @@ pub clean_if_open : (clean live : Bool) → (clean ≡ false → live ≡ false)
 clean_if_open true live shut h = no_doubt true refl
 clean_if_open false live shut h = absurd (let none = shut refl in cc)
 
-pub kept_stays : {Kept : Type 0} (schema : Schema) (read : List Row → Option (List Kept)) (count : ℕ) (old new : State) → HasRows schema read count old → Stays old new → HasRows schema read count new
+pub kept_stays : {Kept : Type 0} (schema : Schema) (read : Trees → Option (List Kept)) (count : ℕ) (old new : State) → HasRows schema read count old → Stays old new → HasRows schema read count new
 kept_stays schema read count old new kept s = record {
   idle = idle_after old new s;
   known = ap (λ (d : Database). d.schema) (s.now ∙ sym kept.idle.settled) ∙ kept.known;
   all = kept.all;
-  reads = ap (λ (d : Database). read (d.trees 0)) s.committed ∙ kept.reads;
+  reads = ap (λ (d : Database). read d.trees) s.committed ∙ kept.reads;
   counted = kept.counted;
 }
 
 -- rows that do not read are not found
-module _ {Kept : Type 0} (schema : Schema) (read : List Row → Option (List Kept)) (old new : State) (is_table : ¬ (schema ≡ no_schema)) (reads_nothing : read [] ≡ Some []) where
-  pub never_found : HasTable schema old new → read (new.committed.trees 0) ≡ None → (rows : List Kept) → ¬ Finds schema read old rows
+module _ {Kept : Type 0} (schema : Schema) (read : Trees → Option (List Kept)) (Before : Schema → Trees → List Kept → Type 0) (is_new : (db : Trees) (rows : List Kept) → ¬ Before schema db rows) (old new : State) where
+  pub never_found : HasTable schema read Before old new → read new.committed.trees ≡ None → (rows : List Kept) → ¬ Finds schema read Before old rows
   never_found table none rows found = go table.rows found
     where
-      go : ((old.now.schema ≡ schema) × (new.committed ≡ old.committed)) ⊎ ((old.now.schema ≡ no_schema) × (new.committed.trees 0 ≡ [])) → ((old.now.schema ≡ schema) × (read (old.committed.trees 0) ≡ Some rows)) ⊎ ((old.now.schema ≡ no_schema) × (rows ≡ [])) → ⊥
-      go (inl had) (inl finds) = let same = ap (λ (d : Database). read (d.trees 0)) had.1 in let both = sym none ∙ same ∙ finds.1 in absurd cc
-      go (inl had) (inr finds) = is_table (sym had.0 ∙ finds.0)
-      go (inr made) finds = let both = sym none ∙ ap read made.1 ∙ reads_nothing in absurd cc
+      go : ((old.now.schema ≡ schema) × (new.committed ≡ old.committed)) ⊎ ((all : List Kept) × Before old.now.schema old.committed.trees all × (read new.committed.trees ≡ Some all)) → Finds schema read Before old rows → ⊥
+      go (inl had) (inl finds) = let same = ap (λ (d : Database). read d.trees) had.1 in let both = sym none ∙ same ∙ finds.1 in absurd cc
+      go (inl had) (inr before) = is_new old.committed.trees rows (subst (λ s. Before s old.committed.trees rows) had.0 before)
+      go (inr made) finds = let both = sym none ∙ made.2 in absurd cc
 
 -- what a sound database leaves is a file with its schema
 pub sound_at : (schema : Schema) (d : Database) (db : Trees) → IsDatabase d → d.schema ≡ schema → db ≡ d.trees → HasSchema schema db

@@ -1,22 +1,23 @@
 -- The table of a book's replies, and what its rows read as (our own).
-use Rattle.std.specs.Prelude.{ℕ, ◌+◌, ℤ, pos, true, false, [], ◌∷◌, ◌==◌, if◌then◌else◌, codes, List, Option, None, option_and_then, option_map}
+use Rattle.std.specs.Prelude.{◌≡◌, ℕ, ◌+◌, ℤ, pos, true, false, [], ◌∷◌, ◌==◌, if◌then◌else◌, codes, List, Option, None, option_and_then, option_map}
 use Rattle.sqlite.specs.declared.types.Value.TheVariants.{Null, Int, Text as Words}
 use Rattle.sqlite.specs.Kind.TheVariants.{Integer, Text}
 use Rattle.sqlite.specs.Order.{Row, column}
 use Rattle.sqlite.specs.Schema.{Schema}
 use Rattle.sqlite.specs.State.{State}
 use Rattle.sqlite.specs.Table.{Table}
+use Rattle.sqlite.specs.Tree.{Trees}
 use Rattle.sqlite_schema.specs.declared.schema.Index.{Index}
 use Rattle.sqlite_value.specs.Keys.{plain}
 use Rattle.mx_keeper.specs.Cells.{number_in, text_in, server_of_text}
 use Rattle.mx_keeper.specs.Refusals.{IsRefused}
-use Rattle.mx_keeper.specs.Schemas.{plain_column, plain_table}
+use Rattle.mx_keeper.specs.Schemas.{no_schema, plain_column, plain_table}
 use Rattle.mx_keeper.specs.TableRows.{read_rows}
 use Rattle.mx_keeper.specs.declared.rows.BookRow.{BookRow}
 
 abbrev pub replies : Table
 replies =
-    plain_table (codes "replies") (plain_column (codes "place") Integer false ∷ plain_column (codes "origin") Text true ∷ plain_column (codes "txn") Text true ∷ plain_column (codes "reply") Text true ∷ [])
+    plain_table (codes "replies") 0 (plain_column (codes "place") Integer false ∷ plain_column (codes "origin") Text true ∷ plain_column (codes "txn") Text true ∷ plain_column (codes "reply") Text true ∷ [])
     ((2 ∷ 3 ∷ []) ∷ []) (plain ∷ [])
 
 -- the index of the pairs, which SQLite makes for UNIQUE
@@ -52,6 +53,21 @@ abbrev pub reply_shown : ℕ → Row → Option BookRow
 reply_shown place v =
     option_and_then (λ n. if n == place then book_row (option_and_then server_of_text (text_in (column v 1))) (text_in (column v 2)) (text_in (column v 3)) else None) (number_in (column v 0))
 
--- all rows of the table
-abbrev pub read_replies : List Row → Option (List BookRow)
-read_replies = read_rows reply_shown
+-- the columns that a row is read from, beside its place
+abbrev pub reply_columns : List ℕ
+reply_columns = 2 ∷ 3 ∷ 4 ∷ []
+
+abbrev pub select_text : List ℕ
+select_text = codes "SELECT place, origin, txn, reply FROM replies ORDER BY place"
+
+-- all rows of a file of replies
+abbrev pub read_replies : Trees → Option (List BookRow)
+read_replies db = read_rows reply_columns reply_shown (db 0)
+
+-- a file with nothing has no reply
+abbrev pub BeforeReplies : Schema → Trees → List BookRow → Type 0
+BeforeReplies schema db rows = (schema ≡ no_schema) × (rows ≡ [])
+
+-- SQLite refuses to make the table in a file with nothing
+abbrev pub RefusesReplies : State → Type 0
+RefusesReplies s = (s.now.schema ≡ no_schema) × IsRefused create_text [] s

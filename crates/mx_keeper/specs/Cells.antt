@@ -1,6 +1,8 @@
 -- What the cells of a table read as (our own).
 use Rattle.std.specs.Prelude.{ℕ, pos, negsuc, ◌^◌, if◌then◌else◌, nat_lt, List, Option, Some, None, option_and_then}
 use Rattle.std.specs.Str.{is_utf8}
+use Rattle.mx_auth.specs.Versions.{version_named}
+use Rattle.mx_auth.specs.declared.versions.RoomVersion.{RoomVersion}
 use Rattle.mx_ident.specs.Identifier.{is_room_id, is_server_name}
 unfoldable pub use Rattle.mx_pdu.specs.EventTexts.{event_of_text}
 use Rattle.sqlite.specs.declared.types.Value.{Value}
@@ -28,6 +30,9 @@ text_in (Blob b) = None
 
 abbrev pub room_of_text : List ℕ → Option (List ℕ)
 room_of_text t = if is_room_id t then Some t else None
+
+abbrev pub version_of_text : List ℕ → Option RoomVersion
+version_of_text t = version_named (Some t)
 
 abbrev pub server_of_text : List ℕ → Option (List ℕ)
 server_of_text t = if is_server_name t then Some t else None

@@ -3,10 +3,14 @@ pub mod Places
 pub mod Schemas
 pub mod TableRows
 pub mod Cells
-pub mod ShardTable
-pub mod BookTable
-pub mod Placed
 pub mod Connections
 pub mod Refusals
+pub mod Selecting
+pub mod FirstLayout
+pub mod ShardTable
+pub mod BookTable
+pub mod Selections
+pub mod Moving
+pub mod Placed
 pub mod SqliteKeepers
 pub mod FaultKeepers

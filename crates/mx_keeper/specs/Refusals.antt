@@ -4,6 +4,7 @@ use Rattle.sqlite.specs.Order.{Row}
 use Rattle.sqlite.specs.Schema.{Schema}
 use Rattle.sqlite.specs.State.{IsStatement, State, mode_of, text_of}
 use Rattle.sqlite.specs.Does.{Does}
+use Rattle.sqlite.specs.Tree.{Trees}
 use Rattle.sqlite.specs.declared.error.Error.{Error}
 use Rattle.sqlite_resolve.specs.declared.compiled.Compiled.{Compiled}
 use Rattle.mx_keeper.specs.Connections.{HasRows, MayRefuse}
@@ -17,6 +18,6 @@ abbrev pub RefusesRow : (ℕ → State → Type 0) → ℕ → State → Type 0
 RefusesRow refuses count s = (2 ^ 63 - 1 ≤ count) ⊎ refuses count s
 
 -- why a keeper of this table may have refused a call between these states: to add this row, or, where none is named, to give all rows
-abbrev pub MayRefuseCall : {Kept : Type 0} → Schema → (List Row → Option (List Kept)) → (Kept → ℕ → State → Type 0) → Option Kept → State → State → Type 0
+abbrev pub MayRefuseCall : {Kept : Type 0} → Schema → (Trees → Option (List Kept)) → (Kept → ℕ → State → Type 0) → Option Kept → State → State → Type 0
 MayRefuseCall schema read refuses None old new = MayRefuse old new
 MayRefuseCall schema read refuses (Some row) old new = MayRefuse old new ⊎ ((count : ℕ) × HasRows schema read count old × RefusesRow (refuses row) count old)

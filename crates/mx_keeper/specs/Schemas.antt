@@ -1,4 +1,4 @@
--- Schemas of one table whose key is its first column, an INTEGER PRIMARY KEY (our own).
+-- Schemas of tables whose key is their first column, an INTEGER PRIMARY KEY (our own).
 use Rattle.std.specs.Prelude.{ℕ, Bool, false, [], ◌∷◌, Some, List}
 use Rattle.sqlite.specs.Collation.TheVariants.{Binary}
 use Rattle.sqlite.specs.declared.types.Value.TheVariants.{Null}
@@ -16,11 +16,11 @@ no_schema = record { tables = []; indexes = []; views = [] }
 abbrev pub plain_column : List ℕ → Kind → Bool → Column
 plain_column name kind not_null = record { name = name; kind = kind; is_strict = false; not_null = not_null; default = Null; collation = Binary }
 
--- a table with nothing that its columns and keys do not say
-abbrev pub plain_table : List ℕ → List Column → List (List ℕ) → List Order → Table
-plain_table name columns uniques orders = record {
+-- a table whose rows stand in this tree, with nothing that its columns and keys do not say
+abbrev pub plain_table : List ℕ → ℕ → List Column → List (List ℕ) → List Order → Table
+plain_table name tree columns uniques orders = record {
   name = name;
-  tree = 0;
+  tree = tree;
   columns = columns;
   key = Some 0;
   primary = 0 ∷ [];

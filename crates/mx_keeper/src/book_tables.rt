@@ -1,20 +1,19 @@
 // The table of a book.
 ghost use Rattle.std.specs.Prelude.{◌≡◌, ◌≢◌, ◌⊎◌, IfErr, [], IfOk, None, Some, OnErr, OnOk, IsTrue};
 ghost use Rattle.sqlite.specs.Held.{state};
-ghost use Rattle.sqlite.specs.State.{HasCleanDisk, IsUnchanged, Survives};
-ghost use Rattle.sqlite.specs.Tree.{put_row};
-ghost use Rattle.mx_keeper.specs.BookTable.{create_text, given_row, insert_text, read_replies, replies_schema, reply_shown, stored_reply};
+ghost use Rattle.sqlite.specs.State.{HasCleanDisk, Survives};
+ghost use Rattle.mx_keeper.specs.BookTable.{create_text, given_row, insert_text, replies_schema, stored_reply};
 ghost use Rattle.mx_keeper.specs.Cells.{server_of_text};
-ghost use Rattle.mx_keeper.specs.Connections.{HasSchema, IsIdle, MayRefuse, Puts, Stays};
+ghost use Rattle.mx_keeper.specs.Connections.{HasSchema, IsIdle, IsPut, MayRefuse, Puts, Stays};
 ghost use Rattle.mx_keeper.specs.Refusals.{IsRefused};
 ghost use Rattle.mx_keeper.specs.Schemas.{no_schema};
-ghost use Rattle.mx_keeper.specs.TableRows.{read_from};
 
 use crate::cells::{number_at, text_at};
 use crate::faults::KeeperFault;
 use crate::replies::Reply;
 use crate::rows::BookRow;
-use crate::schemas::has_replies;
+use crate::schemas::{has_nothing, has_replies};
+use crate::selected_rows::{SelectedRow, all_rows};
 use crate::statements::{fault_of, place_after};
 use crate::table_rows::TableRow;
 use crate::transaction_ids::TransactionId;
@@ -24,14 +23,16 @@ use sqlite_schema::schema::Schema;
 use std::alloc::Global;
 
 impl TableRow for BookRow {
-    ghost use Rattle.mx_keeper.specs.BookTable.{RefusesReply, create_text, replies_schema, reply_shown};
-    ghost use Rattle.mx_keeper.specs.Placed.{replies_is_table, reply_placed};
+    ghost use Rattle.mx_keeper.specs.BookTable.{BeforeReplies, RefusesReplies, RefusesReply, read_replies, replies_schema};
+    ghost use Rattle.mx_keeper.specs.Placed.{replies_are_new};
 
     ghost schema = { replies_schema };
 
-    ghost shown = { reply_shown };
+    ghost read = { read_replies };
 
-    ghost create_text = { create_text };
+    ghost before = { BeforeReplies };
+
+    ghost refuses_tables = { RefusesReplies };
 
     ghost refuses = { RefusesReply };
 
@@ -39,7 +40,17 @@ impl TableRow for BookRow {
         has_replies(found)
     }
 
-    fn create<S: Alter>(connection: &mut Connection<S>) -> Result<(), KeeperFault> {
+    fn is_earlier(_found: &Schema) -> bool {
+        false
+    }
+
+    fn make_tables<S: Alter>(
+        _alloc: Global,
+        connection: &mut Connection<S>,
+    ) -> Result<(), KeeperFault> {
+        if !has_nothing(connection.schema()) {
+            return Err(KeeperFault::Table);
+        }
         match create_replies(connection) {
             Ok(_) => Ok(()),
             Err(error) => Err(fault_of(error)),
@@ -50,6 +61,7 @@ impl TableRow for BookRow {
         &self,
         connection: &mut Connection<S>,
         count: u64,
+        words: &mut Option<Error>,
     ) -> Result<(), KeeperFault> {
         let Some(place) = place_after(count) else {
             return Err(KeeperFault::Store);
@@ -62,12 +74,40 @@ impl TableRow for BookRow {
             self.reply.as_str(),
         ) {
             Ok(_) => Ok(()),
-            Err(error) => Err(fault_of(error)),
+            Err(error) => {
+                *words = Some(error);
+                Err(fault_of(error))
+            }
         }
     }
 
-    fn select<S: Alter>(connection: &mut Connection<S>) -> Result<Vec<Row>, Error> {
-        all_replies(connection)
+    fn all<S: Alter>(
+        alloc: Global,
+        connection: &mut Connection<S>,
+    ) -> Result<Vec<BookRow>, KeeperFault> {
+        all_rows(alloc, connection)
+    }
+
+    ghost is_new = { replies_are_new };
+}
+
+impl SelectedRow for BookRow {
+    ghost use Rattle.mx_keeper.specs.BookTable.{reply_columns, reply_shown, select_text};
+    ghost use Rattle.mx_keeper.specs.Placed.{reply_placed};
+    ghost use Rattle.mx_keeper.specs.Selections.{HasReplies, selects_replies};
+
+    ghost select_text = { select_text };
+
+    ghost has_table = { HasReplies };
+
+    ghost tree = { 0 };
+
+    ghost columns = { reply_columns };
+
+    ghost shown = { reply_shown };
+
+    fn select() -> &'static str {
+        "SELECT place, origin, txn, reply FROM replies ORDER BY place"
     }
 
     fn read(alloc: Global, row: &Row, place: u64) -> Result<BookRow, KeeperFault> {
@@ -82,9 +122,9 @@ impl TableRow for BookRow {
         Ok(BookRow { origin, txn, reply })
     }
 
-    ghost placed = { reply_placed };
+    ghost selects = { selects_replies };
 
-    ghost has_table = { replies_is_table };
+    ghost placed = { reply_placed };
 }
 
 // The server of this name. `Table` where the text is no server's name, `Memory` where no memory is left.
@@ -104,7 +144,7 @@ fn server_of(alloc: Global, text: &str) -> Result<ServerName, KeeperFault>
 fn create_replies<S: Alter>(connection: &mut Connection<S>) -> Result<usize, Error>
     requires idle { IsTrue (state S.Store connection.old).is_open → IsIdle (state S.Store connection.old) }
     requires schema { IsTrue (state S.Store connection.old).is_open → (state S.Store connection.old).now.schema ≡ no_schema }
-    ensures ok { HasCleanDisk (state S.Store connection.new) → OnOk result (Puts replies_schema [] (state S.Store connection.old) (state S.Store connection.new)) }
+    ensures ok { HasCleanDisk (state S.Store connection.new) → OnOk result (Puts replies_schema (λ db. db 0 ≡ []) (state S.Store connection.old) (state S.Store connection.new)) }
     ensures refused { HasCleanDisk (state S.Store connection.new) → IfErr result (λ error. error ≢ Error.SqliteFailure ErrorCode.OutOfMemory
         → MayRefuse (state S.Store connection.old) (state S.Store connection.new) ⊎ IsRefused create_text [] (state S.Store connection.old)) }
     ensures survives { Survives (state S.Store connection.old) (state S.Store connection.new) (λ db. HasSchema replies_schema db × (db 0 ≡ [])) }
@@ -125,36 +165,17 @@ fn insert_reply<S: Alter>(
 ) -> Result<usize, Error>
     requires idle { IsTrue (state S.Store connection.old).is_open → IsIdle (state S.Store connection.old) }
     requires schema { IsTrue (state S.Store connection.old).is_open → (state S.Store connection.old).now.schema ≡ replies_schema }
-    ensures ok { HasCleanDisk (state S.Store connection.new) → OnOk result (Puts replies_schema (put_row (stored_reply place origin.now txn.now reply.now) ((state S.Store connection.old).committed.trees 0))
+    ensures ok { HasCleanDisk (state S.Store connection.new) → OnOk result (Puts replies_schema (IsPut replies_schema 0 (stored_reply place origin.now txn.now reply.now) (state S.Store connection.old).committed.trees)
         (state S.Store connection.old) (state S.Store connection.new)) }
     ensures err { HasCleanDisk (state S.Store connection.new) → OnErr result (IsTrue (state S.Store connection.new).is_open
         → Stays (state S.Store connection.old) (state S.Store connection.new)) }
     ensures refused { HasCleanDisk (state S.Store connection.new) → IfErr result (λ error. error ≢ Error.SqliteFailure ErrorCode.OutOfMemory
         → MayRefuse (state S.Store connection.old) (state S.Store connection.new) ⊎ IsRefused insert_text (given_row place origin.now txn.now reply.now) (state S.Store connection.old)) }
     ensures survives { Survives (state S.Store connection.old) (state S.Store connection.new) (λ db. IsTrue (state S.Store connection.old).is_open
-        × HasSchema replies_schema db × (db 0 ≡ put_row (stored_reply place origin.now txn.now reply.now) ((state S.Store connection.old).committed.trees 0))) }
+        × HasSchema replies_schema db × IsPut replies_schema 0 (stored_reply place origin.now txn.now reply.now) (state S.Store connection.old).committed.trees db) }
 {
     let insert = connection.prepare(
         "INSERT INTO replies (place, origin, txn, reply) VALUES (?1, ?2, ?3, ?4)",
     )?;
     insert.execute(connection, params![place, origin, txn, reply])
-}
-
-// The rows of the table as they are shown, by their places.
-fn all_replies<S: Alter>(connection: &mut Connection<S>) -> Result<Vec<Row>, Error>
-    requires idle { IsTrue (state S.Store connection.old).is_open → IsIdle (state S.Store connection.old) }
-    requires schema { IsTrue (state S.Store connection.old).is_open → (state S.Store connection.old).now.schema ≡ replies_schema }
-    ensures ok { HasCleanDisk (state S.Store connection.new) → IfOk result (λ rows. read_from reply_shown 1 rows.items ≡ read_replies ((state S.Store connection.old).committed.trees 0)) }
-    ensures same { HasCleanDisk (state S.Store connection.new) → OnOk result (IsUnchanged (state S.Store connection.old) (state S.Store connection.new)) }
-    ensures err { HasCleanDisk (state S.Store connection.new) → OnErr result (IsTrue (state S.Store connection.new).is_open
-        → Stays (state S.Store connection.old) (state S.Store connection.new)) }
-    ensures refused { HasCleanDisk (state S.Store connection.new) → IfErr result (λ error. error ≢ Error.SqliteFailure ErrorCode.OutOfMemory
-        → MayRefuse (state S.Store connection.old) (state S.Store connection.new)) }
-    ensures survives { Survives (state S.Store connection.old) (state S.Store connection.new) (λ _. ⊥) }
-{
-    let select = connection.prepare(
-        "SELECT place, origin, txn, reply FROM replies ORDER BY place",
-    )?;
-    let rows = select.query_all(connection, &[])?;
-    Ok(rows)
 }

@@ -1,10 +1,11 @@
 // The cells of a row that SQLite showed.
-ghost use Rattle.std.specs.Prelude.{◌≡◌, ◌≢◌, IfOk, None, Some, string_bytes};
+ghost use Rattle.std.specs.Prelude.{◌≡◌, ◌≢◌, IfOk, None, Some, option_and_then, string_bytes};
 ghost use Rattle.sqlite.specs.Order.{column};
-ghost use Rattle.mx_keeper.specs.Cells.{caller_in, number_in, text_in};
+ghost use Rattle.mx_keeper.specs.Cells.{caller_in, number_in, text_in, version_of_text};
 
 use crate::caller::Caller;
 use crate::faults::KeeperFault;
+use mx_auth::RoomVersion;
 use sqlite::types::FromSql;
 use sqlite::{Error, ErrorCode, Row};
 
@@ -44,6 +45,22 @@ pub fn number_at(row: &Row, at: usize) -> Result<u64, KeeperFault>
     match row.get::<u64>(at) {
         Ok(number) => Ok(number),
         Err(error) => Err(misread(error)),
+    }
+}
+
+/// The version of rooms in a column.
+///
+/// `Table` where it has no text that names one that is recognised, `Memory` where no memory is left.
+pub fn version_at(row: &Row, at: usize) -> Result<RoomVersion, KeeperFault>
+    ensures ok { IfOk result (λ version. option_and_then version_of_text (text_in (column row.now at)) ≡ Some version) }
+    ensures table { result ≡ Err KeeperFault.Table → option_and_then version_of_text (text_in (column row.now at)) ≡ None }
+    ensures no_store { ¬ (result ≡ Err KeeperFault.Store) }
+{
+    let text = text_at(row, at)?;
+    match text.as_str() {
+        "6" => Ok(RoomVersion::V6),
+        "7" => Ok(RoomVersion::V7),
+        _ => Err(KeeperFault::Table),
     }
 }
 

@@ -3,14 +3,17 @@ use crate::caller::Caller;
 use crate::replies::Reply;
 use crate::storing::Storable;
 use crate::transaction_ids::TransactionId;
+use mx_auth::RoomVersion;
 use mx_ident::{RoomId, ServerName};
 use mx_pdu::Pdu;
 use std::alloc::AllocError;
 
-/// An event that a room kept, in the form in which it is kept, and the number of the caller that brought it.
+/// An event that a room kept, in the form in which it is kept, with the version of the room, as the room's create event
+/// names it, and the number of the caller that brought the event.
 #[derive(Debug, Drop)]
 pub struct ShardRow {
     pub room: RoomId,
+    pub version: RoomVersion,
     pub event: Pdu,
     pub caller: Caller,
 }
@@ -21,6 +24,7 @@ impl Storable for ShardRow {
         let event = self.event.clone()?;
         Ok(ShardRow {
             room,
+            version: self.version,
             event,
             caller: self.caller,
         })

@@ -1,10 +1,11 @@
-// Whether a database has its one table.
+// Whether a database has its tables.
 ghost use Rattle.std.specs.Prelude.{◌≡◌, ◌↔◌, IsTrue, true, false, codes, [], ◌∷◌};
 ghost use Rattle.sqlite.specs.Kind.TheVariants.{Integer, Text};
 ghost use Rattle.sqlite_value.specs.Keys.{plain};
 ghost use Rattle.mx_keeper.specs.BookTable.{pairs, replies, replies_schema};
 ghost use Rattle.mx_keeper.specs.Schemas.{no_schema, plain_column, plain_table};
-ghost use Rattle.mx_keeper.specs.ShardTable.{kept, kept_schema};
+ghost use Rattle.mx_keeper.specs.FirstLayout.{kept, kept_schema};
+ghost use Rattle.mx_keeper.specs.ShardTable.{kept2, layout, shard_schema};
 
 use sqlite_items::Items;
 use sqlite_schema::code::Terms;
@@ -19,7 +20,7 @@ pub fn has_nothing(schema: &Schema) -> bool
     schema.tables.is_empty() && schema.indexes.is_empty() && schema.views.is_empty()
 }
 
-/// Whether it has the table of a shard's rows alone.
+/// Whether it has the table of a shard's rows in the first layout alone.
 pub fn has_kept(schema: &Schema) -> bool
     ensures { IsTrue result ↔ (schema.now ≡ kept_schema) }
 {
@@ -33,7 +34,7 @@ fn is_kept(table: &Table) -> bool
     ensures { IsTrue result ↔ (table.now ≡ kept) }
 {
     table.name.as_slice() == b"kept".as_slice()
-        && is_plain(table)
+        && is_plain(table, 0)
         && table.uniques.is_empty()
         && table.orders.is_empty()
         && are_kept(table.columns.as_slice())
@@ -47,6 +48,57 @@ fn are_kept(columns: &[Column]) -> bool
         && is_text_column(&columns[1], b"room")
         && is_text_column(&columns[2], b"event")
         && is_integer(&columns[3], b"caller", true)
+}
+
+/// Whether it has the three tables of a shard's file alone.
+pub fn has_shard_tables(schema: &Schema) -> bool
+    ensures { IsTrue result ↔ (schema.now ≡ shard_schema) }
+{
+    schema.indexes.is_empty()
+        && schema.views.is_empty()
+        && schema.tables.len() == 3
+        && is_kept(&schema.tables.as_slice()[0])
+        && is_kept2(&schema.tables.as_slice()[1])
+        && is_layout(&schema.tables.as_slice()[2])
+}
+
+fn is_kept2(table: &Table) -> bool
+    ensures { IsTrue result ↔ (table.now ≡ kept2 1) }
+{
+    table.name.as_slice() == b"kept2".as_slice()
+        && is_plain(table, 1)
+        && table.uniques.is_empty()
+        && table.orders.is_empty()
+        && are_kept2(table.columns.as_slice())
+}
+
+fn are_kept2(columns: &[Column]) -> bool
+    ensures { IsTrue result ↔ (columns.now ≡ plain_column (codes "place") Integer false ∷ plain_column (codes "room") Text true ∷ plain_column (codes "version") Text true ∷ plain_column (codes "event") Text true ∷ plain_column (codes "caller") Integer true ∷ []) }
+{
+    columns.len() == 5
+        && is_integer(&columns[0], b"place", false)
+        && is_text_column(&columns[1], b"room")
+        && is_text_column(&columns[2], b"version")
+        && is_text_column(&columns[3], b"event")
+        && is_integer(&columns[4], b"caller", true)
+}
+
+fn is_layout(table: &Table) -> bool
+    ensures { IsTrue result ↔ (table.now ≡ layout 2) }
+{
+    table.name.as_slice() == b"layout".as_slice()
+        && is_plain(table, 2)
+        && table.uniques.is_empty()
+        && table.orders.is_empty()
+        && are_layout(table.columns.as_slice())
+}
+
+fn are_layout(columns: &[Column]) -> bool
+    ensures { IsTrue result ↔ (columns.now ≡ plain_column (codes "place") Integer false ∷ plain_column (codes "number") Integer true ∷ []) }
+{
+    columns.len() == 2
+        && is_integer(&columns[0], b"place", false)
+        && is_integer(&columns[1], b"number", true)
 }
 
 /// Whether it has the table of a book's replies alone, and the index of its pairs.
@@ -75,7 +127,7 @@ fn is_replies(table: &Table) -> bool
     ensures { IsTrue result ↔ (table.now ≡ replies) }
 {
     table.name.as_slice() == b"replies".as_slice()
-        && is_plain(table)
+        && is_plain(table, 0)
         && has_one_pair(table.uniques.as_slice())
         && has_one_order(table.orders.as_slice())
         && are_replies(table.columns.as_slice())
@@ -131,10 +183,10 @@ fn is_plain_column(column: &Column, name: &[u8], not_null: bool) -> bool
         && matches!(column.collation, Collation::Binary)
 }
 
-fn is_plain(table: &Table) -> bool
-    ensures { IsTrue result ↔ (table.now ≡ plain_table table.now.name table.now.columns table.now.uniques table.now.orders) }
+fn is_plain(table: &Table, tree: u32) -> bool
+    ensures { IsTrue result ↔ (table.now ≡ plain_table table.now.name tree table.now.columns table.now.uniques table.now.orders) }
 {
-    table.tree == 0
+    table.tree == tree
         && table.key == Some(0)
         && is_first(table.primary.as_slice())
         && has_none(&table.checks)

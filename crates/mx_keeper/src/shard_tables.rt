@@ -1,54 +1,71 @@
-// The table of a shard.
-ghost use Rattle.std.specs.Prelude.{◌≡◌, ◌≢◌, ◌⊎◌, ◌≤◌, IfErr, ◌+◌, ◌-◌, ◌<◌, ◌^◌, [], FitsSigned, pos, IfOk, IfSome, None, Some, OnErr, OnOk, IsTrue, string_bytes};
+// The tables of a shard.
+ghost use Rattle.std.specs.Prelude.{◌≡◌, ◌≢◌, ◌⊎◌, ◌≤◌, IfErr, ◌+◌, ◌-◌, ◌<◌, ◌^◌, FitsSigned, pos, false, IfOk, Some, OnErr, OnOk, IsTrue};
 ghost use Rattle.std.specs.Int.{w64};
 ghost use Rattle.sqlite.specs.Held.{state};
 ghost use Rattle.sqlite.specs.State.{HasCleanDisk, IsUnchanged, Survives};
-ghost use Rattle.sqlite.specs.Tree.{put_row};
 ghost use Rattle.mx_keeper.specs.Cells.{event_of_text};
-ghost use Rattle.mx_keeper.specs.Connections.{HasSchema, IsIdle, MayRefuse, Puts, Stays};
+ghost use Rattle.mx_keeper.specs.Connections.{HasSchema, IsIdle, IsPut, MayRefuse, Puts, Stays};
 ghost use Rattle.mx_keeper.specs.Refusals.{IsRefused};
-ghost use Rattle.mx_keeper.specs.Schemas.{no_schema};
-ghost use Rattle.mx_keeper.specs.ShardTable.{create_text, given_row, insert_text, kept_schema, read_shown, read_table, stored};
-ghost use Rattle.mx_keeper.specs.TableRows.{read_from};
+ghost use Rattle.mx_keeper.specs.ShardTable.{given_row, insert_text, laid, shard_schema, stored};
 
-use crate::cells::{caller_at, number_at, text_at};
+use crate::cells::{caller_at, number_at, text_at, version_at};
 use crate::event_texts::{event_of, room_of, text_of};
 use crate::faults::KeeperFault;
+use crate::first_rows::{FirstRow, versioned};
+use crate::layout_numbers::{LayoutNumber, state_the_second};
 use crate::rows::ShardRow;
-use crate::schemas::has_kept;
+use crate::schemas::{has_kept, has_nothing, has_shard_tables};
+use crate::second_layout::lay_out;
+use crate::selected_rows::{SelectedRow, all_rows};
 use crate::statements::{fault_of, place_after};
 use crate::table_rows::TableRow;
+use mx_auth::RoomVersion;
 use sqlite::{Alter, Connection, Error, ErrorCode, Row, params};
 use sqlite_schema::schema::Schema;
 use std::alloc::Global;
 
 impl TableRow for ShardRow {
-    ghost use Rattle.mx_keeper.specs.ShardTable.{RefusesKept, create_text, kept_schema, read_shown};
-    ghost use Rattle.mx_keeper.specs.Placed.{kept_is_table, row_placed};
+    ghost use Rattle.mx_keeper.specs.Placed.{shard_is_new};
+    ghost use Rattle.mx_keeper.specs.ShardTable.{BeforeShard, RefusesKept, RefusesMove, read_shard, shard_schema};
 
-    ghost schema = { kept_schema };
+    ghost schema = { shard_schema };
 
-    ghost shown = { read_shown };
+    ghost read = { read_shard };
 
-    ghost create_text = { create_text };
+    ghost before = { BeforeShard };
+
+    ghost refuses_tables = { RefusesMove };
 
     ghost refuses = { RefusesKept };
 
     fn is_known(found: &Schema) -> bool {
+        has_shard_tables(found)
+    }
+
+    fn is_earlier(found: &Schema) -> bool {
         has_kept(found)
     }
 
-    fn create<S: Alter>(connection: &mut Connection<S>) -> Result<(), KeeperFault> {
-        match create_kept(connection) {
-            Ok(_) => Ok(()),
-            Err(error) => Err(fault_of(error)),
+    fn make_tables<S: Alter>(
+        alloc: Global,
+        connection: &mut Connection<S>,
+    ) -> Result<(), KeeperFault> {
+        if has_nothing(connection.schema()) {
+            return lay_out(connection, &[]);
         }
+        if !has_kept(connection.schema()) {
+            return Err(KeeperFault::Table);
+        }
+        let first = all_rows::<S, FirstRow>(alloc, connection)?;
+        let rows = versioned(alloc, first)?;
+        lay_out(connection, &rows)
     }
 
     fn insert<S: Alter>(
         &self,
         connection: &mut Connection<S>,
         count: u64,
+        words: &mut Option<Error>,
     ) -> Result<(), KeeperFault> {
         let cells = match cells_of(self, count) {
             Ok(cells) => cells,
@@ -58,16 +75,46 @@ impl TableRow for ShardRow {
             connection,
             cells.place,
             self.room.as_str(),
+            self.version,
             cells.event,
             cells.caller,
         ) {
             Ok(_) => Ok(()),
-            Err(error) => Err(fault_of(error)),
+            Err(error) => {
+                *words = Some(error);
+                Err(fault_of(error))
+            }
         }
     }
 
-    fn select<S: Alter>(connection: &mut Connection<S>) -> Result<Vec<Row>, Error> {
-        all_kept(connection)
+    fn all<S: Alter>(
+        alloc: Global,
+        connection: &mut Connection<S>,
+    ) -> Result<Vec<ShardRow>, KeeperFault> {
+        check_layout(alloc, connection)?;
+        all_rows(alloc, connection)
+    }
+
+    ghost is_new = { shard_is_new };
+}
+
+impl SelectedRow for ShardRow {
+    ghost use Rattle.mx_keeper.specs.Placed.{row_placed};
+    ghost use Rattle.mx_keeper.specs.Selections.{HasSecond, selects_rows};
+    ghost use Rattle.mx_keeper.specs.ShardTable.{read_shown, row_columns, select_text};
+
+    ghost select_text = { select_text };
+
+    ghost has_table = { HasSecond };
+
+    ghost tree = { 1 };
+
+    ghost columns = { row_columns };
+
+    ghost shown = { read_shown };
+
+    fn select() -> &'static str {
+        "SELECT place, room, version, event, caller FROM kept2 ORDER BY place"
     }
 
     fn read(alloc: Global, row: &Row, place: u64) -> Result<ShardRow, KeeperFault> {
@@ -77,31 +124,54 @@ impl TableRow for ShardRow {
         }
         let room_text = text_at(row, 1)?;
         let room = room_of(alloc, room_text.as_str())?;
-        let event_text = text_at(row, 2)?;
+        let version = version_at(row, 2)?;
+        let event_text = text_at(row, 3)?;
         let event = event_of(alloc, event_text)?;
-        let caller = caller_at(row, 3)?;
+        let caller = caller_at(row, 4)?;
         Ok(ShardRow {
             room,
+            version,
             event,
             caller,
         })
     }
 
-    ghost placed = { row_placed };
+    ghost selects = { selects_rows };
 
-    ghost has_table = { kept_is_table };
+    ghost placed = { row_placed };
 }
 
-// What stands in the table for a row, beside the room.
+// Finds that the file states the second layout, and that its first table has no row. `Table` where it is not so.
+fn check_layout<S: Alter>(alloc: Global, connection: &mut Connection<S>) -> Result<(), KeeperFault>
+    requires idle { IsTrue (state S.Store connection.old).is_open → IsIdle (state S.Store connection.old) }
+    requires known { IsTrue (state S.Store connection.old).is_open → (state S.Store connection.old).now.schema ≡ shard_schema }
+    ensures ok { HasCleanDisk (state S.Store connection.new) → OnOk result (IsTrue (laid (state S.Store connection.old).committed.trees)) }
+    ensures table { HasCleanDisk (state S.Store connection.new) → result ≡ Err KeeperFault.Table
+        → IsTrue (state S.Store connection.old).is_open × (laid (state S.Store connection.old).committed.trees ≡ false) }
+    ensures store { HasCleanDisk (state S.Store connection.new) → result ≡ Err KeeperFault.Store → MayRefuse (state S.Store connection.old) (state S.Store connection.new) }
+    ensures stays { HasCleanDisk (state S.Store connection.new) → IsTrue (state S.Store connection.new).is_open → Stays (state S.Store connection.old) (state S.Store connection.new) }
+    ensures same { HasCleanDisk (state S.Store connection.new) → OnOk result (IsUnchanged (state S.Store connection.old) (state S.Store connection.new)) }
+    ensures survives { Survives (state S.Store connection.old) (state S.Store connection.new) (λ _. ⊥) }
+{
+    let first = all_rows::<S, FirstRow>(alloc, connection)?;
+    let numbers = all_rows::<S, LayoutNumber>(alloc, connection)?;
+    if first.is_empty() && state_the_second(&numbers) {
+        Ok(())
+    } else {
+        Err(KeeperFault::Table)
+    }
+}
+
+// What stands in the table for a row, beside the room and its version.
 #[derive(Drop)]
-struct Cells<'r> {
-    place: i64,
-    event: &'r str,
-    caller: u32,
+pub struct Cells<'r> {
+    pub place: i64,
+    pub event: &'r str,
+    pub caller: u32,
 }
 
 // The cells of the row behind so many. `Store` where no place is left.
-fn cells_of(row: &ShardRow, count: u64) -> Result<Cells<'_>, KeeperFault>
+pub fn cells_of(row: &ShardRow, count: u64) -> Result<Cells<'_>, KeeperFault>
     ensures place { IfOk result (λ cells. (cells.place ≡ pos (count + 1)) × (count < 2 ^ 63)) }
     ensures event { IfOk result (λ cells. event_of_text cells.event.now ≡ Some row.now.event) }
     ensures caller { IfOk result (λ cells. (cells.caller ≡ row.now.caller) × (cells.caller < 2 ^ 32)) }
@@ -121,59 +191,29 @@ fn cells_of(row: &ShardRow, count: u64) -> Result<Cells<'_>, KeeperFault>
     })
 }
 
-// Makes the table in a file that has nothing.
-fn create_kept<S: Alter>(connection: &mut Connection<S>) -> Result<usize, Error>
-    requires idle { IsTrue (state S.Store connection.old).is_open → IsIdle (state S.Store connection.old) }
-    requires schema { IsTrue (state S.Store connection.old).is_open → (state S.Store connection.old).now.schema ≡ no_schema }
-    ensures ok { HasCleanDisk (state S.Store connection.new) → OnOk result (Puts kept_schema [] (state S.Store connection.old) (state S.Store connection.new)) }
-    ensures refused { HasCleanDisk (state S.Store connection.new) → IfErr result (λ error. error ≢ Error.SqliteFailure ErrorCode.OutOfMemory
-        → MayRefuse (state S.Store connection.old) (state S.Store connection.new) ⊎ IsRefused create_text [] (state S.Store connection.old)) }
-    ensures survives { Survives (state S.Store connection.old) (state S.Store connection.new) (λ db. HasSchema kept_schema db × (db 0 ≡ [])) }
-{
-    let create = connection.prepare(
-        "CREATE TABLE kept (place INTEGER PRIMARY KEY, room TEXT NOT NULL, event TEXT NOT NULL, caller INTEGER NOT NULL)",
-    )?;
-    create.execute(connection, &[])
-}
-
 // Adds a row at a place. It is prepared first, which tells whether the connection is open.
 fn insert_kept<S: Alter>(
     connection: &mut Connection<S>,
     place: i64,
     room: &str,
+    version: RoomVersion,
     event: &str,
     caller: u32,
 ) -> Result<usize, Error>
     requires idle { IsTrue (state S.Store connection.old).is_open → IsIdle (state S.Store connection.old) }
-    requires schema { IsTrue (state S.Store connection.old).is_open → (state S.Store connection.old).now.schema ≡ kept_schema }
-    ensures ok { HasCleanDisk (state S.Store connection.new) → OnOk result (Puts kept_schema (put_row (stored place room.now event.now caller) ((state S.Store connection.old).committed.trees 0))
+    requires schema { IsTrue (state S.Store connection.old).is_open → (state S.Store connection.old).now.schema ≡ shard_schema }
+    ensures ok { HasCleanDisk (state S.Store connection.new) → OnOk result (Puts shard_schema (IsPut shard_schema 1 (stored place room.now version event.now caller) (state S.Store connection.old).committed.trees)
         (state S.Store connection.old) (state S.Store connection.new)) }
     ensures err { HasCleanDisk (state S.Store connection.new) → OnErr result (IsTrue (state S.Store connection.new).is_open
         → Stays (state S.Store connection.old) (state S.Store connection.new)) }
     ensures refused { HasCleanDisk (state S.Store connection.new) → IfErr result (λ error. error ≢ Error.SqliteFailure ErrorCode.OutOfMemory
-        → MayRefuse (state S.Store connection.old) (state S.Store connection.new) ⊎ IsRefused insert_text (given_row place room.now event.now caller) (state S.Store connection.old)) }
+        → MayRefuse (state S.Store connection.old) (state S.Store connection.new) ⊎ IsRefused insert_text (given_row place room.now version event.now caller) (state S.Store connection.old)) }
     ensures survives { Survives (state S.Store connection.old) (state S.Store connection.new) (λ db. IsTrue (state S.Store connection.old).is_open
-        × HasSchema kept_schema db × (db 0 ≡ put_row (stored place room.now event.now caller) ((state S.Store connection.old).committed.trees 0))) }
+        × HasSchema shard_schema db × IsPut shard_schema 1 (stored place room.now version event.now caller) (state S.Store connection.old).committed.trees db) }
 {
     let insert = connection.prepare(
-        "INSERT INTO kept (place, room, event, caller) VALUES (?1, ?2, ?3, ?4)",
+        "INSERT INTO kept2 (place, room, version, event, caller) VALUES (?1, ?2, ?3, ?4, ?5)",
     )?;
-    insert.execute(connection, params![place, room, event, caller])
-}
-
-// The rows of the table as they are shown, by their places.
-fn all_kept<S: Alter>(connection: &mut Connection<S>) -> Result<Vec<Row>, Error>
-    requires idle { IsTrue (state S.Store connection.old).is_open → IsIdle (state S.Store connection.old) }
-    requires schema { IsTrue (state S.Store connection.old).is_open → (state S.Store connection.old).now.schema ≡ kept_schema }
-    ensures ok { HasCleanDisk (state S.Store connection.new) → IfOk result (λ rows. read_from read_shown 1 rows.items ≡ read_table ((state S.Store connection.old).committed.trees 0)) }
-    ensures same { HasCleanDisk (state S.Store connection.new) → OnOk result (IsUnchanged (state S.Store connection.old) (state S.Store connection.new)) }
-    ensures err { HasCleanDisk (state S.Store connection.new) → OnErr result (IsTrue (state S.Store connection.new).is_open
-        → Stays (state S.Store connection.old) (state S.Store connection.new)) }
-    ensures refused { HasCleanDisk (state S.Store connection.new) → IfErr result (λ error. error ≢ Error.SqliteFailure ErrorCode.OutOfMemory
-        → MayRefuse (state S.Store connection.old) (state S.Store connection.new)) }
-    ensures survives { Survives (state S.Store connection.old) (state S.Store connection.new) (λ _. ⊥) }
-{
-    let select = connection.prepare("SELECT place, room, event, caller FROM kept ORDER BY place")?;
-    let rows = select.query_all(connection, &[])?;
-    Ok(rows)
+    let named = version.text();
+    insert.execute(connection, params![place, room, named, event, caller])
 }

@@ -3,19 +3,17 @@ ghost use Rattle.std.specs.Prelude.{◌≡◌, ◌⊎◌, [], Err, IfErr, IfOk, 
 ghost use Rattle.sqlite.specs.Held.{state};
 ghost use Rattle.sqlite.specs.State.{HasCleanDisk, Survives};
 ghost use Rattle.sqlite.specs.Tree.{Trees};
-ghost use Rattle.mx_keeper.specs.Connections.{Finds, HasRows, HasSchema, HasTable, IsIdle, MayRefuse};
-ghost use Rattle.mx_keeper.specs.Refusals.{IsRefused};
-ghost use Rattle.mx_keeper.specs.Schemas.{no_schema};
-ghost use Rattle.mx_keeper.specs.TableRows.{read_rows};
+ghost use Rattle.mx_keeper.specs.Connections.{Finds, HasRows, HasSchema, HasTable, IsIdle, IsMoved, MayRefuse};
 
+use crate::failure_notes::{FailureNote, note_failure};
 use crate::faults::KeeperFault;
 use crate::keepers::Keeper;
-use crate::schemas::has_nothing;
 use crate::statements::{Doubts, counted, idle_statement, told};
-use crate::table_rows::{TableRow, all_rows};
+use crate::table_rows::TableRow;
 use sqlite::{Alter, Connection, Statement};
 use std::alloc::Global;
 use std::marker::Model;
+use std::sync::Arc;
 
 /// Rows in a table of SQLite, which a crash does not take away.
 ///
@@ -33,6 +31,8 @@ pub struct SqliteKeeper<S: Alter + Drop, R: TableRow> {
     unsure: Doubts,
     // The rows that were read when the connection was adopted, until they are asked for, or one is added.
     found: Option<Vec<R>>,
+    // Where it notes that it failed.
+    note: Option<Arc<FailureNote>>,
 }
 
 impl<S: Alter + Drop, R: TableRow> Model for SqliteKeeper<S, R> {
@@ -42,7 +42,6 @@ impl<S: Alter + Drop, R: TableRow> Model for SqliteKeeper<S, R> {
     ghost use Rattle.sqlite.specs.Tree.{Trees};
     ghost use Rattle.mx_keeper.specs.Connections.{HasRows, HasSchema};
     ghost use Rattle.mx_keeper.specs.SqliteKeepers.{KeeperView, keeper_code};
-    ghost use Rattle.mx_keeper.specs.TableRows.{read_rows};
 
     ghost Value = { KeeperView S };
 
@@ -51,9 +50,9 @@ impl<S: Alter + Drop, R: TableRow> Model for SqliteKeeper<S, R> {
     ghost view = { λ keeper. record { connection = keeper.connection; failures = keeper.failures; unsure = keeper.unsure; is_ready = is_some keeper.found } };
 
     ghost invariant = { λ keeper. record {
-      kept : IsTrue (state S.Store keeper.connection).is_open → HasRows R.schema (read_rows R.shown) keeper.count (state S.Store keeper.connection);
+      kept : IsTrue (state S.Store keeper.connection).is_open → HasRows R.schema R.read keeper.count (state S.Store keeper.connection);
       found : IfSome keeper.found (λ rows. HasCleanDisk (state S.Store keeper.connection)
-          → IsTrue (state S.Store keeper.connection).is_open × (read_rows R.shown ((state S.Store keeper.connection).committed.trees 0) ≡ Some rows.items));
+          → IsTrue (state S.Store keeper.connection).is_open × (R.read (state S.Store keeper.connection).committed.trees ≡ Some rows.items));
       left : HasCleanDisk (state S.Store keeper.connection) → (db : Trees) → (state S.Store keeper.connection).may_leave db → HasSchema R.schema db;
       probe : HasCleanDisk (state S.Store keeper.connection) → keeper.probe.text ≡ [];
     } };
@@ -67,10 +66,11 @@ pub struct NotAdopted<S: Alter + Drop> {
 }
 
 impl<S: Alter + Drop, R: TableRow> SqliteKeeper<S, R> {
-    /// Takes a connection whose file has the table of these rows alone, or nothing: then the table is made. All rows are
-    /// read, once: the first call of `rows` gives these out.
+    /// Takes a connection whose file has the tables of these rows alone, or is one of an earlier layout, or has nothing:
+    /// then the tables are made, with the rows that the file has, in one transaction. All rows are read: the first call
+    /// of `rows` gives these out.
     ///
-    /// `Table` where the file has something else, or the table has rows that do not read. `Store` where a transaction is
+    /// `Table` where the file has something else, or its rows do not read; then nothing is changed. `Store` where a transaction is
     /// begun, or SQLite refused a statement for another cause than memory. `Memory` where no memory is left. The
     /// connection is given back with each. The time is linear in the rows.
     pub fn adopt(
@@ -80,23 +80,23 @@ impl<S: Alter + Drop, R: TableRow> SqliteKeeper<S, R> {
         ensures honest { IfOk result (λ keeper. HasCleanDisk (state S.Store keeper.connection) → HasCleanDisk (state S.Store connection)) }
         ensures open { IfOk result (λ keeper. HasCleanDisk (state S.Store keeper.connection) → IsTrue (state S.Store keeper.connection).is_open) }
         ensures rows { IfOk result (λ keeper. HasCleanDisk (state S.Store keeper.connection) → (rows : List R)
-            × (read_rows R.shown ((state S.Store keeper.connection).committed.trees 0) ≡ Some rows) × Finds R.schema (read_rows R.shown) (state S.Store connection) rows) }
+            × (R.read (state S.Store keeper.connection).committed.trees ≡ Some rows) × Finds R.schema R.read R.before (state S.Store connection) rows) }
         ensures none_failed { IfOk result (λ keeper. keeper.failures ≡ 0) }
         ensures ready { IfOk result (λ keeper. IsTrue keeper.is_ready) }
 
-        // A crash leaves what it might have left before, or the empty table.
+        // A crash leaves what it might have left before, or the tables with the rows that are found now.
         ensures crash { IfOk result (λ keeper. HasCleanDisk (state S.Store keeper.connection) → (db : Trees)
-            → (state S.Store keeper.connection).may_leave db → (state S.Store connection).may_leave db ⊎ (HasSchema R.schema db × (db 0 ≡ []))) }
+            → (state S.Store keeper.connection).may_leave db → (state S.Store connection).may_leave db ⊎ IsMoved R.schema R.read R.before (state S.Store connection) db) }
         ensures refused_honest { IfErr result (λ refused. HasCleanDisk (state S.Store refused.connection) → HasCleanDisk (state S.Store connection)) }
         ensures refused_crash { IfErr result (λ refused. HasCleanDisk (state S.Store refused.connection) → (db : Trees)
-            → (state S.Store refused.connection).may_leave db → (state S.Store connection).may_leave db ⊎ (HasSchema R.schema db × (db 0 ≡ []))) }
+            → (state S.Store refused.connection).may_leave db → (state S.Store connection).may_leave db ⊎ IsMoved R.schema R.read R.before (state S.Store connection) db) }
 
-        // The table is refused only where it is not to be found.
+        // The tables are refused only where no rows are to be found.
         ensures table { IfErr result (λ refused. HasCleanDisk (state S.Store refused.connection) → refused.fault ≡ KeeperFault.Table
-            → (rows : List R) → ¬ Finds R.schema (read_rows R.shown) (state S.Store connection) rows) }
-        // Only a transaction, or what SQLite refuses of the making of the table or of a query is told as `Store`.
+            → (rows : List R) → ¬ Finds R.schema R.read R.before (state S.Store connection) rows) }
+        // Only a transaction, or what SQLite refuses of the making of the tables or of a query is told as `Store`.
         ensures store { IfErr result (λ refused. HasCleanDisk (state S.Store refused.connection) → refused.fault ≡ KeeperFault.Store → IsTrue (state S.Store connection).in_transaction
-            ⊎ ((((state S.Store connection).now.schema ≡ no_schema) × IsRefused R.create_text [] (state S.Store connection)) ⊎ MayRefuse (state S.Store connection) (state S.Store refused.connection))) }
+            ⊎ (((¬ ((state S.Store connection).now.schema ≡ R.schema)) × R.refuses_tables (state S.Store connection)) ⊎ MayRefuse (state S.Store connection) (state S.Store refused.connection))) }
         ensures begun { IsTrue (state S.Store connection).in_transaction → IsErrAnd result (λ refused. refused.fault ≡ KeeperFault.Store) }
     {
         let mut connection = connection;
@@ -109,12 +109,20 @@ impl<S: Alter + Drop, R: TableRow> SqliteKeeper<S, R> {
                 failures: 0,
                 unsure: Doubts::none(),
                 found: Some(rows),
+                note: None,
             }),
             Err(fault) => Err(NotAdopted { fault, connection }),
         }
     }
 
-    /// A law: what a crash may leave now is the file of this table, also where a failure has shut the connection.
+    /// From now on it notes here that it failed, for who runs the program. Nothing else changes.
+    pub fn note_failures_in(&mut self, note: Arc<FailureNote>)
+        ensures { self.new ≡ self.old }
+    {
+        self.note = Some(note);
+    }
+
+    /// A law: what a crash may leave now is a file with these tables, also where a failure has shut the connection.
     pub fn leaves_its_table(&self)
         ensures { HasCleanDisk (state S.Store self.now.connection) → (db : Trees) → (state S.Store self.now.connection).may_leave db → HasSchema R.schema db }
     {
@@ -133,27 +141,28 @@ impl<S: Alter + Drop, R: TableRow> SqliteKeeper<S, R> {
             failures: _,
             unsure: _,
             found: _,
+            note: _,
         } = self;
         connection
     }
 }
 
-// The rows of the table, which is made where the file has nothing, and what finds whether the connection is open.
+// The rows of the tables, which are made where the file is one of an earlier layout or has nothing, and what finds whether the connection is open.
 fn found_all<S: Alter, R: TableRow>(
     alloc: Global,
     connection: &mut Connection<S>,
 ) -> Result<(Vec<R>, Statement), KeeperFault>
     ensures open { HasCleanDisk (state S.Store connection.new) → OnOk result (IsTrue (state S.Store connection.new).is_open) }
-    ensures kept { HasCleanDisk (state S.Store connection.new) → IfOk result (λ it. HasRows R.schema (read_rows R.shown) (length it.0.items) (state S.Store connection.new)) }
-    ensures reads { HasCleanDisk (state S.Store connection.new) → IfOk result (λ it. read_rows R.shown ((state S.Store connection.new).committed.trees 0) ≡ Some it.0.items) }
-    ensures found { HasCleanDisk (state S.Store connection.new) → IfOk result (λ it. Finds R.schema (read_rows R.shown) (state S.Store connection.old) it.0.items) }
+    ensures kept { HasCleanDisk (state S.Store connection.new) → IfOk result (λ it. HasRows R.schema R.read (length it.0.items) (state S.Store connection.new)) }
+    ensures reads { HasCleanDisk (state S.Store connection.new) → IfOk result (λ it. R.read (state S.Store connection.new).committed.trees ≡ Some it.0.items) }
+    ensures found { HasCleanDisk (state S.Store connection.new) → IfOk result (λ it. Finds R.schema R.read R.before (state S.Store connection.old) it.0.items) }
     ensures probe { HasCleanDisk (state S.Store connection.new) → IfOk result (λ it. it.1.text ≡ []) }
-    ensures table { HasCleanDisk (state S.Store connection.new) → result ≡ Err KeeperFault.Table → (rows : List R) → ¬ Finds R.schema (read_rows R.shown) (state S.Store connection.old) rows }
+    ensures table { HasCleanDisk (state S.Store connection.new) → result ≡ Err KeeperFault.Table → (rows : List R) → ¬ Finds R.schema R.read R.before (state S.Store connection.old) rows }
     ensures left { HasCleanDisk (state S.Store connection.new) → OnOk result ((db : Trees) → (state S.Store connection.new).may_leave db → HasSchema R.schema db) }
     ensures store { HasCleanDisk (state S.Store connection.new) → result ≡ Err KeeperFault.Store → IsTrue (state S.Store connection.old).in_transaction
-        ⊎ ((((state S.Store connection.old).now.schema ≡ no_schema) × IsRefused R.create_text [] (state S.Store connection.old)) ⊎ MayRefuse (state S.Store connection.old) (state S.Store connection.new)) }
+        ⊎ (((¬ ((state S.Store connection.old).now.schema ≡ R.schema)) × R.refuses_tables (state S.Store connection.old)) ⊎ MayRefuse (state S.Store connection.old) (state S.Store connection.new)) }
     ensures begun { IsTrue (state S.Store connection.old).in_transaction → result ≡ Err KeeperFault.Store }
-    ensures survives { Survives (state S.Store connection.old) (state S.Store connection.new) (λ db. HasSchema R.schema db × (db 0 ≡ [])) }
+    ensures survives { Survives (state S.Store connection.old) (state S.Store connection.new) (IsMoved R.schema R.read R.before (state S.Store connection.old)) }
 {
     let rows = found_rows::<S, R>(alloc, connection)?;
     let probe = idle_statement(connection)?;
@@ -166,40 +175,39 @@ fn found_rows<S: Alter, R: TableRow>(
     connection: &mut Connection<S>,
 ) -> Result<Vec<R>, KeeperFault>
     ensures open { HasCleanDisk (state S.Store connection.new) → OnOk result (IsTrue (state S.Store connection.new).is_open) }
-    ensures kept { HasCleanDisk (state S.Store connection.new) → IfOk result (λ rows. HasRows R.schema (read_rows R.shown) (length rows.items) (state S.Store connection.new)) }
-    ensures reads { HasCleanDisk (state S.Store connection.new) → IfOk result (λ rows. read_rows R.shown ((state S.Store connection.new).committed.trees 0) ≡ Some rows.items) }
-    ensures found { HasCleanDisk (state S.Store connection.new) → IfOk result (λ rows. Finds R.schema (read_rows R.shown) (state S.Store connection.old) rows.items) }
-    ensures table { HasCleanDisk (state S.Store connection.new) → result ≡ Err KeeperFault.Table → (rows : List R) → ¬ Finds R.schema (read_rows R.shown) (state S.Store connection.old) rows }
+    ensures kept { HasCleanDisk (state S.Store connection.new) → IfOk result (λ rows. HasRows R.schema R.read (length rows.items) (state S.Store connection.new)) }
+    ensures reads { HasCleanDisk (state S.Store connection.new) → IfOk result (λ rows. R.read (state S.Store connection.new).committed.trees ≡ Some rows.items) }
+    ensures found { HasCleanDisk (state S.Store connection.new) → IfOk result (λ rows. Finds R.schema R.read R.before (state S.Store connection.old) rows.items) }
+    ensures table { HasCleanDisk (state S.Store connection.new) → result ≡ Err KeeperFault.Table → (rows : List R) → ¬ Finds R.schema R.read R.before (state S.Store connection.old) rows }
     ensures left { HasCleanDisk (state S.Store connection.new) → OnOk result ((db : Trees) → (state S.Store connection.new).may_leave db → HasSchema R.schema db) }
     ensures store { HasCleanDisk (state S.Store connection.new) → result ≡ Err KeeperFault.Store → IsTrue (state S.Store connection.old).in_transaction
-        ⊎ ((((state S.Store connection.old).now.schema ≡ no_schema) × IsRefused R.create_text [] (state S.Store connection.old)) ⊎ MayRefuse (state S.Store connection.old) (state S.Store connection.new)) }
+        ⊎ (((¬ ((state S.Store connection.old).now.schema ≡ R.schema)) × R.refuses_tables (state S.Store connection.old)) ⊎ MayRefuse (state S.Store connection.old) (state S.Store connection.new)) }
     ensures begun { IsTrue (state S.Store connection.old).in_transaction → result ≡ Err KeeperFault.Store }
-    ensures survives { Survives (state S.Store connection.old) (state S.Store connection.new) (λ db. HasSchema R.schema db × (db 0 ≡ [])) }
+    ensures survives { Survives (state S.Store connection.old) (state S.Store connection.new) (IsMoved R.schema R.read R.before (state S.Store connection.old)) }
 {
     if !connection.is_autocommit() {
         return Err(KeeperFault::Store);
     }
-    ensure_table::<S, R>(connection)?;
-    all_rows(alloc, connection)
+    ensure_tables::<S, R>(alloc, connection)?;
+    R::all(alloc, connection)
 }
 
-// Makes the table where the file has nothing. `Table` where it has something else.
-fn ensure_table<S: Alter, R: TableRow>(connection: &mut Connection<S>) -> Result<(), KeeperFault>
+// Makes the tables where the file is one of an earlier layout, or has nothing. `Table` where it has something else.
+fn ensure_tables<S: Alter, R: TableRow>(
+    alloc: Global,
+    connection: &mut Connection<S>,
+) -> Result<(), KeeperFault>
     requires { IsTrue (state S.Store connection.old).is_open → IsIdle (state S.Store connection.old) }
-    ensures ok { HasCleanDisk (state S.Store connection.new) → OnOk result (IsTrue (state S.Store connection.new).is_open → HasTable R.schema (state S.Store connection.old) (state S.Store connection.new)) }
-    ensures table { result ≡ Err KeeperFault.Table → (¬ ((state S.Store connection.old).now.schema ≡ R.schema)) × (¬ ((state S.Store connection.old).now.schema ≡ no_schema)) }
+    ensures ok { HasCleanDisk (state S.Store connection.new) → OnOk result (IsTrue (state S.Store connection.new).is_open → HasTable R.schema R.read R.before (state S.Store connection.old) (state S.Store connection.new)) }
+    ensures table { HasCleanDisk (state S.Store connection.new) → result ≡ Err KeeperFault.Table → (rows : List R) → ¬ Finds R.schema R.read R.before (state S.Store connection.old) rows }
     ensures store { HasCleanDisk (state S.Store connection.new) → result ≡ Err KeeperFault.Store
-        → (((state S.Store connection.old).now.schema ≡ no_schema) × IsRefused R.create_text [] (state S.Store connection.old)) ⊎ MayRefuse (state S.Store connection.old) (state S.Store connection.new) }
-    ensures same { OnOk result (((state S.Store connection.old).now.schema ≡ no_schema) ⊎ (connection.new ≡ connection.old)) }
-    ensures survives { Survives (state S.Store connection.old) (state S.Store connection.new) (λ db. HasSchema R.schema db × (db 0 ≡ [])) }
+        → ((¬ ((state S.Store connection.old).now.schema ≡ R.schema)) × R.refuses_tables (state S.Store connection.old)) ⊎ MayRefuse (state S.Store connection.old) (state S.Store connection.new) }
+    ensures survives { Survives (state S.Store connection.old) (state S.Store connection.new) (IsMoved R.schema R.read R.before (state S.Store connection.old)) }
 {
     if R::is_known(connection.schema()) {
         return Ok(());
     }
-    if !has_nothing(connection.schema()) {
-        return Err(KeeperFault::Table);
-    }
-    R::create(connection)
+    R::make_tables(alloc, connection)
 }
 
 impl<S: Alter + Drop, R: TableRow> Keeper for SqliteKeeper<S, R> {
@@ -209,17 +217,16 @@ impl<S: Alter + Drop, R: TableRow> Keeper for SqliteKeeper<S, R> {
     ghost use Rattle.sqlite.specs.State.{HasCleanDisk};
     ghost use Rattle.sqlite.specs.Tree.{Trees};
     ghost use Rattle.mx_keeper.specs.Refusals.{MayRefuseCall};
-    ghost use Rattle.mx_keeper.specs.TableRows.{read_rows};
 
     type Row = R;
 
-    ghost rows = { λ keeper. read_rows R.shown ((state S.Store keeper.connection).committed.trees 0) };
+    ghost rows = { λ keeper. R.read (state S.Store keeper.connection).committed.trees };
 
     ghost is_open = { λ keeper. IsTrue (state S.Store keeper.connection).is_open };
 
     ghost is_honest = { λ keeper. HasCleanDisk (state S.Store keeper.connection) };
 
-    ghost may_leave = { λ keeper left. (db : Trees) × (state S.Store keeper.connection).may_leave db × (left ≡ read_rows R.shown (db 0)) };
+    ghost may_leave = { λ keeper left. (db : Trees) × (state S.Store keeper.connection).may_leave db × (left ≡ R.read db) };
 
     ghost failed = { λ keeper. keeper.failures };
 
@@ -227,11 +234,12 @@ impl<S: Alter + Drop, R: TableRow> Keeper for SqliteKeeper<S, R> {
 
     ghost is_ready = { λ keeper. IsTrue keeper.is_ready };
 
-    ghost may_refuse = { λ old row new. MayRefuseCall R.schema (read_rows R.shown) R.refuses row (state S.Store old.connection) (state S.Store new.connection) };
+    ghost may_refuse = { λ old row new. MayRefuseCall R.schema R.read R.refuses row (state S.Store old.connection) (state S.Store new.connection) };
 
     fn append(&mut self, row: &R) -> Result<(), KeeperFault> {
         self.found = None;
-        match row.insert(&mut self.connection, self.count) {
+        let mut words = None;
+        match row.insert(&mut self.connection, self.count, &mut words) {
             Ok(()) => {
                 self.count += 1;
                 Ok(())
@@ -239,6 +247,7 @@ impl<S: Alter + Drop, R: TableRow> Keeper for SqliteKeeper<S, R> {
             Err(fault) => {
                 let fault = told(&mut self.connection, &self.probe, &mut self.unsure, fault);
                 self.failures = counted(self.failures, fault);
+                note_failure(&self.note, self.alloc, fault, words);
                 Err(fault)
             }
         }
@@ -248,7 +257,7 @@ impl<S: Alter + Drop, R: TableRow> Keeper for SqliteKeeper<S, R> {
         if let Some(rows) = self.found.take() {
             return Ok(rows);
         }
-        match all_rows(self.alloc, &mut self.connection) {
+        match R::all(self.alloc, &mut self.connection) {
             Ok(all) => Ok(all),
             Err(fault) => {
                 let fault = told(&mut self.connection, &self.probe, &mut self.unsure, fault);
@@ -262,5 +271,5 @@ impl<S: Alter + Drop, R: TableRow> Keeper for SqliteKeeper<S, R> {
         self.failures
     }
 
-    ghost settled = { λ keeper left _ live it. it.2 ∙ ap (λ (t : Trees). read_rows R.shown (t 0)) (S.Store.settled keeper.connection.store it.0 live it.1) };
+    ghost settled = { λ keeper left _ live it. it.2 ∙ ap R.read (S.Store.settled keeper.connection.store it.0 live it.1) };
 }

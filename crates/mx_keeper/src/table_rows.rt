@@ -1,66 +1,74 @@
-// Rows that have a table.
-ghost use Rattle.std.specs.Prelude.{◌≡◌, ◌≢◌, ◌↔◌, ◌⊎◌, IfErr, ◌+◌, ◌<◌, ◌^◌, ℕ, pos, OnOk, OnErr, IfOk, IsTrue, List, [], Option, None, Some};
-ghost use Rattle.sqlite.specs.declared.types.Value.TheVariants.{Int};
+// Rows that have tables.
+ghost use Rattle.std.specs.Prelude.{◌≡◌, ◌↔◌, ◌⊎◌, ◌+◌, ◌<◌, ◌^◌, ℕ, OnOk, OnErr, IfOk, IsTrue, List, Option, None, Some};
 ghost use Rattle.sqlite.specs.Held.{state};
-ghost use Rattle.sqlite.specs.Order.{Row as Cells};
 ghost use Rattle.sqlite.specs.Schema.{Schema as TheSchema};
-ghost use Rattle.sqlite.specs.State.{HasCleanDisk, IsUnchanged, State, Survives};
-ghost use Rattle.sqlite_trees.specs.Tree.{rowid};
-ghost use Rattle.mx_keeper.specs.Connections.{HasRows, HasSchema, IsIdle, MayRefuse, Puts, Stays};
+ghost use Rattle.sqlite.specs.State.{HasCleanDisk, State, Survives};
+ghost use Rattle.sqlite.specs.Tree.{Trees};
+ghost use Rattle.mx_keeper.specs.Connections.{HasRows, HasSchema, IsIdle, IsMoved, MayRefuse, Puts, Stays};
 ghost use Rattle.mx_keeper.specs.Keeping.{with_row};
-ghost use Rattle.mx_keeper.specs.Refusals.{IsRefused, RefusesRow};
-ghost use Rattle.mx_keeper.specs.Schemas.{no_schema};
-ghost use Rattle.mx_keeper.specs.TableRows.{read_from, read_rows};
+ghost use Rattle.mx_keeper.specs.Refusals.{RefusesRow};
 
 use crate::faults::KeeperFault;
-use crate::statements::fault_of;
 use crate::storing::Storable;
-use sqlite::{Alter, Connection, Error, ErrorCode, Row};
+use sqlite::{Alter, Connection, Error};
 use sqlite_schema::schema::Schema;
 use std::alloc::Global;
 
-/// A row that stands in a table of its own, the only one of its file.
-///
-/// The rows of the table have places, which count from 1.
+/// A row that stands in tables of its own, the only ones of its file.
 pub trait TableRow: Storable {
     /// The schema of the file.
     ghost schema: { TheSchema };
 
-    /// What a row that a query shows reads as at a place; none where it does not read.
-    ghost shown: { ℕ → Cells → Option Self };
+    /// The rows that the tables read as, by their places, which count from 1; none where they do not read.
+    ghost read: { Trees → Option (List Self) };
 
-    /// The statement that makes the table.
-    ghost create_text: { List ℕ };
+    /// A file with another schema is one of an earlier layout, or one that has nothing, and these are its rows.
+    ghost before: { TheSchema → Trees → List Self → Type 0 };
+
+    /// SQLite refuses to make the tables in such a file, by what a statement that makes them means in this state.
+    ghost refuses_tables: { State → Type 0 };
 
     /// SQLite refuses the row behind so many, by what the statement that adds it means in this state.
     ghost refuses: { Self → ℕ → State → Type 0 };
 
-    /// Whether the table is known: the schema is that of the file.
+    /// Whether the tables are known: the schema is that of the file.
     fn is_known(found: &Schema) -> bool
         ensures { IsTrue result ↔ (found.now ≡ schema) };
 
-    /// Makes the table in a file that has nothing. After an error the connection may be shut, and a crash may leave the
-    /// table.
-    fn create<S: Alter>(connection: &mut Connection<S>) -> Result<(), KeeperFault>
-        requires idle { IsTrue (state S.Store connection.old).is_open → IsIdle (state S.Store connection.old) }
-        requires empty { IsTrue (state S.Store connection.old).is_open → (state S.Store connection.old).now.schema ≡ no_schema }
-        ensures ok { HasCleanDisk (state S.Store connection.new) → OnOk result (Puts schema [] (state S.Store connection.old) (state S.Store connection.new)) }
-        ensures no_table { ¬ (result ≡ Err KeeperFault.Table) }
-        ensures refused { HasCleanDisk (state S.Store connection.new) → result ≡ Err KeeperFault.Store
-            → MayRefuse (state S.Store connection.old) (state S.Store connection.new) ⊎ IsRefused create_text [] (state S.Store connection.old) }
-        ensures survives { Survives (state S.Store connection.old) (state S.Store connection.new) (λ db. HasSchema schema db × (db 0 ≡ [])) };
+    /// Whether the tables are those of an earlier layout.
+    fn is_earlier(found: &Schema) -> bool
+        ensures { IsTrue result → ¬ (found.now ≡ schema) };
 
-    /// Adds the row behind so many. After an error the connection may be shut, and a crash may leave the row.
+    /// Makes the tables in a file with another schema, and puts the rows into them that it has. `Table` where it is none
+    /// of an earlier layout and has something, or its rows do not read. After another error the connection may be shut,
+    /// and a crash may leave the tables, with all these rows.
+    fn make_tables<S: Alter>(
+        alloc: Global,
+        connection: &mut Connection<S>,
+    ) -> Result<(), KeeperFault>
+        requires idle { IsTrue (state S.Store connection.old).is_open → IsIdle (state S.Store connection.old) }
+        requires other { ¬ ((state S.Store connection.old).now.schema ≡ schema) }
+        ensures ok { HasCleanDisk (state S.Store connection.new) → OnOk result ((rows : List Self) × before (state S.Store connection.old).now.schema (state S.Store connection.old).committed.trees rows
+            × Puts schema (λ db. read db ≡ Some rows) (state S.Store connection.old) (state S.Store connection.new)) }
+        ensures table { HasCleanDisk (state S.Store connection.new) → result ≡ Err KeeperFault.Table
+            → (rows : List Self) → ¬ before (state S.Store connection.old).now.schema (state S.Store connection.old).committed.trees rows }
+        ensures refused { HasCleanDisk (state S.Store connection.new) → result ≡ Err KeeperFault.Store
+            → MayRefuse (state S.Store connection.old) (state S.Store connection.new) ⊎ refuses_tables (state S.Store connection.old) }
+        ensures survives { Survives (state S.Store connection.old) (state S.Store connection.new) (IsMoved schema read before (state S.Store connection.old)) };
+
+    /// Adds the row behind so many. After an error the connection may be shut, and a crash may leave the row. Where SQLite
+    /// refuses it, `words` is what it says.
     fn insert<S: Alter>(
         &self,
         connection: &mut Connection<S>,
         count: u64,
+        words: &mut Option<Error>,
     ) -> Result<(), KeeperFault>
-        requires { IsTrue (state S.Store connection.old).is_open → HasRows schema (read_rows shown) count (state S.Store connection.old) }
+        requires { IsTrue (state S.Store connection.old).is_open → HasRows schema read count (state S.Store connection.old) }
         ensures open { HasCleanDisk (state S.Store connection.new) → OnOk result (IsTrue (state S.Store connection.new).is_open) }
-        ensures kept { HasCleanDisk (state S.Store connection.new) → OnOk result (HasRows schema (read_rows shown) (count + 1) (state S.Store connection.new)) }
-        ensures row { HasCleanDisk (state S.Store connection.new) → OnOk result (read_rows shown ((state S.Store connection.new).committed.trees 0)
-            ≡ with_row (read_rows shown ((state S.Store connection.old).committed.trees 0)) self.now) }
+        ensures kept { HasCleanDisk (state S.Store connection.new) → OnOk result (HasRows schema read (count + 1) (state S.Store connection.new)) }
+        ensures row { HasCleanDisk (state S.Store connection.new) → OnOk result (read (state S.Store connection.new).committed.trees
+            ≡ with_row (read (state S.Store connection.old).committed.trees) self.now) }
         ensures few { OnOk result (count < 2 ^ 63) }
         ensures err { HasCleanDisk (state S.Store connection.new) → OnErr result (IsTrue (state S.Store connection.new).is_open
             → Stays (state S.Store connection.old) (state S.Store connection.new)) }
@@ -68,71 +76,27 @@ pub trait TableRow: Storable {
         ensures refused { HasCleanDisk (state S.Store connection.new) → result ≡ Err KeeperFault.Store
             → MayRefuse (state S.Store connection.old) (state S.Store connection.new) ⊎ RefusesRow (refuses self.now) count (state S.Store connection.old) }
         ensures survives { Survives (state S.Store connection.old) (state S.Store connection.new)
-            (λ db. HasSchema schema db × (read_rows shown (db 0) ≡ with_row (read_rows shown ((state S.Store connection.old).committed.trees 0)) self.now)) };
+            (λ db. HasSchema schema db × (read db ≡ with_row (read (state S.Store connection.old).committed.trees) self.now)) };
 
-    /// All rows as they are shown, by their places, where the table is known. After an error the connection may be shut.
-    fn select<S: Alter>(connection: &mut Connection<S>) -> Result<Vec<Row>, Error>
-        requires idle { IsTrue (state S.Store connection.old).is_open → IsIdle (state S.Store connection.old) }
-        requires known { IsTrue (state S.Store connection.old).is_open → (state S.Store connection.old).now.schema ≡ schema }
-        ensures ok { HasCleanDisk (state S.Store connection.new) → IfOk result (λ rows. read_from shown 1 rows.items
-            ≡ read_rows shown ((state S.Store connection.old).committed.trees 0)) }
-        ensures same { HasCleanDisk (state S.Store connection.new) → OnOk result (IsUnchanged (state S.Store connection.old) (state S.Store connection.new)) }
-        ensures err { HasCleanDisk (state S.Store connection.new) → OnErr result (IsTrue (state S.Store connection.new).is_open
-            → Stays (state S.Store connection.old) (state S.Store connection.new)) }
-        ensures refused { HasCleanDisk (state S.Store connection.new) → IfErr result (λ error. error ≢ Error.SqliteFailure ErrorCode.OutOfMemory
-            → MayRefuse (state S.Store connection.old) (state S.Store connection.new)) }
-        ensures survives { Survives (state S.Store connection.old) (state S.Store connection.new) (λ _. ⊥) };
-
-    /// The row that is shown at a place. `Table` where it does not read, `Memory` where no memory is left.
-    fn read(alloc: Global, row: &Row, place: u64) -> Result<Self, KeeperFault>
+    /// All rows, by their places, where the tables are known.
+    ///
+    /// After `Memory` and `Store` the connection may be shut. `Table` where the tables do not read.
+    fn all<S: Alter>(
+        alloc: Global,
+        connection: &mut Connection<S>,
+    ) -> Result<Vec<Self>, KeeperFault>
     where
         Self: Sized,
-        ensures ok { IfOk result (λ read. shown place row.now ≡ Some read) }
-        ensures table { result ≡ Err KeeperFault.Table → shown place row.now ≡ None }
-        ensures no_store { ¬ (result ≡ Err KeeperFault.Store) };
+        requires idle { IsTrue (state S.Store connection.old).is_open → IsIdle (state S.Store connection.old) }
+        requires known { IsTrue (state S.Store connection.old).is_open → (state S.Store connection.old).now.schema ≡ schema }
+        ensures ok { HasCleanDisk (state S.Store connection.new) → IfOk result (λ all. read (state S.Store connection.old).committed.trees ≡ Some all.items) }
+        ensures open { HasCleanDisk (state S.Store connection.new) → OnOk result (IsTrue (state S.Store connection.new).is_open) }
+        ensures table { HasCleanDisk (state S.Store connection.new) → result ≡ Err KeeperFault.Table
+            → IsTrue (state S.Store connection.old).is_open × (read (state S.Store connection.old).committed.trees ≡ None) }
+        ensures store { HasCleanDisk (state S.Store connection.new) → result ≡ Err KeeperFault.Store → MayRefuse (state S.Store connection.old) (state S.Store connection.new) }
+        ensures stays { HasCleanDisk (state S.Store connection.new) → IsTrue (state S.Store connection.new).is_open → Stays (state S.Store connection.old) (state S.Store connection.new) }
+        ensures survives { Survives (state S.Store connection.old) (state S.Store connection.new) (λ _. ⊥) };
 
-    /// A row that reads at a place has its number.
-    ghost placed: { (place : ℕ) (row : Cells) (read : Self) → shown place row ≡ Some read → rowid row ≡ Int (pos place) };
-
-    /// The schema has a table.
-    ghost has_table: { ¬ (schema ≡ no_schema) };
-}
-
-/// All rows, by their places, where the table is known.
-///
-/// After `Memory` and `Store` the connection may be shut. `Table` where the rows do not read.
-pub fn all_rows<S: Alter, R: TableRow>(
-    alloc: Global,
-    connection: &mut Connection<S>,
-) -> Result<Vec<R>, KeeperFault>
-    requires idle { IsTrue (state S.Store connection.old).is_open → IsIdle (state S.Store connection.old) }
-    requires known { IsTrue (state S.Store connection.old).is_open → (state S.Store connection.old).now.schema ≡ R.schema }
-    ensures ok { HasCleanDisk (state S.Store connection.new) → IfOk result (λ all. read_rows R.shown ((state S.Store connection.old).committed.trees 0) ≡ Some all.items) }
-    ensures open { HasCleanDisk (state S.Store connection.new) → OnOk result (IsTrue (state S.Store connection.new).is_open) }
-    ensures table { HasCleanDisk (state S.Store connection.new) → result ≡ Err KeeperFault.Table
-        → IsTrue (state S.Store connection.old).is_open × (read_rows R.shown ((state S.Store connection.old).committed.trees 0) ≡ None) }
-    ensures store { HasCleanDisk (state S.Store connection.new) → result ≡ Err KeeperFault.Store → MayRefuse (state S.Store connection.old) (state S.Store connection.new) }
-    ensures stays { HasCleanDisk (state S.Store connection.new) → IsTrue (state S.Store connection.new).is_open → Stays (state S.Store connection.old) (state S.Store connection.new) }
-    ensures survives { Survives (state S.Store connection.old) (state S.Store connection.new) (λ _. ⊥) }
-{
-    match R::select(connection) {
-        Ok(rows) => rows_of(alloc, &rows),
-        Err(error) => Err(fault_of(error)),
-    }
-}
-
-// The rows that were shown, whose places count from 1.
-fn rows_of<R: TableRow>(alloc: Global, rows: &[Row]) -> Result<Vec<R>, KeeperFault>
-    ensures ok { IfOk result (λ all. read_from R.shown 1 rows.now ≡ Some all.items) }
-    ensures table { result ≡ Err KeeperFault.Table → read_from R.shown 1 rows.now ≡ None }
-    ensures no_store { ¬ (result ≡ Err KeeperFault.Store) }
-{
-    let mut all = Vec::new(alloc);
-    for row in rows {
-        match R::read(alloc, row, all.len() as u64 + 1) {
-            Ok(read) => all.push(read)?,
-            Err(fault) => return Err(fault),
-        }
-    }
-    Ok(all)
+    /// A file with this schema is none of an earlier layout, and has something.
+    ghost is_new: { (db : Trees) (rows : List Self) → ¬ before schema db rows };
 }

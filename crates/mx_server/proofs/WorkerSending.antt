@@ -34,6 +34,7 @@ use Rattle.matchit.specs.contracts.router.Router as router
 use Rattle.matchit.specs.contracts.router.Router.TheInside as router_inside
 use Rattle.matchit.proofs.route.Route.TheSendSync as matched
 use Rattle.matchit.proofs.tree.Node.TheLaws.TheKnot.{send-Node, sync-Node}
+use Rattle.mx_server.proofs.row_files.RowFiles.TheSendSync as row_files
 use Rattle.mx_server.specs.contracts.workers.Shared as shared
 use Rattle.mx_server.specs.contracts.workers.Worker as worker
 use Rattle.mx_server.specs.contracts.workers.Worker.TheInside as worker_inside
@@ -72,13 +73,13 @@ module _ (K L : RattleType) (g : Ghosts K.Denot ShardRow) (h : Ghosts L.Denot Bo
   shared_send : IsSend (shared.the_row K L g h)
   shared_send = declared_send (shared.the_type K L g h) (
     engine_send K L presence_verifier.the_row open_gate.the_row g h k l presence.the_send gate.the_send,
-    (declared_send wire_server.the_type (server_name.the_send, (routes_send, tt)), tt),
+    (declared_send wire_server.the_type (server_name.the_send, (routes_send, tt)), (row_files.the_send, tt)),
   )
 
   shared_sync : IsSync (shared.the_row K L g h)
   shared_sync = declared_sync (shared.the_type K L g h) (
     engine_sync K L presence_verifier.the_row open_gate.the_row g h k l presence.the_sync gate.the_sync,
-    (declared_sync wire_server.the_type (server_name.the_sync, (routes_sync, tt)), tt),
+    (declared_sync wire_server.the_type (server_name.the_sync, (routes_sync, tt)), (row_files.the_sync, tt)),
   )
 
   pub worker_send : IsSend (worker.the_row K L g h)

@@ -2,12 +2,17 @@
 ghost use Rattle.std.specs.Prelude.{◌≡◌, ◌≤◌, ◌+◌, IfOk, OnOk, length};
 
 use crate::errors::{ServerError, StartError};
-use mx_keeper::{BookRow, Keeper, KeeperFault, MOST_PLACES, ShardRow, SqliteKeeper, TableRow};
+use crate::row_files::RowFile;
+use mx_keeper::{
+    BookRow, FailureNote, Keeper, KeeperFault, MOST_PLACES, ShardRow, SqliteKeeper, TableRow,
+};
 use mx_wire::ShardCount;
 use sqlite::{Alter, Connection, Error, ErrorCode, File, FileStore};
 use std::alloc::{AllocError, Global};
 use std::fs::{self, DirBuilder, OpenOptions};
+use std::io::Write;
 use std::os::unix::fs::{DirBuilderExt, OpenOptionsExt};
+use std::sync::Arc;
 
 // Who may look at a directory of rows: its owner, who may change it too.
 const OWNER_ALONE: u32 = 0o700;
@@ -21,11 +26,21 @@ const LENGTH_OF_EMPTY_LOG: u64 = 41;
 /// Rows of one kind in a file.
 pub type FileRows<R> = SqliteKeeper<FileStore<File>, R>;
 
-/// The files of a server, each taken by a keeper: one for each shard, and one for each book.
+/// The files of a server, each taken by a keeper: one for each shard, and one for each book; whether one was of an earlier
+/// layout; and what each is called, with what its keeper notes where it fails.
 #[derive(Drop)]
 pub struct ServerFiles {
     pub shards: Vec<FileRows<ShardRow>>,
     pub books: Vec<FileRows<BookRow>>,
+    pub is_moved: bool,
+    pub files: Vec<RowFile>,
+}
+
+/// Rows of one kind in a file, and whether it was of an earlier layout.
+#[derive(Drop)]
+pub struct OpenedFile<R: TableRow> {
+    pub keeper: FileRows<R>,
+    pub is_moved: bool,
 }
 
 /// The files `shard-0.db`, `book-0.db` and so on of a directory. Those that it lacks are made, where no file that it has
@@ -52,12 +67,55 @@ pub fn open_directory(
         refuse_rows::<ShardRow>(host, directory, "shard", count)?;
         refuse_rows::<BookRow>(host, directory, "book", count)?;
     }
-    let rooms = keepers(host, directory, "shard", count)?;
-    let replies = keepers(host, directory, "book", count)?;
+    let mut is_moved = false;
+    let mut files = Vec::new(host.alloc());
+    let rooms = keepers(host, directory, "shard", count, &mut is_moved, &mut files)?;
+    let replies = keepers(host, directory, "book", count, &mut is_moved, &mut files)?;
     Ok(ServerFiles {
         shards: rooms,
         books: replies,
+        is_moved,
+        files,
     })
+}
+
+/// Opens the file of each shard of a directory, which brings it to the current layout where it is of an earlier one, and
+/// tells on `out` how many rows it has.
+///
+/// `Storage` where a file is missing, can't be opened or does not read, or there are more; it is then as it was.
+/// `ReadOrWrite` where the directory can't be looked at, or the telling not be written, and `Memory` where no memory is
+/// left.
+pub fn migrate<W: Write>(
+    host: &HostRuntime,
+    directory: &str,
+    shards: ShardCount,
+    out: &mut W,
+) -> Result<(), StartError> {
+    let count = shards.get();
+    let rooms = files_found(host, directory, "shard", count)?;
+    if rooms.lacking {
+        return Err(refused(host, directory, "a shard's file is missing"));
+    }
+    for number in 0..count {
+        let path = path_of(host.alloc(), directory, "shard", number)?;
+        let opened = opened_at::<ShardRow>(host, &path)?;
+        let rows = count_of_rows(host, &path, opened.keeper)?;
+        tell_rows(host.alloc(), number, rows, out)?;
+    }
+    Ok(())
+}
+
+// Tells how many rows a shard has.
+fn tell_rows<W: Write>(
+    alloc: Global,
+    number: usize,
+    rows: usize,
+    out: &mut W,
+) -> Result<(), StartError> {
+    match writeln!(out, "shard {number}: {rows} rows") {
+        Ok(()) => Ok(()),
+        Err(error) => Err(StartError::of_io(alloc, "standard output", &error)),
+    }
 }
 
 // Makes the directory, where it is not there, for its owner alone.
@@ -123,7 +181,7 @@ fn refuse_rows<R: TableRow>(
 ) -> Result<(), StartError> {
     for number in 0..count {
         let path = path_of(host.alloc(), directory, kind, number)?;
-        if is_there(host, &path)? && has_rows::<_, R>(host, &path, keeper_at(host, &path)?)? {
+        if is_there(host, &path)? && has_rows::<_, R>(host, &path, file_at(host, &path)?.keeper)? {
             return Err(refused(host, &path, "it has rows, and another file is missing"));
         }
     }
@@ -135,9 +193,19 @@ fn has_rows<S: Alter + Drop, R: TableRow>(
     path: &str,
     keeper: SqliteKeeper<S, R>,
 ) -> Result<bool, StartError> {
+    let rows = count_of_rows(host, path, keeper)?;
+    Ok(rows > 0)
+}
+
+// How many rows a file has.
+fn count_of_rows<S: Alter + Drop, R: TableRow>(
+    host: &HostRuntime,
+    path: &str,
+    keeper: SqliteKeeper<S, R>,
+) -> Result<usize, StartError> {
     let mut keeper = keeper;
     match keeper.rows() {
-        Ok(rows) => Ok(!rows.is_empty()),
+        Ok(rows) => Ok(rows.len()),
         Err(fault) => Err(unread(host, path, fault)),
     }
 }
@@ -162,22 +230,39 @@ fn path_of(
     Ok(format!(in alloc; "{directory}/{kind}-{number}.db")?)
 }
 
-// The rows of the first files of a kind.
+// The rows of the first files of a kind, each of which is added to the files.
 fn keepers<R: TableRow>(
     host: &HostRuntime,
     directory: &str,
     kind: &str,
     count: usize,
+    is_moved: &mut bool,
+    files: &mut Vec<RowFile>,
 ) -> Result<Vec<FileRows<R>>, StartError>
     ensures { IfOk result (λ keepers. length keepers.items ≡ count) }
 {
     let mut keepers = Vec::new(host.alloc());
     for number in 0..count {
         let path = path_of(host.alloc(), directory, kind, number)?;
-        let keeper = keeper_at(host, &path)?;
-        push(&mut keepers, keeper)?;
+        let note = Arc::new(host.alloc(), FailureNote::new(host.alloc()))?;
+        let opened = noting_file_at(host, &path, &note)?;
+        *is_moved |= opened.is_moved;
+        files.push(RowFile::new(path, note))?;
+        push(&mut keepers, opened.keeper)?;
     }
     Ok(keepers)
+}
+
+// The rows of a file, whose keeper notes its failure here.
+fn noting_file_at<R: TableRow>(
+    host: &HostRuntime,
+    path: &str,
+    note: &Arc<FailureNote>,
+) -> Result<OpenedFile<R>, StartError> {
+    let OpenedFile { keeper, is_moved } = file_at(host, path)?;
+    let mut keeper = keeper;
+    keeper.note_failures_in(Arc::try_clone(note)?);
+    Ok(OpenedFile { keeper, is_moved })
 }
 
 fn push<K: Drop>(keepers: &mut Vec<K>, keeper: K) -> Result<(), StartError>
@@ -199,12 +284,19 @@ fn make_file(host: &HostRuntime, path: &str) {
     let _made = maker.open(host, path);
 }
 
-// The rows of a file. What SQLite's log beside it has is copied into it first, so that it is whole alone.
-fn keeper_at<R: TableRow>(host: &HostRuntime, path: &str) -> Result<FileRows<R>, StartError> {
+// The rows of a file, which is made where it is not there.
+fn file_at<R: TableRow>(host: &HostRuntime, path: &str) -> Result<OpenedFile<R>, StartError> {
     make_file(host, path);
+    opened_at(host, path)
+}
+
+// The rows of a file. What SQLite's log beside it has is copied into it first, so that it is whole alone.
+fn opened_at<R: TableRow>(host: &HostRuntime, path: &str) -> Result<OpenedFile<R>, StartError> {
     copy_log(host, path)?;
     let connection = connection_at(host, path)?;
-    adopted(host, path, connection)
+    let is_moved = R::is_earlier(connection.schema());
+    let keeper = adopted(host, path, connection)?;
+    Ok(OpenedFile { keeper, is_moved })
 }
 
 // Copies what SQLite's log beside a file has into the file.

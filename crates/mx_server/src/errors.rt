@@ -5,7 +5,7 @@ ghost use Rattle.mx_server.specs.ServerErrors.{of_fault};
 
 use mx_keeper::{CallError, KeeperFault};
 use mx_wire::InputError;
-use std::alloc::{AllocError, Global};
+use std::alloc::{AllocError, AllocFailed, Global};
 use std::fmt::Display;
 use std::io::{self, ErrorKind};
 use thiserror::Error;
@@ -103,6 +103,17 @@ impl From<AllocError> for StartError {
 
     fn from(_refused: AllocError) -> StartError {
         StartError::from(ServerError::Memory)
+    }
+}
+
+impl<T: Drop> From<AllocFailed<T>> for StartError {
+    ghost use Rattle.std.specs.Prelude.{◌≡◌};
+    ghost use Rattle.mx_server.specs.declared.errors.ServerError.TheVariants.{Memory};
+
+    ghost from_gives = { λ _ start. start.error ≡ Memory };
+
+    fn from(_refused: AllocFailed<T>) -> StartError {
+        StartError::from(AllocError)
     }
 }
 

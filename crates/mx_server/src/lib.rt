@@ -5,9 +5,11 @@ mod directories;
 mod errors;
 mod losses;
 mod options;
+mod row_files;
 mod serving;
 mod workers;
 
+pub use directories::migrate;
 pub use errors::{ServerError, StartError};
 pub use options::{SeatCount, ServeOptions};
 pub use serving::serve;

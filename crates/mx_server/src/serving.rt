@@ -5,6 +5,7 @@ use crate::directories::{ServerFiles, open_directory};
 use crate::errors::{ServerError, StartError};
 use crate::losses::check_losses;
 use crate::options::{SeatCount, ServeOptions};
+use crate::row_files::{RowFile, RowFiles};
 use crate::workers::{Handler, ServerEngine, Shared, Worker, workers_of};
 use mx_engine::{Engine, OpenGate};
 use mx_http::{Announcer, HttpRequest, Limits, ServeError, ServerRuntime, serve_on};
@@ -40,8 +41,16 @@ pub fn serve<R: ServerRuntime, W: Write, E: Write>(
     err: &mut E,
 ) -> Result<(), StartError> {
     let (files, rooms) = rows_and_rooms(host, &options)?;
-    let ServerFiles { shards, books } = files;
-    serve_rows(rt, shards, books, &rooms, options, out, err)
+    let ServerFiles {
+        shards,
+        books,
+        is_moved,
+        files,
+    } = files;
+    if is_moved {
+        let _ = writeln!(err, "{}: brought to the second layout", options.data);
+    }
+    serve_rows(rt, shards, books, files, &rooms, options, out, err)
 }
 
 // The files of the server's directory, and the bytes of its file of rooms.
@@ -91,6 +100,7 @@ fn serve_rows<S, R, W: Write, E: Write>(
     rt: &R,
     shards: Vec<SqliteKeeper<S, ShardRow>>,
     books: Vec<SqliteKeeper<S, BookRow>>,
+    files: Vec<RowFile>,
     rooms: &[u8],
     options: ServeOptions,
     out: &mut W,
@@ -113,7 +123,7 @@ where
     let is_accepted = options.accept_loss;
     check_losses(alloc, &server, count, &options.data, is_accepted, err)?;
     host_rooms(alloc, &mut server, rooms, file_of_rooms(&options), err)?;
-    listen(rt, server, options, out, err)
+    listen(rt, server, files, options, out, err)
 }
 
 // Files whose rows are read, and are none that a server can have.
@@ -201,6 +211,7 @@ impl<'a, W: Write, E: Write> Announcer for Opening<'a, W, E> {
 fn listen<K, L, R, W: Write, E: Write>(
     rt: &R,
     server: World<K, L>,
+    files: Vec<RowFile>,
     options: ServeOptions,
     out: &mut W,
     err: &mut E,
@@ -221,21 +232,18 @@ where
         stop_on_storage,
         ..
     } = options;
-    let workers = workers(rt, server, threads, name)?;
+    let files = RowFiles {
+        files,
+        stop_on_failure: stop_on_storage,
+    };
+    let workers = workers(rt, server, threads, name, files)?;
     let mut opening = Opening {
         out,
         err,
         port,
         data,
     };
-    let served = serve_by(
-        rt,
-        &listener,
-        workers,
-        stop_on_storage,
-        limits,
-        &mut opening,
-    );
+    let served = serve_by(rt, &listener, workers, limits, &mut opening);
     match served {
         Ok(()) => Err(StartError::from(ServerError::Storage)),
         Err(error) => Err(unserved(alloc, &error)),
@@ -247,7 +255,6 @@ fn serve_by<K, L, R, T: Announcer>(
     rt: &R,
     listener: &TcpListener,
     workers: Vec<Worker<K, L>>,
-    stop_on_storage: bool,
     limits: Limits,
     announcer: &mut T,
 ) -> Result<(), ServeError>
@@ -263,7 +270,7 @@ where
         let answer = move |alloc: Global, now: Moment, request: HttpRequest| {
             worker.answer(&runtime, alloc, now, request)
         };
-        let handler = Handler::new(answer, stop_on_storage);
+        let handler = Handler::new(answer);
         handlers.push(handler).map_err(AllocError::from)?;
     }
     serve_on(rt, listener, handlers, limits, announcer)?;
@@ -314,6 +321,7 @@ fn workers<K: Keeper<Row = ShardRow>, L: Keeper<Row = BookRow>, R: Wait + AllocG
     server: World<K, L>,
     threads: SeatCount,
     name: ServerName,
+    files: RowFiles,
 ) -> Result<Vec<Worker<K, L>>, StartError> {
     let alloc = rt.alloc();
     let wire_server = WireServer::new(alloc, name)?;
@@ -328,7 +336,7 @@ fn workers<K: Keeper<Row = ShardRow>, L: Keeper<Row = BookRow>, R: Wait + AllocG
         OpenGate,
         threads.count,
     )?;
-    let shared = shared_of(alloc, engine, wire_server)?;
+    let shared = shared_of(alloc, engine, wire_server, files)?;
     Ok(workers_of(alloc, &shared, seats)?)
 }
 
@@ -337,10 +345,15 @@ fn shared_of<K: Keeper<Row = ShardRow>, L: Keeper<Row = BookRow>>(
     alloc: Global,
     engine: ServerEngine<K, L>,
     server: WireServer,
+    files: RowFiles,
 ) -> Result<Arc<Shared<K, L>>, AllocError>
     ensures { IfOk result (λ shared. shared.value.engine ≡ engine) }
 {
-    let shared = Shared { engine, server };
+    let shared = Shared {
+        engine,
+        server,
+        files,
+    };
     let shared = Arc::new(alloc, shared)?;
     Ok(shared)
 }

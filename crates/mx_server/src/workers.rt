@@ -2,6 +2,7 @@
 ghost use Rattle.std.specs.Prelude.{◌≡◌, All};
 ghost use Rattle.mx_engine.specs.Seats.{IsSeatOf, seat_number};
 
+use crate::row_files::RowFiles;
 use bytes::Bytes;
 use mx_engine::{Engine, OpenGate, Seat};
 use mx_http::{HttpReply, HttpRequest, Responder};
@@ -28,11 +29,12 @@ const NOT_IMPLEMENTED: u16 = 501;
 /// The engine of the program.
 pub type ServerEngine<K, L> = Engine<K, L, PresenceVerifier, OpenGate>;
 
-/// What all workers share: the engine, and the server's name with the routes of its requests.
+/// What all workers share: the engine, the server's name with the routes of its requests, and the files of rows.
 #[derive(Drop)]
 pub struct Shared<K: Keeper<Row = ShardRow>, L: Keeper<Row = BookRow>> {
     pub engine: ServerEngine<K, L>,
     pub server: WireServer,
+    pub files: RowFiles,
 }
 
 /// A worker: a seat, and what it shares with the others, whose engine it is a seat of.
@@ -54,16 +56,17 @@ impl<K: Keeper<Row = ShardRow>, L: Keeper<Row = BookRow>> Model for Worker<K, L>
     ghost invariant = { λ worker. IsSeatOf worker.shared.value.engine worker.seat };
 }
 
-/// What a request is answered, and whether what keeps rows has failed then.
+/// What a request is answered, and whether no more requests are wanted then.
 #[derive(Drop)]
 pub struct AnsweredRequest {
     reply: HttpReply,
-    has_failed: bool,
+    is_last: bool,
 }
 
 impl<K: Keeper<Row = ShardRow> + Send, L: Keeper<Row = BookRow>> Worker<K, L> {
-    /// The answer to a request that came at this moment.
-    pub fn answer<R: Threads + Wait + Sync>(
+    /// The answer to a request that came at this moment. Where what keeps rows refused it, standard error is told which
+    /// file has failed, and no more requests are wanted if the server is to end then.
+    pub fn answer<R: Threads + Wait + Sync + Eprint>(
         &mut self,
         rt: &R,
         alloc: Global,
@@ -73,9 +76,14 @@ impl<K: Keeper<Row = ShardRow> + Send, L: Keeper<Row = BookRow>> Worker<K, L> {
         let request = asked(request);
         let answered = answer_in(rt, alloc, &self.shared, &mut self.seat, now, &request);
         let RequestReply { reply, refused } = answered;
+        let Shared { server, files, .. } = &*self.shared;
+        let has_failed = refused == Some(CallError::Storage);
+        if has_failed {
+            files.tell(rt, alloc);
+        }
         AnsweredRequest {
-            reply: sent(alloc, &self.shared.server, &request, reply),
-            has_failed: refused == Some(CallError::Storage),
+            reply: sent(alloc, server, &request, reply),
+            is_last: has_failed && files.stop_on_failure,
         }
     }
 }
@@ -84,20 +92,17 @@ impl<K: Keeper<Row = ShardRow> + Send, L: Keeper<Row = BookRow>> Worker<K, L> {
 #[derive(Drop)]
 pub struct Handler<F: Drop> {
     answer: F,
-    // Whether it ends once what keeps rows has failed.
-    stop_on_storage: bool,
-    // Whether it saw that what keeps rows has failed.
-    has_failed: bool,
+    // Whether it wants no more requests.
+    is_done: bool,
 }
 
 impl<F: Drop> Handler<F> {
-    pub fn new(answer: F, stop_on_storage: bool) -> Handler<F>
+    pub fn new(answer: F) -> Handler<F>
         ensures { result.answer ≡ answer }
     {
         Handler {
             answer,
-            stop_on_storage,
-            has_failed: false,
+            is_done: false,
         }
     }
 }
@@ -112,14 +117,13 @@ impl<F: FnMut(Global, Moment, HttpRequest) -> AnsweredRequest + Drop> Responder 
         request: HttpRequest,
     ) -> HttpReply {
         let now = moment(rt);
-        let AnsweredRequest { reply, has_failed } = (self.answer)(alloc, now, request);
-        self.has_failed |= has_failed;
-        tell(rt, has_failed);
+        let AnsweredRequest { reply, is_last } = (self.answer)(alloc, now, request);
+        self.is_done |= is_last;
         reply
     }
 
     fn is_done(&self) -> bool {
-        self.has_failed && self.stop_on_storage
+        self.is_done
     }
 
     fn refuse_body(&self, alloc: Global) -> HttpReply {
@@ -189,13 +193,6 @@ fn answer_in<K: Keeper<Row = ShardRow> + Send, L: Keeper<Row = BookRow>, R: Thre
         now,
         request,
     )
-}
-
-// Who runs the server has to know where its storage fails.
-fn tell<R: Eprint>(rt: &R, has_failed: bool) {
-    if has_failed {
-        let _ = rt.eprintln("storage");
-    }
 }
 
 // The moment of the clock: the first one where it can't be read, the latest one where it shows more.

@@ -9,6 +9,7 @@ use Rattle.mx_receipt.specs.Receipt.{Kept}
 use Rattle.mx_room.specs.Hosting.{host_error}
 use Rattle.mx_room.specs.Joins.{join_reply, is_let_in, row_by_join, takes_memory}
 use Rattle.mx_room.specs.Offer.{Offered, as_kept, is_kept, offer_outcome, row_by}
+use Rattle.mx_room.specs.Queries.{room_version}
 use Rattle.mx_room.specs.RoomView.{RoomView, IsHosted}
 use Rattle.mx_room.specs.declared.hosting.NotARoom.{NotARoom}
 use Rattle.mx_room.specs.declared.hosting.HostError.{HostError}
@@ -153,7 +154,7 @@ no_row f (Some k) e = absurd (cc e)
 -- the room with this number, which is read at d, is now r'
 module _ (rooms : List RoomView) (numbers : BTreeMap (List ℕ) ℕ) (caller : ℕ) (s : Sending) (origin : List ℕ) (o : Offered) (n : ℕ) (d r' : RoomView) (x : Answer) (told : Option ShardRow)
     (numbered : IsNumbered numbers rooms) (held : number_of numbers (room_of o.pdu) ≡ Some n) (told_answer : x ≡ sent_answer s (get_or rooms n d).kept origin o)
-    (rows : told ≡ option_map (row_for (room_of o.pdu) caller) (sent_row s (get_or rooms n d).kept origin o)) (prepared : r' ≡ with_prepared (get_or rooms n d) (sent_row s (get_or rooms n d).kept origin o)) where
+    (rows : told ≡ option_map (row_for (room_of o.pdu) (room_version (get_or rooms n d).kept) caller) (sent_row s (get_or rooms n d).kept origin o)) (prepared : r' ≡ with_prepared (get_or rooms n d) (sent_row s (get_or rooms n d).kept origin o)) where
   pub number_within : n < length rooms
   number_within = (room_found numbers rooms (room_of o.pdu) n numbered held).within
 
@@ -163,20 +164,20 @@ module _ (rooms : List RoomView) (numbers : BTreeMap (List ℕ) ℕ) (caller : �
   pub new_row : (row : ShardRow) → told ≡ Some row → IsNewRow rooms (set rooms n r') numbers caller s origin o (record { number = n; answer = x; row = row })
   new_row row some =
       let r : RoomView = get_or rooms n d in
-      let w = some_row (row_for (room_of o.pdu) caller) (sent_row s r.kept origin o) row (sym some ∙ rows) in
+      let w = some_row (row_for (room_of o.pdu) (room_version r.kept) caller) (sent_row s r.kept origin o) row (sym some ∙ rows) in
       record {
         kept = w.0;
         found = held;
         answer = told_answer ∙ ap (λ (q : RoomView). sent_answer s q.kept origin o) at;
         adds = ap (λ (q : RoomView). sent_row s q.kept origin o) (sym at) ∙ w.1;
         rooms = ap (set rooms n) (prepared ∙ ap (with_prepared r) w.1 ∙ ap (λ (q : RoomView). with_prepared q (Some w.0)) at);
-        row = w.2;
+        row = w.2 ∙ ap (λ (q : RoomView). row_for (room_of o.pdu) (room_version q.kept) caller w.0) at;
       }
 
   pub nothing_new : All IsReady rooms → told ≡ None → (set rooms n r' ≡ rooms) × IsAnswered (rows_in rooms (room_of o.pdu)) (sent_call s origin o) x
   nothing_new ready none =
       let r : RoomView = get_or rooms n d in
-      let v : sent_row s r.kept origin o ≡ None = no_row (row_for (room_of o.pdu) caller) (sent_row s r.kept origin o) (sym none ∙ rows) in
+      let v : sent_row s r.kept origin o ≡ None = no_row (row_for (room_of o.pdu) (room_version r.kept) caller) (sent_row s r.kept origin o) (sym none ∙ rows) in
       let mine : IsReady r = subst IsReady (sym at) (ready n no_room number_within) in
       let same : rows_in rooms (room_of o.pdu) ≡ r.kept = rows_found rooms (room_of o.pdu) n (room_found numbers rooms (room_of o.pdu) n numbered held) ∙ ap (λ (q : RoomView). q.kept) (sym at) in (
         ap (set rooms n) (prepared ∙ ap (with_prepared r) (v ∙ sym mine.free) ∙ at) ∙ set-get_or rooms n no_room,

@@ -18,9 +18,11 @@ use Rattle.mx_room.specs.Offer.{Offered}
 use Rattle.mx_room.specs.RoomView.{RoomView}
 use Rattle.mx_shard.specs.LoneRoom.{Call, call_room, to_host, answer, added, hosting, first_rows, sent_call}
 use Rattle.mx_shard.specs.Told.{tells_kept}
-use Rattle.mx_shard.specs.Journal.{Entry, entry_of, record_of, journal_after, stored, IsLegal}
+use Rattle.mx_shard.specs.Journal.{Entry, entry_of, record_of, row_in, journal_after, stored, IsLegal}
 use Rattle.mx_shard.specs.Holders.{IsHolderKept, IsHolding, holder_of, may_hold}
 use Rattle.mx_shard.specs.Inside.{no_room, room_at, rows_at, rows_in, with_prepared, with_kept, IsReady, IsNumbered, IsMoved, IsSameMap, IsSound, entry_in, journal_of, IsWithin, IsIndexed}
+use Rattle.mx_room.specs.Queries.{room_version}
+use Rattle.mx_shard.proofs.StoredLemmas.{stored-push, version-stays}
 use Rattle.mx_shard.specs.Changes.{IsAnswered, IsNewRoom, IsNewRow, row_for}
 use Rattle.mx_shard.specs.declared.answers.Answer.{Answer}
 use Rattle.mx_shard.specs.declared.answers.Answer.TheVariants.{Hosted}
@@ -204,12 +206,16 @@ module _ (before : List RoomView) (numbers : BTreeMap (List ℕ) ℕ) (places : 
 -- ---- what is stored, and where
 
 pub stored_after : (rows : Option (List ShardRow)) (journal : List Entry) (caller : ℕ) (id : List ℕ) (call : Call) (k : Kept) (row : ShardRow) → rows ≡ Some (stored journal) →
-    added (record_of journal id) call ≡ k ∷ [] → row ≡ row_for id caller k → with_row rows row ≡ Some (stored (journal_after journal caller id call))
+    added (record_of journal id) call ≡ k ∷ [] → row ≡ row_for id (room_version (record_of journal id ++ k ∷ [])) caller k → with_row rows row ≡ Some (stored (journal_after journal caller id call))
 stored_after rows journal caller id call k row before adds is =
+    let all : journal_after journal caller id call ≡ journal ++ entry_of id caller k ∷ [] = ap (λ ks. journal ++ map (entry_of id caller) ks) adds in
+    let record_is : record_of (journal ++ entry_of id caller k ∷ []) id ≡ record_of journal id ++ k ∷ [] =
+    ap (λ js. record_of js id) (sym all) ∙ record-after journal caller id call ∙ ap (λ ks. record_of journal id ++ ks) adds in
+    let same : row ≡ row_in (journal ++ entry_of id caller k ∷ []) (entry_of id caller k) = is ∙ ap (λ ks. row_for id (room_version ks) caller k) (sym record_is) in
     ap (λ o. with_row o row) before
-    ∙ ap (λ r. Some (stored journal ++ r ∷ [])) is
-    ∙ ap (λ (rs : List ShardRow). Some rs) (sym (map_push (λ (e : Entry). let r : ShardRow = record { room = e.room; event = e.event; caller = e.caller } in r) journal (entry_of id caller k)))
-    ∙ ap (λ ks. Some (stored (journal ++ map (entry_of id caller) ks))) (sym adds)
+    ∙ ap (λ r. Some (stored journal ++ r ∷ [])) same
+    ∙ ap (λ (rs : List ShardRow). Some rs) (sym (stored-push journal (entry_of id caller k)))
+    ∙ ap (λ js. Some (stored js)) (sym all)
 
 pub here_after : (place : PlaceView) (journal : List Entry) (caller : ℕ) (id : List ℕ) (call : Call) → IsTrue (is_at place id) → All (λ e. IsTrue (is_at place e.room)) journal →
     All (λ e. IsTrue (is_at place e.room)) (journal_after journal caller id call)
@@ -298,7 +304,9 @@ module _ (before : List RoomView) (numbers : BTreeMap (List ℕ) ℕ) (places : 
   host_reply = ap Hosted made.id ∙ ap (hosting o) (sym made.free) ∙ ap (λ rows. answer rows (to_host o)) (sym (indexed.records (room_of o.pdu) ∙ no_rows))
 
   pub host_stored : (rows : Option (List ShardRow)) → rows ≡ Some (stored (journal_of before places)) → with_row rows new.row ≡ Some (stored (journal_after (journal_of before places) caller (room_of o.pdu) (to_host o)))
-  host_stored rows is = stored_after rows (journal_of before places) caller (room_of o.pdu) (to_host o) (first o) new.row is (ap (λ rows. added rows (to_host o)) (indexed.records (room_of o.pdu)) ∙ host_adds) made.row
+  host_stored rows is =
+      stored_after rows (journal_of before places) caller (room_of o.pdu) (to_host o) (first o) new.row is (ap (λ rows. added rows (to_host o)) (indexed.records (room_of o.pdu)) ∙ host_adds)
+      (made.row ∙ ap (λ ks. row_for (room_of o.pdu) (room_version (ks ++ first o ∷ [])) caller (first o)) (sym (indexed.records (room_of o.pdu) ∙ no_rows)))
 
   abbrev place_at_end : JournalPlace
   place_at_end = record { room = length before; row = 0; caller = caller }
@@ -360,7 +368,10 @@ module _ (before mid : List RoomView) (numbers : BTreeMap (List ℕ) ℕ) (place
       with_row rows new.row ≡ Some (stored (journal_after (journal_of before places) caller (room_of o.pdu) (sent_call s origin o)))
   offer_stored rows is =
       stored_after rows (journal_of before places) caller (room_of o.pdu) (sent_call s origin o) made.kept new.row is
-      (ap (λ rows. added rows (sent_call s origin o)) (indexed.records (room_of o.pdu)) ∙ offer_adds) made.row
+      (ap (λ rows. added rows (sent_call s origin o)) (indexed.records (room_of o.pdu)) ∙ offer_adds)
+      (made.row
+      ∙ ap (λ v. row_for (room_of o.pdu) v caller made.kept)
+      (sym (version-stays old.kept (made.kept ∷ []) is_ready.hosted) ∙ ap (λ ks. room_version (ks ++ made.kept ∷ [])) (sym (indexed.records (room_of o.pdu) ∙ own_rows))))
 
   pub number_below : new.number < length mid
   number_below = let l : new.number < length before = found.within in subst (λ (rs : List RoomView). new.number < length rs) (sym made.rooms) (omega (arith, length-set before new.number (with_prepared old (Some made.kept))))

@@ -4,6 +4,7 @@ mod Places
 mod RoomLemmas
 mod HolderLemmas
 pub mod ChangeLemmas
+mod StoredLemmas
 mod IndexLemmas
 mod HeldLemmas
 mod ReopenLemmas

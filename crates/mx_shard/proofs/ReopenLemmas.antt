@@ -1,5 +1,5 @@
 -- A shard's rooms and its journal, by the rows that were found.
-use Rattle.std.proofs.Common.{◌≡◌, ℕ, ◌+◌, ◌<◌, Bool, true, false, cond, IsTrue, List, [], ◌∷◌, ◌++◌, length, get_or, set, Option, Some, None, refl, sym, ◌∙◌, ap, subst, append_assoc, arith, length-append}
+use Rattle.std.proofs.Common.{◌≡◌, ℕ, ◌+◌, ◌<◌, Bool, true, false, cond, IsTrue, List, [], ◌∷◌, ◌++◌, length, get_or, set, Option, Some, None, refl, sym, ◌∙◌, ap, ap₂, subst, append_assoc, arith, length-append}
 use Rattle.std.specs.Prelude.{All, bytes_eq, codes, nat_le, not, ◌&&◌, ◌||◌, is_some, is_none, find, Result, Ok, Err}
 use Rattle.std.specs.Result.{IsErrAnd}
 use Rattle.std.specs.List.{list_any, list_all}
@@ -24,11 +24,13 @@ use Rattle.mx_receipt.specs.declared.verdicts.Verdict.TheVariants.{Accepted}
 use Rattle.mx_receipt.specs.declared.refusals.NotReceived.{NotReceived}
 use Rattle.mx_receipt.specs.declared.refusals.NotReceived.TheVariants.{Known, SecondCreate, MissingEvents, RoomFull}
 use Rattle.mx_room.specs.Hosting.{reopen_error}
+use Rattle.mx_auth.specs.declared.versions.RoomVersion.{RoomVersion}
+use Rattle.mx_room.specs.Queries.{room_version}
 use Rattle.mx_room.specs.RoomView.{RoomView, IsHosted}
 use Rattle.mx_room.specs.declared.hosting.NotARoom.{NotARoom}
 use Rattle.mx_shard.specs.Journal.{Entry, entries_of, record_by, record_of, entry_of, stored, is_first, has_id, may_follow, all_follow, are_legal, IsLegal, entry_of_row, reopened, CanReopen}
 use Rattle.mx_shard.specs.Holders.{IsHolderKept, IsHolderMoved, holder_of, holder_with, may_hold}
-use Rattle.mx_shard.specs.Inside.{no_room, room_at, rows_at, rows_in, with_kept, IsMoved, number_of, journal_of, IsIndexed, IsReopened}
+use Rattle.mx_shard.specs.Inside.{no_room, room_at, rows_at, rows_in, with_kept, CanFollow, HasVersion, IsMoved, number_of, journal_of, IsIndexed, IsReopened}
 use Rattle.mx_shard.specs.declared.holders.Holder.{Holder}
 use Rattle.mx_shard.specs.declared.journal_places.JournalPlace.{JournalPlace}
 use Rattle.mx_shard.proofs.Places.{IsFound}
@@ -36,6 +38,7 @@ use Rattle.mx_shard.proofs.JournalLaws.{record_with, record-own, record-others, 
 use Rattle.mx_shard.proofs.LegalLaws.{known-is, record-length, legal-push, all_follow-push, legal-start}
 use Rattle.mx_shard.proofs.RoomLemmas.{text-eq, text-self, room_found, room_missing, rows_found}
 use Rattle.mx_shard.proofs.HolderLemmas.{kept_with, now_held, holding_start, holding_push, holding_set}
+use Rattle.mx_shard.proofs.StoredLemmas.{stored-push, version-before, version-stays}
 use Rattle.mx_shard.proofs.IndexLemmas.{indexed_start, IsPushed, RecordsMore, room_with, room-pushed, event-pushed}
 
 -- ---- when a room takes an event again
@@ -236,6 +239,14 @@ pub record IsMade (rooms rooms' : List RoomView) (numbers : BTreeMap (List ℕ) 
   pub journal : journal_of rooms' places' ≡ journal_of rooms places ++ entry_of_row row ∷ []
   pub made : IsReopened rooms' numbers holders places'
 
+-- a row that names the version of its room, or another
+module _ (journal : List Entry) (row : ShardRow) (version : RoomVersion) (is : room_version (record_of (journal ++ entry_of_row row ∷ []) row.room) ≡ version) where
+  pub own-version : row.version ≡ version → HasVersion journal row
+  own-version named = λ i. record { room = row.room; version = (is ∙ sym named) i; event = row.event; caller = row.caller }
+
+  pub other-version : ¬ (row.version ≡ version) → ¬ (CanFollow journal row)
+  other-version other can = other (sym (ap (λ (r : ShardRow). r.version) can.1) ∙ is)
+
 module _ (rooms : List RoomView) (numbers : BTreeMap (List ℕ) ℕ) (holders : BTreeMap (List ℕ) Holder) (places : List JournalPlace) (row : ShardRow) (was : IsReopened rooms numbers holders places) where
   own-row : room_of row.event ≡ row.room → own_room (entry_of_row row) ≡ true
   own-row own = ap (λ r. bytes_eq r row.room) own ∙ text-self row.room
@@ -277,6 +288,14 @@ module _ (rooms : List RoomView) (numbers : BTreeMap (List ℕ) ℕ) (holders : 
             holding = holding_push holders holders' rooms (rooms ++ room_with row.room (first_of row) ∷ []) (room_with row.room (first_of row)) (first_of row) was.holding kept refl refl held;
           };
         }))
+
+    -- the version of a room that its first row makes
+    pub first-version : (id : List ℕ) (room : RoomView) → id ≡ event_id row.event → room ≡ record { id = room_of row.event; kept = begun id row.event; prepared = None }
+        → room_version (record_of (journal_of rooms places ++ entry_of_row row ∷ []) row.room) ≡ room_version room.kept
+    first-version id room named is =
+        ap room_version (record-own (journal_of rooms places) (entry_of_row row) ∙ ap (λ rows. record_with rows (entry_of_row row)) no_rows)
+        ∙ ap (λ i. room_version (begun i row.event)) (sym named)
+        ∙ ap (λ (r : RoomView). room_version r.kept) (sym is)
 
     pub room-taken : (slice : List RoomView) (id : List ℕ) (room : RoomView) (rooms' : List RoomView) (numbers' : BTreeMap (List ℕ) ℕ) (holders' : BTreeMap (List ℕ) Holder) (places' : List JournalPlace) →
         slice ≡ rooms → id ≡ event_id row.event → room_of row.event ≡ row.room → reopen_error row.event ≡ None →
@@ -342,6 +361,13 @@ module _ (rooms : List RoomView) (numbers : BTreeMap (List ℕ) ℕ) (holders : 
           };
         }))
 
+    -- a later row leaves the version
+    pub later-version : (room : RoomView) → room ≡ get_or rooms number room → room_version (record_of (journal_of rooms places ++ entry_of_row row ∷ []) row.room) ≡ room_version room.kept
+    later-version room is =
+        ap room_version (record-own (journal_of rooms places) (entry_of_row row) ∙ ap (λ rows. record_with rows (entry_of_row row)) own_rows ∙ received-more old.kept (entry_of_row row) is_hosted)
+        ∙ version-stays old.kept (judged old.kept (event_id row.event) row.event ∷ []) is_hosted
+        ∙ ap (λ (r : RoomView). room_version r.kept) (sym (is ∙ get_or_default rooms number room no_room found.within))
+
     module _ (id : List ℕ) (room : RoomView) (named : id ≡ event_id row.event) (is : room ≡ get_or rooms number room) where
       at : room ≡ old
       at = is ∙ get_or_default rooms number room no_room found.within
@@ -381,16 +407,22 @@ module _ (place : PlaceView) (rows later : List ShardRow) (row : ShardRow) where
       let within : length rows < length (rows ++ row ∷ later) = omega (arith, length-append rows (row ∷ later)) in
       false≢true (sym other ∙ subst (λ (r : ShardRow). IsTrue (is_at place r.room)) (get_or-append_seam rows row later row) (can.here (length rows) row within))
 
-  pub not-legal : ¬ (IsLegal (reopened rows ++ entry_of_row row ∷ [])) → ¬ (CanReopen place (rows ++ row ∷ later))
+  pub not-legal : ¬ (CanFollow (reopened rows) row) → ¬ (CanReopen place (rows ++ row ∷ later))
   not-legal refused can =
-      refused (front-of-legal (reopened rows ++ entry_of_row row ∷ []) (reopened later)
-      (subst IsLegal (map-append entry_of_row rows (row ∷ later) ∙ sym (append_assoc (reopened rows) (entry_of_row row ∷ []) (reopened later))) can.legal))
+      refused (
+        front-of-legal (reopened rows ++ entry_of_row row ∷ []) (reopened later)
+            (subst IsLegal (map-append entry_of_row rows (row ∷ later) ∙ sym (append_assoc (reopened rows) (entry_of_row row ∷ []) (reopened later))) can.legal),
+        version-before rows later row can.versions,
+      )
 
 -- ---- the rows of the journal
 
-pub stored-reopened : (rows : List ShardRow) → stored (reopened rows) ≡ rows
-stored-reopened [] = refl
-stored-reopened (row ∷ rows) = ap (λ rs. row ∷ rs) (stored-reopened rows)
+-- a row more that names the version of its room
+pub versions-push : (rows : List ShardRow) (row : ShardRow) → stored (reopened rows) ≡ rows → HasVersion (reopened rows) row → stored (reopened (rows ++ row ∷ [])) ≡ rows ++ row ∷ []
+versions-push rows row all one =
+    ap stored (map-append entry_of_row rows (row ∷ []))
+    ∙ stored-push (reopened rows) (entry_of_row row)
+    ∙ ap₂ (λ (rs : List ShardRow) r. rs ++ r ∷ []) all one
 
 pub no-more : (rest : List ShardRow) → length rest ≡ 0 → rest ≡ []
 no-more [] h = refl

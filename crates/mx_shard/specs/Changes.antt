@@ -6,6 +6,8 @@ use Rattle.mx_receipt.specs.Receipt.{Kept, begun}
 use Rattle.mx_room.specs.Hosting.{host_error}
 use Rattle.mx_room.specs.Joins.{join_reply, row_by_join}
 use Rattle.mx_room.specs.Offer.{Offered, offer_outcome, row_by}
+use Rattle.mx_auth.specs.declared.versions.RoomVersion.{RoomVersion}
+use Rattle.mx_room.specs.Queries.{room_version}
 use Rattle.mx_room.specs.RoomView.{RoomView}
 use Rattle.mx_keeper.specs.declared.rows.ShardRow.{ShardRow}
 use Rattle.mx_shard.specs.LoneRoom.{Call, to_host, sent_call, answer, added}
@@ -27,8 +29,8 @@ pub record IsAnswered (kept : List Kept) (call : Call) (a : Answer) : Type 0 whe
   pub nothing : added kept call ≡ []
 
 -- the row that is stored of an event
-abbrev pub row_for : List ℕ → ℕ → Kept → ShardRow
-row_for room caller k = record { room = room; event = k.event; caller = caller }
+abbrev pub row_for : List ℕ → RoomVersion → ℕ → Kept → ShardRow
+row_for room version caller k = record { room = room; version = version; event = k.event; caller = caller }
 
 -- a room that the event makes, and that is not hosted
 pub record IsNewRoom (rooms : List RoomView) (caller : ℕ) (o : Offered) (new : NewRoom) : Type 0 where
@@ -36,7 +38,7 @@ pub record IsNewRoom (rooms : List RoomView) (caller : ℕ) (o : Offered) (new :
   pub free : host_error o ≡ None
   pub room : new.room ≡ record { id = room_of o.pdu; kept = begun o.id o.pdu; prepared = None }
   pub id : new.id ≡ o.id
-  pub row : new.row ≡ record { room = room_of o.pdu; event = o.pdu; caller = caller }
+  pub row : new.row ≡ record { room = room_of o.pdu; version = room_version (begun o.id o.pdu); event = o.pdu; caller = caller }
 
 -- what comes of a call that hosts
 abbrev pub IsHosting : List RoomView → ℕ → Offered → Hosting → Type 0
@@ -62,7 +64,7 @@ pub record IsNewRow (before after : List RoomView) (numbers : BTreeMap (List ℕ
   pub answer : new.answer ≡ sent_answer s (room_at before new.number).kept origin o
   pub adds : sent_row s (room_at before new.number).kept origin o ≡ Some kept
   pub rooms : after ≡ slice_set before new.number (with_prepared (room_at before new.number) (Some kept))
-  pub row : new.row ≡ row_for (room_of o.pdu) caller kept
+  pub row : new.row ≡ row_for (room_of o.pdu) (room_version (room_at before new.number).kept) caller kept
 
 -- what comes of a call that sends an event
 abbrev pub IsOffering : List RoomView → List RoomView → BTreeMap (List ℕ) ℕ → ℕ → Sending → List ℕ → Offered → Offering → Type 0

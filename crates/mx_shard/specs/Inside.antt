@@ -1,14 +1,15 @@
 -- How a shard keeps its journal, for private clauses (our own).
-use Rattle.std.specs.Prelude.{◌≡◌, ℕ, ◌<◌, List, [], bytes_eq, map, find, length, get_or, cond, All, IsTrue, Option, Some, None}
+use Rattle.std.specs.Prelude.{◌≡◌, ℕ, ◌<◌, List, [], ◌∷◌, ◌++◌, bytes_eq, map, find, length, get_or, cond, All, IsTrue, Option, Some, None}
 use Rattle.std.specs.List.{position_from}
 use Rattle.std.specs.BTreeMap.{BTreeMap, get}
 use Rattle.std.specs.Cmp.Lexicographic.{slice_cmp}
 use Rattle.std.specs.Ordering.{is_eq, nat_cmp}
 use Rattle.std.specs.declared.cmp.Ordering.{Ordering}
 use Rattle.mx_keeper.specs.Places.{PlaceView, is_at}
+use Rattle.mx_keeper.specs.declared.rows.ShardRow.{ShardRow}
 use Rattle.mx_receipt.specs.Receipt.{Kept, kept_at, installed}
 use Rattle.mx_room.specs.RoomView.{RoomView, IsHosted}
-use Rattle.mx_shard.specs.Journal.{Entry, entry_of, record_of, IsLegal}
+use Rattle.mx_shard.specs.Journal.{Entry, entry_of, entry_of_row, record_of, row_in, IsLegal}
 use Rattle.mx_shard.specs.Holders.{IsHolding}
 use Rattle.mx_shard.specs.declared.holders.Holder.{Holder}
 use Rattle.mx_shard.specs.declared.journal_places.JournalPlace.{JournalPlace}
@@ -99,6 +100,14 @@ pub record IsSound (place : PlaceView) (rooms : List RoomView) (numbers : BTreeM
   pub indexed : IsIndexed rooms numbers places
   pub here : All (λ entry. IsTrue (is_at place entry.room)) (journal_of rooms places)
   pub legal : IsLegal (journal_of rooms places)
+
+-- behind these entries, the row names the version of its room
+abbrev pub HasVersion : List Entry → ShardRow → Type 0
+HasVersion journal row = row_in (journal ++ entry_of_row row ∷ []) (entry_of_row row) ≡ row
+
+-- behind these entries, the row can stand
+abbrev pub CanFollow : List Entry → ShardRow → Type 0
+CanFollow journal row = IsLegal (journal ++ entry_of_row row ∷ []) × HasVersion journal row
 
 -- the rooms and the journal of rows that were found, and which rooms may hold an event
 pub record IsReopened (rooms : List RoomView) (numbers : BTreeMap (List ℕ) ℕ) (holders : BTreeMap (List ℕ) Holder) (places : List JournalPlace) : Type 0 where

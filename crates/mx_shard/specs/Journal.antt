@@ -8,6 +8,7 @@ use Rattle.mx_receipt.specs.Receipt.{Kept, begun, received}
 use Rattle.mx_keeper.specs.Places.{PlaceView, is_at}
 use Rattle.mx_keeper.specs.declared.rows.ShardRow.{ShardRow}
 use Rattle.mx_room.specs.Hosting.{reopen_error}
+use Rattle.mx_room.specs.Queries.{room_version}
 use Rattle.mx_shard.specs.LoneRoom.{Call, added}
 use Rattle.mx_shard.specs.declared.entries.ShardEntry.{ShardEntry}
 
@@ -34,9 +35,18 @@ entry_of room caller k = record { room = room; id = k.id; event = k.event; calle
 abbrev pub journal_after : List Entry → ℕ → List ℕ → Call → List Entry
 journal_after journal caller room call = journal ++ map (entry_of room caller) (added (record_of journal room) call)
 
+-- the row that is stored of an entry of this journal, with the version of its room, which the room's first entry names
+abbrev pub row_in : List Entry → Entry → ShardRow
+row_in journal e = record { room = e.room; version = room_version (record_of journal e.room); event = e.event; caller = e.caller }
+
+-- the rows that are stored of entries behind others
+abbrev pub stored_behind : List Entry → List Entry → List ShardRow
+stored_behind earlier [] = []
+stored_behind earlier (e ∷ es) = row_in (earlier ++ e ∷ []) e ∷ stored_behind (earlier ++ e ∷ []) es
+
 -- the rows that are stored of a journal
 abbrev pub stored : List Entry → List ShardRow
-stored = map (λ e. record { room = e.room; event = e.event; caller = e.caller })
+stored = stored_behind []
 
 -- ---- which journals arise
 
@@ -81,7 +91,8 @@ reopened rows = map entry_of_row rows
 abbrev pub AreWorkedOut : List Entry → Type 0
 AreWorkedOut journal = All (λ e. e.id ≡ event_id e.event) journal
 
--- a shard at this place can have these rows: each is of a room of the place, and they make a journal that can arise
+-- a shard at this place can have these rows: each is of a room of the place and names the version of its room, and they make a journal that can arise
 pub record CanReopen (place : PlaceView) (rows : List ShardRow) : Type 0 where
   pub here : All (λ row. IsTrue (is_at place row.room)) rows
   pub legal : IsLegal (reopened rows)
+  pub versions : stored (reopened rows) ≡ rows

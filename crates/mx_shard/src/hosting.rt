@@ -52,7 +52,7 @@ pub(crate) fn hosting_in(
         Ok(room) => {
             let id = offered.id.clone()?;
             let event = offered.pdu.clone()?;
-            let row = row_for(offered, event, caller)?;
+            let row = row_for(offered, room.version(), event, caller)?;
             Ok(Hosting::Made(NewRoom { room, id, row }))
         }
         Err(HostError::NotARoom(error)) => Ok(Hosting::Answered(Answer::NotHost(error))),

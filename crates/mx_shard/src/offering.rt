@@ -1,6 +1,7 @@
 // Events that servers send.
 ghost use Rattle.std.specs.Prelude.{◌≡◌, ◌<◌, ◌++◌, ◌∷◌, [], None, All, IfOk, OnOk, OnErr, IsTrue, is_some, length, option_map, slice_set, vec_len, vec_capacity};
 ghost use Rattle.mx_pdu.specs.Event.{room_of};
+ghost use Rattle.mx_room.specs.Queries.{room_version};
 ghost use Rattle.mx_shard.specs.Inside.{IsNumbered, IsReady, room_at, rows_in, with_prepared, with_kept};
 ghost use Rattle.mx_shard.specs.LoneRoom.{answer, sent_call};
 ghost use Rattle.mx_shard.specs.Told.{tells_kept};
@@ -72,7 +73,7 @@ fn prepare_with_row(
     offered: &Offered,
 ) -> Result<(Answer, Option<ShardRow>), AllocError>
     ensures answer { IfOk result (λ told. told.0 ≡ sent_answer sending room.old.kept origin.now offered.now) }
-    ensures row { IfOk result (λ told. told.1 ≡ option_map (row_of (room_of offered.now.pdu) caller) (sent_row sending room.old.kept origin.now offered.now)) }
+    ensures row { IfOk result (λ told. told.1 ≡ option_map (row_of (room_of offered.now.pdu) (room_version room.old.kept) caller) (sent_row sending room.old.kept origin.now offered.now)) }
     ensures prepared { OnOk result (room.new ≡ with_prepared room.old (sent_row sending room.old.kept origin.now offered.now)) }
     ensures memory { OnErr result (IsTrue (tells_kept (sent_answer sending room.old.kept origin.now offered.now))) }
     ensures err { OnErr result (room.new ≡ with_prepared room.old None) }
@@ -114,12 +115,12 @@ fn send_to(
 
 // The row that is stored of the event that the room is prepared to keep. The row and the room share the event.
 fn row_in(room: &Room, caller: Caller, offered: &Offered) -> Result<Option<ShardRow>, AllocError>
-    ensures row { IfOk result (λ row. row ≡ option_map (row_of (room_of offered.now.pdu) caller) room.now.prepared) }
+    ensures row { IfOk result (λ row. row ≡ option_map (row_of (room_of offered.now.pdu) (room_version room.now.kept) caller) room.now.prepared) }
     ensures memory { OnErr result (IsTrue (is_some room.now.prepared)) }
 {
     match room.prepared_event() {
         Some(event) => {
-            let row = row_for(offered, event.clone()?, caller)?;
+            let row = row_for(offered, room.version(), event.clone()?, caller)?;
             Ok(Some(row))
         }
         None => Ok(None),

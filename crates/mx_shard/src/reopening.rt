@@ -3,8 +3,8 @@ ghost use Rattle.std.specs.Prelude.{◌≡◌, ◌++◌, ◌∷◌, [], None, So
 ghost use Rattle.mx_keeper.specs.Places.{is_at};
 ghost use Rattle.mx_pdu.specs.Event.{room_of};
 ghost use Rattle.mx_redact.specs.Hashes.{event_id};
-ghost use Rattle.mx_shard.specs.Journal.{entry_of_row, reopened, CanReopen, IsLegal};
-ghost use Rattle.mx_shard.specs.Inside.{journal_of, number_of, IsReopened};
+ghost use Rattle.mx_shard.specs.Journal.{entry_of_row, reopened, stored, CanReopen};
+ghost use Rattle.mx_shard.specs.Inside.{journal_of, number_of, CanFollow, HasVersion, IsReopened};
 
 use crate::holders::{Holder, add_holder};
 use crate::journal_places::JournalPlace;
@@ -35,6 +35,7 @@ pub(crate) fn reopened_in(
     ensures journal { IfOk result (λ made. journal_of made.rooms.items made.journal.items ≡ reopened rows.items) }
     ensures made { IfOk result (λ made. IsReopened made.rooms.items made.numbers made.holders made.journal.items) }
     ensures here { OnOk result (All (λ row. IsTrue (is_at place.now row.room)) rows.items) }
+    ensures versions { OnOk result (stored (reopened rows.items) ≡ rows.items) }
     ensures storage { result ≡ Err CallError.Storage → ¬ (CanReopen place.now rows.items) }
 {
     let mut rooms = Vec::new(alloc);
@@ -74,7 +75,8 @@ fn reopen_row(
     requires { IsReopened rooms.old.items numbers.old holders.old journal.old.items }
     ensures journal { OnOk result (journal_of rooms.new.items journal.new.items ≡ journal_of rooms.old.items journal.old.items ++ entry_of_row row ∷ []) }
     ensures made { OnOk result (IsReopened rooms.new.items numbers.new holders.new journal.new.items) }
-    ensures storage { result ≡ Err CallError.Storage → ¬ (IsLegal (journal_of rooms.old.items journal.old.items ++ entry_of_row row ∷ [])) }
+    ensures version { OnOk result (HasVersion (journal_of rooms.old.items journal.old.items) row) }
+    ensures storage { result ≡ Err CallError.Storage → ¬ (CanFollow (journal_of rooms.old.items journal.old.items) row) }
 {
     if row.event.room_id() != &row.room {
         return Err(CallError::Storage);
@@ -102,12 +104,16 @@ fn reopen_room(
     requires missing { number_of numbers.old row.room ≡ None }
     ensures journal { OnOk result (journal_of rooms.new.items journal.new.items ≡ journal_of rooms.old.items journal.old.items ++ entry_of_row row ∷ []) }
     ensures made { OnOk result (IsReopened rooms.new.items numbers.new holders.new journal.new.items) }
-    ensures storage { result ≡ Err CallError.Storage → ¬ (IsLegal (journal_of rooms.old.items journal.old.items ++ entry_of_row row ∷ [])) }
+    ensures version { OnOk result (HasVersion (journal_of rooms.old.items journal.old.items) row) }
+    ensures storage { result ≡ Err CallError.Storage → ¬ (CanFollow (journal_of rooms.old.items journal.old.items) row) }
 {
     let number = rooms.as_slice().len();
     add_holder(holders, &id, number)?;
     match Room::reopen(alloc, row.event, id) {
         Ok(room) => {
+            if room.version() != row.version {
+                return Err(CallError::Storage);
+            }
             numbers.insert(row.room, number)?;
             rooms.push(room)?;
             journal.push(JournalPlace {
@@ -138,10 +144,14 @@ fn reopen_event(
     requires found { number_of numbers.now row.room ≡ Some number }
     ensures journal { OnOk result (journal_of rooms.new.items journal.new.items ≡ journal_of rooms.old.items journal.old.items ++ entry_of_row row ∷ []) }
     ensures made { OnOk result (IsReopened rooms.new.items numbers.now holders.new journal.new.items) }
-    ensures storage { result ≡ Err CallError.Storage → ¬ (IsLegal (journal_of rooms.old.items journal.old.items ++ entry_of_row row ∷ [])) }
+    ensures version { OnOk result (HasVersion (journal_of rooms.old.items journal.old.items) row) }
+    ensures storage { result ≡ Err CallError.Storage → ¬ (CanFollow (journal_of rooms.old.items journal.old.items) row) }
 {
     add_holder(holders, &id, number)?;
     let room = &mut rooms[number];
+    if room.version() != row.version {
+        return Err(CallError::Storage);
+    }
     journal.push(JournalPlace {
         room: number,
         row: room.len(),

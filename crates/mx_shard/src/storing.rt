@@ -8,19 +8,26 @@ ghost use Rattle.mx_shard.specs.Holders.{IsHolderKept, holder_of, may_hold};
 use crate::holders::{Holder, add_holder, remove_holder};
 use crate::journal_places::JournalPlace;
 use crate::offering::NewRow;
+use mx_auth::RoomVersion;
 use mx_ident::EventId;
 use mx_keeper::{CallError, Caller, Keeper, KeeperFault, ShardRow};
 use mx_pdu::{Offered, Pdu};
 use std::alloc::AllocError;
 use std::collections::BTreeMap;
 
-/// The row that is stored of an offered event in the form in which it is kept.
-pub(crate) fn row_for(offered: &Offered, event: Pdu, caller: Caller) -> Result<ShardRow, AllocError>
-    ensures { IfOk result (λ row. row ≡ record { room = room_of offered.now.pdu; event = event; caller = caller }) }
+/// The row that is stored of an offered event in the form in which it is kept, in a room of this version.
+pub(crate) fn row_for(
+    offered: &Offered,
+    version: RoomVersion,
+    event: Pdu,
+    caller: Caller,
+) -> Result<ShardRow, AllocError>
+    ensures { IfOk result (λ row. row ≡ record { room = room_of offered.now.pdu; version = version; event = event; caller = caller }) }
 {
     let room = offered.pdu.room_id().clone()?;
     Ok(ShardRow {
         room,
+        version,
         event,
         caller,
     })

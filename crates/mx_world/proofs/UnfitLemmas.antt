@@ -1,5 +1,5 @@
 -- Shards and books whose keepers have rows, where none may have one.
-use Rattle.std.proofs.Common.{◌≡◌, ℕ, ◌<◌, List, [], length, get_or, sym, ap, ◌∙◌, arith}
+use Rattle.std.proofs.Common.{◌≡◌, ℕ, ◌<◌, List, [], length, get_or, refl, sym, ap, ◌∙◌, arith}
 use Rattle.std.specs.Prelude.{Option, Some}
 use Rattle.mx_keeper.specs.Places.{PlaceView}
 use Rattle.mx_shard.specs.Journal.{CanReopen}
@@ -32,4 +32,4 @@ module _ {K Row : Type 0} (is_ready honest : K → Type 0) (read : K → Option 
 
 -- a shard can be opened over no rows
 pub no-rows-open : (place : PlaceView) → CanReopen place []
-no-rows-open place = record { here = λ k d l. absurd (omega arith); legal = legal-start }
+no-rows-open place = record { here = λ k d l. absurd (omega arith); legal = legal-start; versions = refl }

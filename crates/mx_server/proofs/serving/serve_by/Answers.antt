@@ -22,7 +22,7 @@ captured_send : (ν : Sym) (A B : RattleType) → IsSend A → IsSend B → IsSe
 captured_send ν A B a b = declared_send (type_at ν (A ∷ B ∷ [])) (as_row_send (row_field A) a, (as_row_send (row_field B) b, tt))
 
 handler_send : (F : RattleType) → IsSend F → IsSend (handler.the_row F)
-handler_send F f = declared_send (handler.the_type F) (as_row_send (row_field F) f, (search sendable depth 20, (search sendable depth 20, tt)))
+handler_send F f = declared_send (handler.the_type F) (as_row_send (row_field F) f, (search sendable depth 20, tt))
 
 abbrev closure : Sym
 closure = codes "mx_server::serving::fn::serve_by::answer+Self"

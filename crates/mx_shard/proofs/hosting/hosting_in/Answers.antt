@@ -1,8 +1,9 @@
-use Rattle.std.proofs.Common.{◌≡◌, ◌∙◌, None, Err, sym, ap}
+use Rattle.std.proofs.Common.{◌≡◌, ◌∙◌, None, Err, sym, ap, ap₂}
 use Rattle.std.specs.Prelude.{find, bytes_eq, option_copied}
 use Rattle.mx_redact.specs.Fields.{Event}
 use Rattle.mx_pdu.specs.Event.{room_of}
 use Rattle.mx_keeper.specs.declared.rows.ShardRow.{ShardRow}
+use Rattle.mx_room.specs.Queries.{room_version}
 use Rattle.mx_room.specs.RoomView.{RoomView}
 use Rattle.mx_shard.specs.Inside.{rows_at}
 use Rattle.mx_shard.proofs.ChangeLemmas.{not_host, new_hosted, no_cause}
@@ -14,7 +15,9 @@ returns-in_ok-row-in-Ok-clause-hosting c = record {
   free = c.in-Ok.ensures.free;
   room = c.in-Ok.ensures.hosted;
   id = c.in_ok-id-in-Ok.ensures.cases;
-  row = c.in_ok-row-in-Ok.ensures ∙ ap (λ (e : Event). let row : ShardRow = record { room = room_of c.args.offered.now.pdu; event = e; caller = c.args.caller } in row) c.in_ok-event-in-Ok.ensures.cases;
+  row = c.in_ok-row-in-Ok.ensures
+      ∙ ap₂ (λ v (e : Event). let row : ShardRow = record { room = room_of c.args.offered.now.pdu; version = v; event = e; caller = c.args.caller } in row)
+      (c.version.ensures ∙ ap (λ (r : RoomView). room_version r.kept) c.in-Ok.ensures.hosted) c.in_ok-event-in-Ok.ensures.cases;
 }
 
 pub returns-in-Err-NotARoom-clause-hosting : goal.returns-in-Err-NotARoom-clause-hosting

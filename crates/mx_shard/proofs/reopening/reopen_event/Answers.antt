@@ -1,6 +1,10 @@
-use Rattle.std.proofs.Common.{◌<◌, ◌++◌, ◌∷◌, [], ◌∙◌, Err, length, ap, arith}
+use denote.Enum.Bare.{differs_false, differs_true}
+use Rattle.std.proofs.Common.{◌<◌, ◌++◌, ◌∷◌, [], ◌∙◌, Err, length, sym, ap, arith, rules}
+use Rattle.mx_auth.specs.contracts.versions.RoomVersion.{the_type}
+use Rattle.mx_room.specs.Queries.{room_version}
+use Rattle.mx_shard.specs.Inside.{journal_of}
 use Rattle.mx_shard.specs.declared.journal_places.JournalPlace.{JournalPlace}
-use Rattle.mx_shard.proofs.ReopenLemmas.{number-within, event-refused, event-taken}
+use Rattle.mx_shard.proofs.ReopenLemmas.{number-within, event-refused, event-taken, later-version, other-version, own-version}
 use Rattle.mx_shard.proofs.reopening.reopen_event.Goals as goal
 
 pub index_mut-room-requires : goal.index_mut-room-requires
@@ -24,6 +28,18 @@ returns-in-Ok-clause-made c =
     ∙ ap (λ n. c.args.journal.now.items ++ (let p : JournalPlace = record { room = c.args.number; row = n; caller = c.args.row.caller } in p) ∷ []) c.len.ensures)).made
 
 pub returns-clause-storage : goal.returns-clause-storage
-returns-clause-storage c = λ _.
+returns-clause-storage c = λ _ can.
     event-refused c.args.rooms.now.items c.args.numbers.now c.args.holders.now c.args.journal.now.items c.args.row c.requires.was c.args.number c.requires.found c.args.id c.index_mut-room.result.now
-    c.requires.id c.index_mut-room.ensures.value c.in-Err-NotReceived.field-0-0 ((c.in-Err-NotReceived.ensures.refused c.in-Err-NotReceived.field-0-0).0 (ap Err c.in-Err-NotReceived.field-0-is))
+    c.requires.id c.index_mut-room.ensures.value c.in-Err-NotReceived.field-0-0 ((c.in-Err-NotReceived.ensures.refused c.in-Err-NotReceived.field-0-0).0 (ap Err c.in-Err-NotReceived.field-0-is)) can.0
+
+pub returns-then-ne-clause-storage : goal.returns-then-ne-clause-storage
+returns-then-ne-clause-storage c = λ _.
+    other-version (journal_of c.args.rooms.now.items c.args.journal.now.items) c.args.row (room_version c.index_mut-room.result.now.kept)
+    (later-version c.args.rooms.now.items c.args.numbers.now c.args.holders.now c.args.journal.now.items c.args.row c.requires.was c.args.number c.requires.found c.index_mut-room.result.now c.index_mut-room.ensures.value)
+    (λ same. differs_true the_type c.version.result c.args.row.version (sym c.ne.ensures ∙ c.if-ne.true) (c.version.ensures ∙ sym same))
+
+pub returns-in-Ok-clause-version : goal.returns-in-Ok-clause-version
+returns-in-Ok-clause-version c =
+    own-version (journal_of c.args.rooms.now.items c.args.journal.now.items) c.args.row (room_version c.index_mut-room.result.now.kept)
+    (later-version c.args.rooms.now.items c.args.numbers.now c.args.holders.now c.args.journal.now.items c.args.row c.requires.was c.args.number c.requires.found c.index_mut-room.result.now c.index_mut-room.ensures.value)
+    (sym (differs_false the_type (search rules) c.version.result c.args.row.version (sym c.ne.ensures ∙ c.if-ne.false)) ∙ c.version.ensures)

@@ -18,21 +18,21 @@ returns-in-Ok-clause-row g c clean =
     let origin = is_utf8-from_IsUtf8 _ c.as_str.ensures.utf8 in
     let txn = is_utf8-from_IsUtf8 _ c.as_str-2.ensures.utf8 in
     let reply = is_utf8-from_IsUtf8 _ c.as_str-3.ensures.utf8 in
-    puts_one _ _ (c.requires puts.was_open) c.args.self.now origin c.as_str.ensures.server_name txn reply _ c.in-Some.ensures.place.0 _ puts.rows_are
+    puts_one _ _ (c.requires puts.was_open) c.args.self.now origin c.as_str.ensures.server_name txn reply _ c.in-Some.ensures.place.0 _ puts.trees_are
 
 pub returns-in-Ok-clause-survives : goal.returns-in-Ok-clause-survives
 returns-in-Ok-clause-survives g c =
     let origin = is_utf8-from_IsUtf8 _ c.as_str.ensures.utf8 in
     let txn = is_utf8-from_IsUtf8 _ c.as_str-2.ensures.utf8 in
     let reply = is_utf8-from_IsUtf8 _ c.as_str-3.ensures.utf8 in
-    survives_weaker _ _ _ _ (λ clean db put. (put.1, puts_one _ _ (c.requires put.0) c.args.self.now origin c.as_str.ensures.server_name txn reply _ c.in-Some.ensures.place.0 (db 0) (rw (c.as_str.ensures.text, c.as_str-2.ensures.text, c.as_str-3.ensures.text, to_z-of_z {w = w64} {z = c.in-Some.place} c.in-Some.ensures.fits) at put.2))) c.insert_reply.ensures.survives
+    survives_weaker _ _ _ _ (λ clean db put. (put.1, puts_one _ _ (c.requires put.0) c.args.self.now origin c.as_str.ensures.server_name txn reply _ c.in-Some.ensures.place.0 db (rw (c.as_str.ensures.text, c.as_str-2.ensures.text, c.as_str-3.ensures.text, to_z-of_z {w = w64} {z = c.in-Some.place} c.in-Some.ensures.fits) at put.2))) c.insert_reply.ensures.survives
 
 pub returns-in-Err-clause-survives : goal.returns-in-Err-clause-survives
 returns-in-Err-clause-survives g c =
     let origin = is_utf8-from_IsUtf8 _ c.as_str.ensures.utf8 in
     let txn = is_utf8-from_IsUtf8 _ c.as_str-2.ensures.utf8 in
     let reply = is_utf8-from_IsUtf8 _ c.as_str-3.ensures.utf8 in
-    survives_weaker _ _ _ _ (λ clean db put. (put.1, puts_one _ _ (c.requires put.0) c.args.self.now origin c.as_str.ensures.server_name txn reply _ c.in-Some.ensures.place.0 (db 0) (rw (c.as_str.ensures.text, c.as_str-2.ensures.text, c.as_str-3.ensures.text, to_z-of_z {w = w64} {z = c.in-Some.place} c.in-Some.ensures.fits) at put.2))) c.insert_reply.ensures.survives
+    survives_weaker _ _ _ _ (λ clean db put. (put.1, puts_one _ _ (c.requires put.0) c.args.self.now origin c.as_str.ensures.server_name txn reply _ c.in-Some.ensures.place.0 db (rw (c.as_str.ensures.text, c.as_str-2.ensures.text, c.as_str-3.ensures.text, to_z-of_z {w = w64} {z = c.in-Some.place} c.in-Some.ensures.fits) at put.2))) c.insert_reply.ensures.survives
 
 pub returns-in-Err-clause-refused : goal.returns-in-Err-clause-refused
 returns-in-Err-clause-refused g c clean is =

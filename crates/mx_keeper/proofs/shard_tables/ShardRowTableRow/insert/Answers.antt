@@ -14,14 +14,14 @@ pub returns-in-Ok-insert_kept-clause-row : goal.returns-in-Ok-insert_kept-clause
 returns-in-Ok-insert_kept-clause-row g c clean =
     let puts = rw (c.as_str.ensures.text, to_z-of_z {w = w64} {z = c.in-Ok.cells.place} c.in-Ok.ensures.fits) at (c.in-Ok-insert_kept.ensures.ok clean) in
     let utf8 = is_utf8-from_IsUtf8 _ c.as_str.ensures.utf8 in
-    puts_one _ _ (c.requires puts.was_open) c.args.self.now _ utf8 c.as_str.ensures.room_id c.in-Ok.ensures.event _ _ c.in-Ok.ensures.place.0 c.in-Ok.ensures.caller _ puts.rows_are
+    puts_one _ _ (c.requires puts.was_open) c.args.self.now _ utf8 c.as_str.ensures.room_id c.in-Ok.ensures.event _ _ c.in-Ok.ensures.place.0 c.in-Ok.ensures.caller _ puts.trees_are
 
 pub returns-in-Ok-insert_kept-clause-survives : goal.returns-in-Ok-insert_kept-clause-survives
 returns-in-Ok-insert_kept-clause-survives g c =
     let utf8 = is_utf8-from_IsUtf8 _ c.as_str.ensures.utf8 in
     survives_weaker _ _ _ _ (λ clean db put. (
       put.1,
-      puts_one _ _ (c.requires put.0) c.args.self.now _ utf8 c.as_str.ensures.room_id c.in-Ok.ensures.event _ _ c.in-Ok.ensures.place.0 c.in-Ok.ensures.caller (db 0)
+      puts_one _ _ (c.requires put.0) c.args.self.now _ utf8 c.as_str.ensures.room_id c.in-Ok.ensures.event _ _ c.in-Ok.ensures.place.0 c.in-Ok.ensures.caller db
           (rw (c.as_str.ensures.text, to_z-of_z {w = w64} {z = c.in-Ok.cells.place} c.in-Ok.ensures.fits) at put.2),
     )) c.insert_kept.ensures.survives
 
@@ -30,7 +30,7 @@ returns-in-Err-insert_kept-clause-survives g c =
     let utf8 = is_utf8-from_IsUtf8 _ c.as_str.ensures.utf8 in
     survives_weaker _ _ _ _ (λ clean db put. (
       put.1,
-      puts_one _ _ (c.requires put.0) c.args.self.now _ utf8 c.as_str.ensures.room_id c.in-Ok.ensures.event _ _ c.in-Ok.ensures.place.0 c.in-Ok.ensures.caller (db 0)
+      puts_one _ _ (c.requires put.0) c.args.self.now _ utf8 c.as_str.ensures.room_id c.in-Ok.ensures.event _ _ c.in-Ok.ensures.place.0 c.in-Ok.ensures.caller db
           (rw (c.as_str.ensures.text, to_z-of_z {w = w64} {z = c.in-Ok.cells.place} c.in-Ok.ensures.fits) at put.2),
     )) c.insert_kept.ensures.survives
 

@@ -4,7 +4,6 @@ use Rattle.sqlite.specs.State.{HasCleanDisk}
 use Rattle.mx_keeper.specs.Keeping.{Rose}
 use Rattle.mx_keeper.specs.Refusals.{MayRefuseCall}
 use Rattle.mx_keeper.specs.SqliteKeepers.{KeeperView}
-use Rattle.mx_keeper.specs.TableRows.{read_rows}
 use Rattle.mx_keeper.proofs.KeeperLemmas.{refused_row}
 use Rattle.mx_keeper.proofs.StayLemmas.{clean_if_open, kept_stays, idle_after}
 use Rattle.mx_keeper.proofs.sqlite_keepers.SqliteKeeperKeeper.append.Goals as goal
@@ -52,8 +51,8 @@ pub returns-in-Err-clause-refused : goal.returns-in-Err-clause-refused
 returns-in-Err-clause-refused g c clean is =
     let middle : HasCleanDisk (state g.S.Store c.insert.new.connection) = omega (arith, c.told-fault.ensures.survives.clean) in
     let first = c.insert.ensures.survives in
-    subst (λ (v : KeeperView _). MayRefuseCall g.R.TableRow.schema (read_rows g.R.TableRow.shown) g.R.TableRow.refuses (Some c.args.row.now) (state g.S.Store v.connection) (state g.S.Store c.told-fault.new.connection)
+    subst (λ (v : KeeperView _). MayRefuseCall g.R.TableRow.schema g.R.TableRow.read g.R.TableRow.refuses (Some c.args.row.now) (state g.S.Store v.connection) (state g.S.Store c.told-fault.new.connection)
     ⊎ Rose v.unsure c.told-fault.new.doubts) c.self.view_is
     (refused_row (state g.S.Store c.self.inside.connection) (state g.S.Store c.insert.new.connection) (state g.S.Store c.told-fault.new.connection) (first.closes middle) first.counts c.told-fault.ensures.survives.counts first.limit _
-    g.R.TableRow.schema (read_rows g.R.TableRow.shown) g.R.TableRow.refuses c.args.row.now _ c.self.invariant.kept c.in-Err.fault c.told-fault.result (let told = is in cc)
+    g.R.TableRow.schema g.R.TableRow.read g.R.TableRow.refuses c.args.row.now _ c.self.invariant.kept c.in-Err.fault c.told-fault.result (let told = is in cc)
     (λ store. c.in-Err.ensures.refused middle (ap Err store)) (λ other. let same = c.told-fault.ensures.same other in (same.0, ap (state g.S.Store) same.1)) (c.told-fault.ensures.store clean))

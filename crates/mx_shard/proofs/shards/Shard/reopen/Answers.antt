@@ -2,7 +2,7 @@ use Rattle.std.proofs.Common.{◌≡◌, Some, List, sym, ap, ◌∙◌}
 use Rattle.mx_keeper.specs.declared.rows.ShardRow.{ShardRow}
 use Rattle.mx_shard.specs.Journal.{stored, reopened}
 use Rattle.mx_shard.proofs.AgainLemmas.{journal-again}
-use Rattle.mx_shard.proofs.ReopenLemmas.{stored-reopened, all-here}
+use Rattle.mx_shard.proofs.ReopenLemmas.{all-here}
 use Rattle.mx_shard.proofs.shards.Shard.reopen.Goals as goal
 
 pub invariant_of-result : goal.invariant_of-result
@@ -16,7 +16,7 @@ invariant_of-result g c =
       },
       λ _ honest. let open' = c.in-Ok.ensures.open honest in (
         open',
-        c.in-Ok.ensures.stay honest open' ∙ c.in-Ok.ensures.ok honest ∙ ap (λ (rs : List ShardRow). Some rs) (sym (ap stored is ∙ stored-reopened c.in-Ok.rows.items)),
+        c.in-Ok.ensures.stay honest open' ∙ c.in-Ok.ensures.ok honest ∙ ap (λ (rs : List ShardRow). Some rs) (sym (ap stored is ∙ c.in_ok-made-in-Ok.ensures.versions)),
       ),
       made.holding,
     )
@@ -24,12 +24,12 @@ invariant_of-result g c =
 pub returns-in-Ok-clause-journal : goal.returns-in-Ok-clause-journal
 returns-in-Ok-clause-journal g c =
     let is = c.in_ok-made-in-Ok.ensures.journal in
-    is ∙ ap reopened (sym (ap stored is ∙ stored-reopened c.in-Ok.rows.items))
+    is ∙ ap reopened (sym (ap stored is ∙ c.in_ok-made-in-Ok.ensures.versions))
 
 pub returns-in-Ok-clause-honest : goal.returns-in-Ok-clause-honest
 returns-in-Ok-clause-honest g c = λ honest. (
   c.in-Ok.ensures.honest honest,
-  c.in-Ok.ensures.ok honest ∙ ap (λ (rs : List ShardRow). Some rs) (sym (ap stored c.in_ok-made-in-Ok.ensures.journal ∙ stored-reopened c.in-Ok.rows.items)),
+  c.in-Ok.ensures.ok honest ∙ ap (λ (rs : List ShardRow). Some rs) (sym (ap stored c.in_ok-made-in-Ok.ensures.journal ∙ c.in_ok-made-in-Ok.ensures.versions)),
 )
 
 pub returns-in-Ok-clause-again : goal.returns-in-Ok-clause-again
