@@ -15,7 +15,7 @@ use Rattle.mx_server.proofs.WorkerSending.{worker_send}
 use Rattle.mx_server.proofs.serving.serve_by.Goals as goal
 
 -- what a closure captures of two values may be sent where each of them may
-captured : Sym → RattleType → RattleType → RattleType
+abbrev captured : Sym → RattleType → RattleType → RattleType
 captured ν A B = row (type_at ν (A ∷ B ∷ []))
 
 captured_send : (ν : Sym) (A B : RattleType) → IsSend A → IsSend B → IsSend (captured ν A B)
