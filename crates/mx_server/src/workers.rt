@@ -117,7 +117,8 @@ impl<F: FnMut(Global, Moment, HttpRequest) -> AnsweredRequest + Drop> Responder 
         request: HttpRequest,
     ) -> HttpReply {
         let now = moment(rt);
-        let AnsweredRequest { reply, is_last } = (self.answer)(alloc, now, request);
+        let answered = (self.answer)(alloc, now, request);
+        let AnsweredRequest { reply, is_last } = answered;
         self.is_done |= is_last;
         reply
     }
