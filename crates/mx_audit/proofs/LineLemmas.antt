@@ -8,6 +8,7 @@ use Rattle.serde_json.specs.Data.{Data, object}
 use Rattle.mx_canon.specs.Canonical.{canonical_text, value_text, member_text, sorted_members}
 use Rattle.mx_canon.specs.KeyOrder.{text_cmp}
 use Rattle.mx_canon.proofs.PieceLemmas.{after_commas, joined}
+use Rattle.mx_audit.proofs.SoundLemmas.{and_left, and_right}
 use Rattle.mx_audit.specs.Lines.{present, line_of}
 use Rattle.mx_audit.specs.Written.{opened, with_member, with_members}
 
@@ -24,14 +25,6 @@ abbrev entries : List (List ℕ × Option Data) → List (List ℕ × List ℕ)
 entries [] = []
 entries ((key, None) ∷ rest) = entries rest
 entries ((key, Some d) ∷ rest) = (key, value_text d) ∷ entries rest
-
-and_left : (a b : Bool) → (a && b) ≡ true → a ≡ true
-and_left true b e = refl
-and_left false b e = e
-
-and_right : (a b : Bool) → (a && b) ≡ true → b ≡ true
-and_right true b e = e
-and_right false b e = absurd (cc e)
 
 first-of : {A : Type 0} (o : Ordering) (a b c : A) → match_ordering o true false false ≡ true → match_ordering o a b c ≡ a
 first-of Less a b c e = refl

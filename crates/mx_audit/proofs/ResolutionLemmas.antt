@@ -2,6 +2,7 @@
 use Rattle.std.proofs.Common.{◌≡◌, ◌<◌, ◌∙◌, ℕ, zero, suc, true, List, [], ◌∷◌, Bor, length, map, sym, ap, subst, arith}
 use Rattle.std.proofs.lemmas.List.{length-map}
 use Rattle.std.proofs.lemmas.List.Elements.{All-map}
+use Rattle.std.specs.Prelude.{IsErrAnd, IsErrOf, Result, Ok, Err}
 use Rattle.std.specs.List.{All}
 use Rattle.mx_graph.specs.Edges.{Rises}
 use Rattle.mx_graph.specs.Record.{Row, event, events_where, is_in, prev_events}
@@ -37,3 +38,8 @@ lent-known n states lent are known = by lent (subst (λ ss. All (λ (s : State).
     by [] h k d l = absurd (omega arith)
     by (b ∷ bs) h zero d l = h zero b.now (omega arith)
     by (b ∷ bs) h (suc k) d l = by bs (λ i e m. h (suc i) e (omega arith)) k d (omega arith)
+
+-- an error that is given on as it is
+pub same-error : {S T E : Type 0} (r : Result S E) (p : Result T E) (e cause : E) → p ≡ Err e → IsErrAnd r (λ a. a ≡ e) → IsErrOf r cause → IsErrOf p cause
+same-error (Ok x) p e cause was is h = absurd is
+same-error (Err a) p e cause was is h = cc (was, is, h)

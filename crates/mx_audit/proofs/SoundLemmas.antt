@@ -9,11 +9,11 @@ use Rattle.mx_receipt.specs.Receipt.{created_version}
 use Rattle.mx_receipt.specs.TimelineView.{IsSoundCreate}
 use Rattle.mx_audit.specs.SoundTest.{sound_test, has_none}
 
-and_left : (a b : Bool) → (a && b) ≡ true → a ≡ true
+pub and_left : (a b : Bool) → (a && b) ≡ true → a ≡ true
 and_left true b e = refl
 and_left false b e = e
 
-and_right : (a b : Bool) → (a && b) ≡ true → b ≡ true
+pub and_right : (a b : Bool) → (a && b) ≡ true → b ≡ true
 and_right true b e = e
 and_right false b e = absurd (cc e)
 

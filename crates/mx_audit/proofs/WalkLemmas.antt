@@ -1,14 +1,21 @@
 -- Texts that a loop writes, one after another.
-use Rattle.std.proofs.Common.{◌≡◌, ◌++◌, ℕ, Bool, true, false, not, refl, List, [], ◌∷◌, sym, ap, ◌∙◌, append_assoc, append-nil}
+use Rattle.std.proofs.Common.{◌≡◌, ◌+◌, ◌++◌, ◌<◌, ◌≤◌, ℕ, Bool, true, false, not, refl, List, ◌∷◌, sym, ap, ◌∙◌, drop, get_or, length, append_assoc, append-nil}
+use Rattle.std.proofs.lemmas.List.{drop_more, drop_all}
 use Rattle.std.specs.List.{flat_map}
 
+-- what a list has from a place on
+pub left-at : {A : Type 0} (xs : List A) (i : ℕ) (d x : A) → i < length xs → x ≡ get_or xs i d → drop i xs ≡ x ∷ drop (i + 1) xs
+left-at xs i d x below is = drop_more xs i d below ∙ ap (λ y. y ∷ drop (i + 1) xs) (sym is)
+
 -- one text more
-pub walked : {A : Type 0} (f : A → List ℕ) (out all : List ℕ) (x : A) (rest more : List A) → rest ≡ x ∷ more → out ++ flat_map f rest ≡ all → (out ++ f x) ++ flat_map f more ≡ all
-walked f out all x rest more here is = append_assoc out (f x) (flat_map f more) ∙ ap (λ ys. out ++ flat_map f ys) (sym here) ∙ is
+pub walked-on : {A : Type 0} (f : A → List ℕ) (out all : List ℕ) (xs : List A) (i : ℕ) (d x : A) → i < length xs → x ≡ get_or xs i d
+    → out ++ flat_map f (drop i xs) ≡ all → (out ++ f x) ++ flat_map f (drop (i + 1) xs) ≡ all
+walked-on f out all xs i d x below at is =
+    append_assoc out (f x) (flat_map f (drop (i + 1) xs)) ∙ ap (λ ys. out ++ flat_map f ys) (sym (left-at xs i d x below at)) ∙ is
 
 -- none is left
-pub walk-ended : {A : Type 0} (f : A → List ℕ) (out all : List ℕ) (rest : List A) → rest ≡ [] → out ++ flat_map f rest ≡ all → out ≡ all
-walk-ended f out all rest none is = sym (append-nil out) ∙ ap (λ ys. out ++ flat_map f ys) (sym none) ∙ is
+pub walked-all : {A : Type 0} (f : A → List ℕ) (out all : List ℕ) (xs : List A) (i : ℕ) → length xs ≤ i → out ++ flat_map f (drop i xs) ≡ all → out ≡ all
+walked-all f out all xs i past is = sym (append-nil out) ∙ ap (λ ys. out ++ flat_map f ys) (sym (drop_all i xs past)) ∙ is
 
 pub twice : (b : Bool) → not (not b) ≡ b
 twice true = refl

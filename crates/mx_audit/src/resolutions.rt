@@ -1,5 +1,8 @@
 // How the state before an event was resolved.
-ghost use Rattle.std.specs.Prelude.{◌≡◌, ◌<◌, ◌++◌, ◌∷◌, [], All, IfOk, OnOk, length, map};
+ghost use Rattle.std.specs.Prelude.{◌≡◌, ◌<◌, ◌++◌, ◌∷◌, [], ℕ, All, IfOk, IsErrOf, OnOk, Some, length, map, take};
+ghost use Rattle.mx_graph.specs.Adding.{add_error};
+ghost use Rattle.mx_graph.specs.Record.{row as row_at};
+ghost use Rattle.mx_graph.specs.declared.refusals.NotAdded.{NotAdded as Cause};
 ghost use Rattle.mx_receipt.specs.Receipt.{rows_of, state_after, version_in};
 ghost use Rattle.mx_audit.specs.Steps as definition;
 ghost use Rattle.mx_audit.specs.Resolutions.{states_before};
@@ -28,6 +31,9 @@ pub fn resolution_before(
         (version_in (rows_of timeline.now.kept)) (rows_of timeline.now.kept) (states_before timeline.now.kept number)) }
     ensures others { IfOk result (λ steps. steps.others.items ≡ definition.other_steps
         (version_in (rows_of timeline.now.kept)) (rows_of timeline.now.kept) (states_before timeline.now.kept number)) }
+    ensures refused { (cause : Cause) → IsErrOf result (GraphError.NotAdded cause)
+        → (p : ℕ) × (p < length timeline.now.kept)
+        × (add_error (take p (rows_of timeline.now.kept)) (row_at (rows_of timeline.now.kept) p) ≡ Some cause) }
 {
     timeline_is_sound(timeline);
     let graph = graph_of(alloc, timeline)?;
@@ -66,7 +72,10 @@ fn borrowed_of(alloc: Global, states: &[StateMap]) -> Result<Vec<&StateMap>, All
 
 // The events of a room as a graph.
 fn graph_of(alloc: Global, timeline: &Timeline) -> Result<Graph, GraphError>
-    ensures { IfOk result (λ graph. graph ≡ rows_of timeline.now.kept) }
+    ensures graph { IfOk result (λ graph. graph ≡ rows_of timeline.now.kept) }
+    ensures refused { (cause : Cause) → IsErrOf result (GraphError.NotAdded cause)
+        → (p : ℕ) × (p < length timeline.now.kept)
+        × (add_error (take p (rows_of timeline.now.kept)) (row_at (rows_of timeline.now.kept) p) ≡ Some cause) }
 {
     timeline_is_sound(timeline);
     let mut graph = Graph::new(alloc);
@@ -77,7 +86,8 @@ fn graph_of(alloc: Global, timeline: &Timeline) -> Result<Graph, GraphError>
 }
 
 fn add_copy(graph: &mut Graph, row: &GraphRow) -> Result<(), GraphError>
-    ensures { OnOk result (graph.new ≡ graph.old ++ row.now ∷ []) }
+    ensures added { OnOk result (graph.new ≡ graph.old ++ row.now ∷ []) }
+    ensures refused { (cause : Cause) → IsErrOf result (GraphError.NotAdded cause) → add_error graph.old row.now ≡ Some cause }
 {
     let id = row.id.clone()?;
     let event = row.event.clone()?;

@@ -71,6 +71,7 @@ impl RoomAudit {
     pub fn begin(alloc: Global, event: Pdu, id: EventId) -> Result<RoomAudit, AuditError>
         ensures begun { IfOk result (λ audit. audit ≡ begun id event) }
         ensures refused { IsErrOf result AuditError.NotACreateEvent ↔ (sound_test event ≡ false) }
+        ensures received { (cause : Cause) → ¬ IsErrOf result (AuditError.NotReceived cause) }
     {
         if !is_sound_create(&event) {
             return Err(AuditError::NotACreateEvent);

@@ -1,40 +1,6 @@
-// How far the program is, told each second on standard error where that is a terminal.
-use std::io::{self, IsTerminal, Read};
-use std::time::{Clock, Duration};
-
-/// Tells each second how much is done, where standard error is a terminal; else nothing.
-#[derive(Drop)]
-pub(crate) struct Progress<'a> {
-    host: &'a HostRuntime,
-    // When it was told last. None where nothing is to be told.
-    told: Option<Duration>,
-}
-
-impl<'a> Progress<'a> {
-    /// One that has told nothing yet.
-    pub(crate) fn new(host: &'a HostRuntime) -> Progress<'a> {
-        let told = if host.stderr().is_terminal() {
-            host.monotonic().ok()
-        } else {
-            None
-        };
-        Progress { host, told }
-    }
-
-    /// Tells that so many of these are done, at most once in each second of the clock.
-    pub(crate) fn tell(&mut self, count: u64, unit: &str) {
-        let Some(told) = self.told else {
-            return;
-        };
-        let Ok(now) = self.host.monotonic() else {
-            return;
-        };
-        if now.as_secs() > told.as_secs() {
-            self.told = Some(now);
-            let _ = eprintln!(self.host; "{count} {unit}");
-        }
-    }
-}
+// Input, of which it is told each second how much was read.
+pub(crate) use mx_server::Progress;
+use std::io::{self, Read};
 
 /// Input, of which it is told how many bytes were read.
 #[derive(Drop)]

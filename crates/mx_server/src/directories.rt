@@ -2,6 +2,7 @@
 ghost use Rattle.std.specs.Prelude.{◌≡◌, ◌≤◌, ◌+◌, IfOk, OnOk, length};
 
 use crate::errors::{ServerError, StartError};
+use crate::progress::Progress;
 use crate::row_files::RowFile;
 use mx_keeper::{
     BookRow, FailureNote, Keeper, KeeperFault, MOST_PLACES, ShardRow, SqliteKeeper, TableRow,
@@ -36,6 +37,14 @@ pub struct ServerFiles {
     pub files: Vec<RowFile>,
 }
 
+// Of the files that were opened so far: whether one was of an earlier layout, what each is called, and how many are told.
+#[derive(Drop)]
+struct OpenedSoFar<'a> {
+    is_moved: bool,
+    files: Vec<RowFile>,
+    progress: Progress<'a>,
+}
+
 /// Rows of one kind in a file, and whether it was of an earlier layout.
 #[derive(Drop)]
 pub struct OpenedFile<R: TableRow> {
@@ -48,7 +57,8 @@ pub struct OpenedFile<R: TableRow> {
 ///
 /// `Storage` where a file can't be opened or does not read, where one is missing beside one with rows, or where there are
 /// more: then rows would be left out. `ReadOrWrite` where the directory can't be made, or not be looked at, and `Memory`
-/// where no memory is left. After an error the rows are as before; files without a row may have been made.
+/// where no memory is left. After an error the rows are as before; files without a row may have been made. Where standard
+/// error is a terminal, it is told each second how many files are opened, and at the end that all are.
 pub fn open_directory(
     host: &HostRuntime,
     directory: &str,
@@ -67,10 +77,19 @@ pub fn open_directory(
         refuse_rows::<ShardRow>(host, directory, "shard", count)?;
         refuse_rows::<BookRow>(host, directory, "book", count)?;
     }
-    let mut is_moved = false;
-    let mut files = Vec::new(host.alloc());
-    let rooms = keepers(host, directory, "shard", count, &mut is_moved, &mut files)?;
-    let replies = keepers(host, directory, "book", count, &mut is_moved, &mut files)?;
+    let mut opened = OpenedSoFar {
+        is_moved: false,
+        files: Vec::new(host.alloc()),
+        progress: Progress::new(host),
+    };
+    let rooms = keepers(host, directory, "shard", count, &mut opened)?;
+    let replies = keepers(host, directory, "book", count, &mut opened)?;
+    let OpenedSoFar {
+        is_moved,
+        files,
+        progress,
+    } = opened;
+    progress.tell_now(files.len() as u64, "files opened; their rows are judged");
     Ok(ServerFiles {
         shards: rooms,
         books: replies,
@@ -96,9 +115,11 @@ pub fn migrate<W: Write>(
     if rooms.lacking {
         return Err(refused(host, directory, "a shard's file is missing"));
     }
+    let mut progress = Progress::new(host);
     for number in 0..count {
         let path = path_of(host.alloc(), directory, "shard", number)?;
         let opened = opened_at::<ShardRow>(host, &path)?;
+        progress.tell(number as u64 + 1, "files opened");
         let rows = count_of_rows(host, &path, opened.keeper)?;
         tell_rows(host.alloc(), number, rows, out)?;
     }
@@ -230,14 +251,13 @@ fn path_of(
     Ok(format!(in alloc; "{directory}/{kind}-{number}.db")?)
 }
 
-// The rows of the first files of a kind, each of which is added to the files.
+// The rows of the first files of a kind, each of which is added to those that were opened so far.
 fn keepers<R: TableRow>(
     host: &HostRuntime,
     directory: &str,
     kind: &str,
     count: usize,
-    is_moved: &mut bool,
-    files: &mut Vec<RowFile>,
+    so_far: &mut OpenedSoFar<'_>,
 ) -> Result<Vec<FileRows<R>>, StartError>
     ensures { IfOk result (λ keepers. length keepers.items ≡ count) }
 {
@@ -246,8 +266,11 @@ fn keepers<R: TableRow>(
         let path = path_of(host.alloc(), directory, kind, number)?;
         let note = Arc::new(host.alloc(), FailureNote::new(host.alloc()))?;
         let opened = noting_file_at(host, &path, &note)?;
-        *is_moved |= opened.is_moved;
-        files.push(RowFile::new(path, note))?;
+        so_far.is_moved |= opened.is_moved;
+        so_far.files.push(RowFile::new(path, note))?;
+        so_far
+            .progress
+            .tell(so_far.files.len() as u64, "files opened");
         push(&mut keepers, opened.keeper)?;
     }
     Ok(keepers)

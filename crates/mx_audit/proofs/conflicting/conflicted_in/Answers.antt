@@ -1,11 +1,11 @@
-use Rattle.std.proofs.Common.{◌≡◌, ◌+◌, ℕ, Bool, not, drop, filter, sym, ap, subst, ◌∷◌, ◌∙◌, arith}
-use Rattle.std.proofs.lemmas.List.{drop_more}
+use Rattle.std.proofs.Common.{◌+◌, ℕ, Bool, not, drop, filter, sym, ap, subst, ◌∙◌, arith}
 use Rattle.std.specs.FinMap.Entries.{put}
 use Rattle.mx_auth.specs.Rules.{Key}
 use Rattle.mx_orders.specs.StateMap.{key_cmp}
 use Rattle.mx_state_res.specs.Resolution.{has_entry, overwritten}
 use Rattle.mx_state_res.proofs.KeyLemmas.{Sorted, sorted-filter}
 use Rattle.mx_state_res.proofs.AgreedLemmas.{overwritten-empty, put-kept, put-other}
+use Rattle.mx_audit.proofs.WalkLemmas.{left-at}
 use Rattle.mx_audit.proofs.conflicting.conflicted_in.Goals as goal
 use Rattle.mx_audit.proofs.conflicting.conflicted_in.Goals.{then-lacks+in_ok-insert, else-lacks}
 
@@ -22,7 +22,7 @@ loop-entry-preserved c =
     let items = c.entries-entry-items.result.now in
     let i = c.loop-entry.entry-index in
     let e = c.entry-item.result in
-    let next : drop i items ≡ e ∷ drop (i + 1) items = drop_more items i e (omega arith) ∙ ap (λ f. f ∷ drop (i + 1) items) (sym c.entry-item.is) in
+    let next = left-at items i e e (omega arith) c.entry-item.is in
     elim c.if-lacks.branch [
       | then-lacks+in_ok-insert w ↦
           ap (λ s. overwritten s (filter kept (drop (i + 1) items)))

@@ -1,10 +1,11 @@
-use Rattle.std.proofs.Common.{◌≡◌, ◌+◌, ◌++◌, ◌∷◌, [], drop, refl, sym, ap, ◌∙◌, arith, subst}
-use Rattle.std.proofs.lemmas.List.{drop_more, drop_all}
+use Rattle.std.proofs.Common.{◌≡◌, ◌++◌, ◌∷◌, [], refl, sym, ap, ◌∙◌, arith, subst}
+use Rattle.std.proofs.lemmas.List.{drop_all}
 use Rattle.std.specs.List.{join_with_byte}
 use Rattle.mx_canon.specs.Pieces.{comma_if}
 use Rattle.mx_canon.specs.Canonical.{value_text, item_texts}
 use Rattle.mx_canon.proofs.PieceLemmas.{left, left-step, ended}
 use Rattle.mx_audit.specs.EventLines.{asked_items, entry_data}
+use Rattle.mx_audit.proofs.WalkLemmas.{left-at}
 use Rattle.mx_audit.proofs.entry_lines.write_asked.Goals as goal
 
 pub loop-entry-preserved : goal.loop-entry-preserved
@@ -13,7 +14,7 @@ loop-entry-preserved g c = λ taken had.
     let kept = c.args.timeline.now.kept in
     let xs = c.args.asked.now in
     let x = c.entry-item.result in
-    let here : drop l.entry-index xs ≡ x ∷ drop (l.entry-index + 1) xs = drop_more xs l.entry-index x (omega arith) ∙ ap (λ y. y ∷ drop (l.entry-index + 1) xs) (sym c.entry-item.is) in
+    let here = left-at xs l.entry-index x x (omega arith) c.entry-item.is in
     let (out, has, is) = l.invariant taken had in (
       (out ++ comma_if l.later) ++ value_text (entry_data kept x.0 x.1),
       c.write_asked_entry.ensures _ (c.put_comma.ensures _ has),

@@ -1,24 +1,20 @@
-use Rattle.std.proofs.Common.{◌≡◌, ◌+◌, ◌++◌, ◌∷◌, drop, sym, ap, ◌∙◌, arith, subst}
-use Rattle.std.proofs.lemmas.List.{drop_more, drop_all}
+use Rattle.std.proofs.Common.{◌++◌, arith, subst}
 use Rattle.mx_audit.specs.EventLines.{state_line}
-use Rattle.mx_audit.proofs.WalkLemmas.{walked, walk-ended}
+use Rattle.mx_audit.proofs.WalkLemmas.{walked-on, walked-all}
 use Rattle.mx_audit.proofs.entry_lines.write_state.Goals as goal
 
 pub loop-entry-preserved : goal.loop-entry-preserved
 loop-entry-preserved g c = λ taken had.
     let l = c.loop-entry in
-    let xs = c.args.entries.now in
-    let x = c.entry-item.result in
-    let here : drop l.entry-index xs ≡ x ∷ drop (l.entry-index + 1) xs = drop_more xs l.entry-index x (omega arith) ∙ ap (λ y. y ∷ drop (l.entry-index + 1) xs) (sym c.entry-item.is) in
+    let text = state_line c.args.timeline.now.kept in
     let (out, has, is) = l.invariant taken had in (
-      out ++ (state_line c.args.timeline.now.kept) x,
+      out ++ text c.entry-item.result,
       c.write_state_line.ensures _ has,
-      walked (state_line c.args.timeline.now.kept) out _ x _ _ here is,
+      walked-on text out _ c.args.entries.now l.entry-index c.entry-item.result c.entry-item.result (omega arith) c.entry-item.is is,
     )
 
 pub returns : goal.returns
 returns g c = λ taken had.
     let l = c.loop-entry in
-    let xs = c.args.entries.now in
     let (out, has, is) = l.invariant taken had in
-    subst (g.S.TextSink.has_taken l.sink) (walk-ended (state_line c.args.timeline.now.kept) out _ _ (drop_all l.entry-index xs (omega arith)) is) has
+    subst (g.S.TextSink.has_taken l.sink) (walked-all (state_line c.args.timeline.now.kept) out _ c.args.entries.now l.entry-index (omega arith) is) has

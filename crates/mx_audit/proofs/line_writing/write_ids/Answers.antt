@@ -1,10 +1,11 @@
-use Rattle.std.proofs.Common.{◌≡◌, ◌+◌, ◌++◌, ◌∷◌, [], drop, refl, sym, ap, ◌∙◌, arith, subst}
-use Rattle.std.proofs.lemmas.List.{drop_more, drop_all}
+use Rattle.std.proofs.Common.{◌≡◌, ◌++◌, ◌∷◌, [], refl, sym, ap, ◌∙◌, arith, subst}
+use Rattle.std.proofs.lemmas.List.{drop_all}
 use Rattle.std.specs.List.{join_with_byte}
 use Rattle.mx_canon.specs.Pieces.{comma_if}
 use Rattle.mx_canon.specs.Canonical.{canonical_text, string_text, item_texts}
 use Rattle.mx_canon.proofs.PieceLemmas.{left, left-step, ended}
 use Rattle.mx_audit.specs.Lines.{text_items}
+use Rattle.mx_audit.proofs.WalkLemmas.{left-at}
 use Rattle.mx_audit.proofs.line_writing.write_ids.Goals as goal
 
 pub loop-id-preserved : goal.loop-id-preserved
@@ -13,7 +14,7 @@ loop-id-preserved g c = λ taken had.
     let l = c.loop-id in
     let xs = c.args.ids.now in
     let x = c.id-item.result in
-    let here : drop l.id-index xs ≡ x ∷ drop (l.id-index + 1) xs = drop_more xs l.id-index x (omega arith) ∙ ap (λ y. y ∷ drop (l.id-index + 1) xs) (sym c.id-item.is) in
+    let here = left-at xs l.id-index x x (omega arith) c.id-item.is in
     let (out, has, is) = l.invariant taken had in (
       (out ++ comma_if l.later) ++ string_text x,
       subst (λ t. g.S.TextSink.has_taken c.write_string.new.sink ((out ++ comma_if l.later) ++ string_text t)) (c.as_bytes.ensures.value ∙ c.as_str.ensures.text) (c.write_string.ensures _ (c.put_comma.ensures _ has)),

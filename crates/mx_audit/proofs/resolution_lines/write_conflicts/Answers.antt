@@ -1,7 +1,8 @@
-use Rattle.std.proofs.Common.{◌≡◌, ◌+◌, ◌++◌, ◌∷◌, suc, drop, sym, ap, ◌∙◌, arith, subst, append_assoc, append-nil}
-use Rattle.std.proofs.lemmas.List.{drop_more, drop_all}
+use Rattle.std.proofs.Common.{◌≡◌, ◌+◌, ◌++◌, suc, drop, sym, ap, ◌∙◌, arith, subst, append_assoc, append-nil}
+use Rattle.std.proofs.lemmas.List.{drop_all}
 use Rattle.mx_orders.specs.StateMap.{State}
 use Rattle.mx_audit.specs.EventLines.{conflict_text, conflicts_text}
+use Rattle.mx_audit.proofs.WalkLemmas.{left-at}
 use Rattle.mx_audit.proofs.resolution_lines.write_conflicts.Goals as goal
 
 pub loop-place-preserved : goal.loop-place-preserved
@@ -10,7 +11,7 @@ loop-place-preserved g c = λ taken had.
     let kept = c.args.timeline.now.kept in
     let xs = c.args.states.now in
     let x : State = c.index-states-place.result in
-    let here : drop l.place xs ≡ x ∷ drop (l.place + 1) xs = drop_more xs l.place x (omega arith) ∙ ap (λ y. y ∷ drop (l.place + 1) xs) (sym c.index-states-place.is) in
+    let here = left-at xs l.place x x (omega arith) c.index-states-place.is in
     let next : l.place + 1 ≡ suc l.place = omega arith in
     let (out, has, is) = l.invariant taken had in (
       out ++ conflict_text kept l.place x,

@@ -19,7 +19,7 @@ resolution_steps-requires c =
     let found = c.in_ok-prev_events.prev_events.items in
     let lent : map (λ s. s.now) c.deref-3.result.now ≡ map (state_after kept) found =
     ap (map (λ s. s.now)) c.deref-3.ensures.value ∙ c.in_ok-borrowed.ensures ∙ c.deref-2.ensures.value ∙ c.in_ok-states.ensures ∙ ap (map (state_after kept)) c.deref.ensures.value in
-    let count : length kept ≡ length c.in_ok-graph.graph = sym (length-map kept _) ∙ ap length (sym c.in_ok-graph.ensures) in
+    let count : length kept ≡ length c.in_ok-graph.graph = sym (length-map kept _) ∙ ap length (sym c.in_ok-graph.ensures.graph) in
     record {
       known = subst (λ n. All (λ s. All (λ e. e.1 < n) s.now) c.deref-3.result.now) count
           (lent-known (length kept) (map (state_after kept) found) c.deref-3.result.now lent
@@ -44,7 +44,7 @@ returns-clause-power c =
     ∙ states-are kept c.args.number c.requires c.prev_events.result.now found c.prev_events.ensures.cited c.prev_events.ensures.lower c.in_ok-prev_events.ensures.rises c.in_ok-prev_events.ensures.same in
     c.in_ok-steps.ensures.power
     ∙ ap (λ v. power_steps v c.in_ok-graph.graph (map (λ s. s.now) c.deref-3.result.now)) c.version.ensures
-    ∙ ap₂ (power_steps (version_in (rows_of kept))) c.in_ok-graph.ensures states
+    ∙ ap₂ (power_steps (version_in (rows_of kept))) c.in_ok-graph.ensures.graph states
 
 pub returns-clause-others : goal.returns-clause-others
 returns-clause-others c =
@@ -55,4 +55,4 @@ returns-clause-others c =
     ∙ states-are kept c.args.number c.requires c.prev_events.result.now found c.prev_events.ensures.cited c.prev_events.ensures.lower c.in_ok-prev_events.ensures.rises c.in_ok-prev_events.ensures.same in
     c.in_ok-steps.ensures.others
     ∙ ap (λ v. other_steps v c.in_ok-graph.graph (map (λ s. s.now) c.deref-3.result.now)) c.version.ensures
-    ∙ ap₂ (other_steps (version_in (rows_of kept))) c.in_ok-graph.ensures states
+    ∙ ap₂ (other_steps (version_in (rows_of kept))) c.in_ok-graph.ensures.graph states
