@@ -75,16 +75,27 @@ impl<K: Keeper<Row = ShardRow> + Send, L: Keeper<Row = BookRow>> Worker<K, L> {
     ) -> AnsweredRequest {
         let request = asked(request);
         let answered = answer_in(rt, alloc, &self.shared, &mut self.seat, now, &request);
-        let RequestReply { reply, refused } = answered;
-        let Shared { server, files, .. } = &*self.shared;
-        let has_failed = refused == Some(CallError::Storage);
-        if has_failed {
-            files.tell(rt, alloc);
-        }
-        AnsweredRequest {
-            reply: sent(alloc, server, &request, reply),
-            is_last: has_failed && files.stop_on_failure,
-        }
+        answered_request(rt, alloc, &self.shared, &request, answered)
+    }
+}
+
+// What a request is answered. Where what keeps rows refused it, standard error is told which file has failed.
+fn answered_request<K: Keeper<Row = ShardRow>, L: Keeper<Row = BookRow>, R: Wait + Eprint>(
+    rt: &R,
+    alloc: Global,
+    shared: &Shared<K, L>,
+    request: &HttpRequest,
+    answered: RequestReply,
+) -> AnsweredRequest {
+    let RequestReply { reply, refused } = answered;
+    let Shared { server, files, .. } = shared;
+    let has_failed = refused == Some(CallError::Storage);
+    if has_failed {
+        files.tell(rt, alloc);
+    }
+    AnsweredRequest {
+        reply: sent(alloc, server, request, reply),
+        is_last: has_failed && files.stop_on_failure,
     }
 }
 
