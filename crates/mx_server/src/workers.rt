@@ -80,7 +80,7 @@ impl<K: Keeper<Row = ShardRow> + Send, L: Keeper<Row = BookRow>> Worker<K, L> {
 }
 
 // What a request is answered. Where what keeps rows refused it, standard error is told which file has failed.
-fn answered_request<K: Keeper<Row = ShardRow>, L: Keeper<Row = BookRow>, R: Wait + Eprint>(
+fn answered_request<K: Keeper<Row = ShardRow>, L: Keeper<Row = BookRow>, R: Eprint>(
     rt: &R,
     alloc: Global,
     shared: &Shared<K, L>,
