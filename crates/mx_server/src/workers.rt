@@ -84,7 +84,7 @@ fn answered_request<K: Keeper<Row = ShardRow>, L: Keeper<Row = BookRow>, R: Epri
     rt: &R,
     alloc: Global,
     shared: &Shared<K, L>,
-    request: &HttpRequest,
+    request: &WireRequest,
     answered: RequestReply,
 ) -> AnsweredRequest {
     let RequestReply { reply, refused } = answered;
