@@ -12,6 +12,7 @@ use Rattle.std.specs.contracts.alloc.Global as global
 use mir.Syntax.{Sym, named}
 use Rattle.std.proofs.Common.{◌∷◌, []}
 use Rattle.std.proofs.Crossing.{crosses, Vec-send}
+use Rattle.std.proofs.sync.atomic.AtomicBool.TheSendSync as atomic
 use Rattle.mx_keeper.specs.contracts.memory.MemoryKeeper as memory_keeper
 use Rattle.mx_keeper.specs.contracts.rows.ShardRow as shard_row
 use Rattle.mx_keeper.specs.contracts.rows.BookRow as book_row
@@ -27,9 +28,17 @@ use Rattle.mx_server_tests.specs.contracts.callers.Turn as turn
 use Rattle.mx_server_tests.specs.contracts.gates.Meeting as meeting
 use Rattle.mx_server_tests.specs.contracts.gates.MeetingGate as gate
 use Rattle.mx_server_tests.proofs.MemorySending.{rooms_send, replies_send, of_events, of_replies}
-use Rattle.mx_server_tests.proofs.engines.send.Answers.{meeting_sync, gate_sync}
 use Rattle.mx_server_tests.proofs.callers.turns_in_threads.Lts as lts
 use Rattle.mx_server_tests.proofs.callers.turns_in_threads.Goals as goal
+
+meeting_sync : IsSync meeting.the_row
+meeting_sync = declared_sync meeting.the_type (atomic.the_sync, (atomic.the_sync, (atomic.the_sync, (atomic.the_sync, (atomic.the_sync, tt)))))
+
+meeting_send : IsSend meeting.the_row
+meeting_send = declared_send meeting.the_type (atomic.the_send, (atomic.the_send, (atomic.the_send, (atomic.the_send, (atomic.the_send, tt)))))
+
+gate_sync : IsSync gate.the_row
+gate_sync = declared_sync gate.the_type (search (meeting_sync, meeting_send, crosses, sendable) depth 20, tt)
 
 turn_send : IsSend turn.the_row
 turn_send = variants_send turn.enum (tt, ((pdu_send, tt), ((key.the_send, (Vec-send _ pdu_send, tt)), tt)))

@@ -8,13 +8,13 @@ use Rattle.mx_server_tests.specs.contracts.gates.MeetingGate as gate
 use Rattle.mx_server_tests.proofs.MemorySending.{rooms_send}
 use Rattle.mx_server_tests.proofs.engines.send.Goals as goal
 
-pub meeting_sync : IsSync meeting.the_row
+meeting_sync : IsSync meeting.the_row
 meeting_sync = declared_sync meeting.the_type (atomic.the_sync, (atomic.the_sync, (atomic.the_sync, (atomic.the_sync, (atomic.the_sync, tt)))))
 
 meeting_send : IsSend meeting.the_row
 meeting_send = declared_send meeting.the_type (atomic.the_send, (atomic.the_send, (atomic.the_send, (atomic.the_send, (atomic.the_send, tt)))))
 
-pub gate_sync : IsSync gate.the_row
+gate_sync : IsSync gate.the_row
 gate_sync = declared_sync gate.the_type (search (meeting_sync, meeting_send, crosses, sendable) depth 20, tt)
 
 pub transaction-requires-send-K : goal.transaction-requires-send-K
