@@ -3,12 +3,14 @@
 
     measure_serve.py rows [--program PATH] [--folder DIR] [--events 10000]
     measure_serve.py requests [--program PATH] [--folder DIR] [--seconds 5] [--constant PATH]
+    measure_serve.py shards [--program PATH] [--folder DIR] [--events 10000]
 
 `rows`: a transaction of 50 messages, beside sqlite3's own command line, which inserts the same rows in 50 transactions
 with a write-ahead log and synchronous FULL; and how long the server takes to open its files again, beside `replay` of the
 same events. `requests`: requests a second by wrk, over 1 and 4 threads, and sends of one event; in a folder of /dev/shm
 the files are in memory. `--constant` names a program that takes a port and a number of threads, and gives each request
-one answer (benchmarks/constant_server.txt). It wants Debian's packages sqlite3 and wrk."""
+one answer (benchmarks/constant_server.txt). `shards`: a transaction of 50 messages of four rooms, whose shard is one and the
+same, and whose shards are four. It wants Debian's packages sqlite3 and wrk, `shards` neither."""
 
 import argparse
 import http.client
@@ -119,6 +121,37 @@ def rows(options, folder):
     print(f"replaying them: median {statistics.median(replayed):.2f} s, least {min(replayed):.2f} s")
 
 
+def mixed_sends(events):
+    """Four rooms, whose places differ among four: the lines that host them, the transactions that fill them, and
+    transactions of 50 of their messages, the rooms in turn."""
+    rooms = [parts_of(log_of(events // 4, batch=1, room=f"!room{number}:s0.example")) for number in range(1, 5)]
+    hosts = [host for hosts, _ in rooms for host in hosts]
+    first = [len(sends) - events // 4 for _, sends in rooms]
+    base = [(origin, f"base{number}-{txn}", body)
+            for number, ((_, sends), count) in enumerate(zip(rooms, first)) for origin, txn, body in sends[:count]]
+    messages = [json.loads(send[2])["pdus"][0] for turn in zip(*(sends[count:] for (_, sends), count in zip(rooms, first))) for send in turn]
+    origin = rooms[0][1][-1][0]
+    bodies = [json.dumps({"pdus": messages[start : start + 50]}, separators=(",", ":"), ensure_ascii=False).encode()
+              for start in range(0, len(messages), 50)]
+    return hosts, base, [(origin, str(number), body) for number, body in enumerate(bodies)]
+
+
+def shards(options, folder):
+    hosts, base, mixed = mixed_sends(options.events)
+    found = {1: [], 4: []}
+    for run in range(5):
+        for count, medians in found.items():
+            server = Server(options.program, folder / f"{run}-{count}", "--threads", "1", "--shards", str(count), hosts=hosts)
+            for send in base:
+                server.send(*send)
+            medians.append(statistics.median(server.send(*send) for send in mixed))
+            server.stop()
+    for count, medians in found.items():
+        told = ", ".join(f"{seconds * 1000:.1f}" for seconds in medians)
+        print(f"50 messages of four rooms in {count} shards: {told} ms (medians of {len(mixed)} transactions)")
+    print(f"four shards beside one: {statistics.median(found[4]) / statistics.median(found[1]):.2f}")
+
+
 def wrk(port, target, threads, seconds, origin, *script, connections=None):
     words = ["wrk", "-t", str(threads), "-c", str(connections or threads), "-d", f"{seconds}s", "-H", "Authorization: " + header(origin)]
     words += ["-s", HERE / "sends.lua"] if script else []
@@ -196,7 +229,7 @@ def requests(options, folder):
 
 def main():
     parser = argparse.ArgumentParser(description=__doc__, formatter_class=argparse.RawDescriptionHelpFormatter)
-    parser.add_argument("what", choices=("rows", "requests"))
+    parser.add_argument("what", choices=("rows", "requests", "shards"))
     parser.add_argument("--program", type=Path, default=PROGRAM)
     parser.add_argument("--folder", type=Path)
     parser.add_argument("--events", type=int, default=10_000)
@@ -204,7 +237,7 @@ def main():
     parser.add_argument("--constant", type=Path)
     options = parser.parse_args()
     with tempfile.TemporaryDirectory(dir=options.folder) as folder:
-        {"rows": rows, "requests": requests}[options.what](options, Path(folder))
+        {"rows": rows, "requests": requests, "shards": shards}[options.what](options, Path(folder))
 
 
 main()

@@ -11,5 +11,10 @@ pub mod OpenedDockLemmas
 pub mod EndedLemmas
 pub mod TransactionLemmas
 pub mod OfferingLemmas
+pub mod OneShardLemmas
+pub mod MoveLemmas
+pub mod RunLemmas
+pub mod ToldLemmas
+pub mod JobLemmas
 pub mod Sending
 pub mod SeatSending

@@ -3,17 +3,21 @@ use Rattle.std.proofs.Common.{◌≡◌, ◌<◌, ◌≤◌, ◌+◌, ℕ, lengt
 use Rattle.mx_pdu.specs.Event.{room_of}
 use Rattle.mx_room.specs.Offer.{Offered}
 use Rattle.mx_room.specs.declared.outcomes.Outcome.{Outcome}
-use Rattle.std.specs.Prelude.{Option}
+use Rattle.std.specs.Prelude.{Option, Some, Result, Ok, Err}
 use Rattle.std.proofs.lemmas.List.{take_more, take_all, drop_more, take-append-drop}
 use Rattle.mx_receipt.specs.Receipt.{Kept}
-use Rattle.mx_shard.specs.LoneRoom.{to_offer, answer}
+use Rattle.mx_dock.proofs.ViewLemmas.{prefix_refl}
+use Rattle.mx_keeper.specs.declared.refusals.CallError.{CallError}
+use Rattle.mx_shard.specs.LoneRoom.{Call, to_offer, answer}
 use Rattle.mx_shard.specs.Journal.{Entry, record_of}
 use Rattle.mx_shard.specs.declared.answers.Answer.{Answer}
 use Rattle.mx_world.specs.Replies.{outcome_told, outcome_in}
 use Rattle.mx_world.specs.declared.answers.Told.{Told}
-use Rattle.mx_engine.specs.Views.{BerthView, AreSameViews, AddsNothing}
+use Rattle.mx_engine.specs.Views.{BerthView, IsSameView, AreSameViews, AddsNothing, AddsNothingThere, after_turn}
 use Rattle.mx_engine.specs.Calls.{IsAnswered}
-use Rattle.mx_engine.specs.Transactions.{IsOffered, AreOffered, SomeOffered}
+use Rattle.mx_engine.specs.Calling.{IsTurn, entries_by}
+use Rattle.mx_engine.specs.Transactions.{IsOffered, AreOffered, IsOfferedThere}
+use Rattle.mx_engine.specs.Offering.{FirstOffered}
 use Rattle.mx_engine.proofs.TurnLemmas.{nothing_refl}
 
 outcome_answered : (ks : List Kept) (origin : List ℕ) (o : Offered) → outcome_told (answer ks (to_offer origin o)) ≡ outcome_in ks origin o
@@ -66,14 +70,14 @@ offered-append caller origin (o ∷ os) qs old between new (t ∷ ts) us are lat
 -- ---- where a call was refused
 
 -- nothing of the event was kept
-pub some_none : (caller : ℕ) (origin : List ℕ) (events : List Offered) (old new : List (BerthView Entry)) → AddsNothing old new → SomeOffered caller origin events old new
+pub some_none : (caller : ℕ) (origin : List ℕ) (events : List Offered) (old new : List (BerthView Entry)) → AddsNothing old new → FirstOffered caller origin events old new
 some_none caller origin events old new nothing = record { first = []; others = events; are = refl; between = old; told = []; offered = refl; nothing = nothing }
 
 -- all were offered
-pub some_all : (caller : ℕ) (origin : List ℕ) (events : List Offered) (old new : List (BerthView Entry)) (told : List Told) → AreOffered caller origin events old new told → SomeOffered caller origin events old new
+pub some_all : (caller : ℕ) (origin : List ℕ) (events : List Offered) (old new : List (BerthView Entry)) (told : List Told) → AreOffered caller origin events old new told → FirstOffered caller origin events old new
 some_all caller origin events old new told are = record { first = events; others = []; are = sym (append-nil events); between = new; told = told; offered = are; nothing = nothing_refl new }
 
-pub some_one : (caller : ℕ) (origin : List ℕ) (o : Offered) (old new : List (BerthView Entry)) (told : Told) → IsOffered caller origin o old new told → SomeOffered caller origin (o ∷ []) old new
+pub some_one : (caller : ℕ) (origin : List ℕ) (o : Offered) (old new : List (BerthView Entry)) (told : Told) → IsOffered caller origin o old new told → FirstOffered caller origin (o ∷ []) old new
 some_one caller origin o old new told one = some_all caller origin (o ∷ []) old new (told ∷ []) (new, one, refl)
 
 -- ---- so far, with those that are left
@@ -100,7 +104,7 @@ pub so_far_all : (caller : ℕ) (origin : List ℕ) (events : List Offered) (ind
 so_far_all caller origin events index old new before after l far = (far.told, subst (λ os. AreOffered caller origin os old new far.told) (take_all index events l) far.offered, far.are)
 
 pub so_far_refused : (caller : ℕ) (origin : List ℕ) (events : List Offered) (index : ℕ) (o : Offered) (old between new : List (BerthView Entry)) (before middle : List Told) → index < length events → o ≡ get_or events index o →
-    SoFar caller origin events index old between before middle → SomeOffered caller origin (o ∷ []) between new → SomeOffered caller origin events old new
+    SoFar caller origin events index old between before middle → FirstOffered caller origin (o ∷ []) between new → FirstOffered caller origin events old new
 so_far_refused caller origin events index o old between new before middle l is far some = record {
   first = take index events ++ some.first;
   others = some.others ++ drop (index + 1) events;
@@ -116,3 +120,34 @@ so_far_refused caller origin events index o old between new before middle l is f
   where
     split : (events : List Offered) (index : ℕ) (o : Offered) → index < length events → o ≡ get_or events index o → events ≡ take index events ++ (o ∷ drop (index + 1) events)
     split events index o l is = sym (take-append-drop index events) ∙ ap (λ os. take index events ++ os) (drop_more events index o l ∙ ap (λ x. x ∷ drop (index + 1) events) (sym is))
+
+-- ---- by what is known of its shard alone
+
+pub offered_there : (caller : ℕ) (origin : List ℕ) (o : Offered) (old new : BerthView Entry) (told : Answer) (id : List ℕ) (outcome : Option Outcome) → id ≡ o.id → outcome ≡ outcome_told told →
+    IsTurn caller (to_offer origin o) (Some (room_of o.pdu)) old new (Ok told) → IsOfferedThere caller origin o old new (record { id = id; outcome = outcome })
+offered_there caller origin o old new told id outcome same is t = record {
+  journal = t.journal;
+  legal = t.legal;
+  later = t.later;
+  outcome = λ i. record { id = same i; outcome = (is ∙ ap outcome_told t.reply ∙ outcome_answered (record_of t.journal (room_of o.pdu)) origin o) i };
+  seen = t.ok;
+}
+
+same_turn : (old new : BerthView Entry) (journal entries : List Entry) → new ≡ after_turn old journal entries → IsSameView old new
+same_turn old new journal entries is = record {
+  numbered = ap (λ (v : BerthView Entry). v.number) is;
+  opened = ap (λ (v : BerthView Entry). v.opening) is;
+  counted = ap (λ (v : BerthView Entry). v.made) is;
+  placed = ap (λ (v : BerthView Entry). v.place) is;
+}
+
+pub turned_same_view : (caller : ℕ) (call : Call) (room : Option (List ℕ)) (old new : BerthView Entry) (result : Result Answer CallError) → IsTurn caller call room old new result → IsSameView old new
+turned_same_view caller call room old new (Ok told) t = same_turn old new t.journal (entries_by t.journal caller call room) t.ok
+turned_same_view caller call room old new (Err error) t = same_turn old new t.journal [] t.err
+
+pub refused_there : (caller : ℕ) (call : Call) (room : Option (List ℕ)) (old new : BerthView Entry) (error : CallError) → IsTurn caller call room old new (Err error) → AddsNothingThere old new
+refused_there caller call room old new error t =
+    (t.journal, t.later, t.err ∙ (λ i. record { number = old.number; seen = append-nil t.journal i; added = append-nil old.added i; opening = old.opening; made = old.made; place = old.place }))
+
+pub nothing_there : (view : BerthView Entry) → AddsNothingThere view view
+nothing_there view = (view.seen, prefix_refl view.seen, refl)

@@ -46,6 +46,12 @@ module _ {A : Type 0} where
   some-of [] n l = absurd (omega (arith, l))
   some-of (x ∷ xs) n l = x
 
+-- an element of a row is the same one whatever stands for those that are not
+pub get_or-in : {A : Type 0} (row : List A) (n : ℕ) (d e : A) → n < length row → get_or row n d ≡ get_or row n e
+get_or-in [] n d e l = absurd (omega (arith, l))
+get_or-in (x ∷ xs) zero d e l = refl
+get_or-in (x ∷ xs) (suc n) d e l = get_or-in xs n d e (omega (arith, l))
+
 -- a row in which each element was replaced by one that is as good
 pub replaced-all : {A B : Type 0} (f : A → B) (Done : ℕ → A → A → Type 0) (count : ℕ) (old new : List A) → AreReplaced Done count old new → length old ≤ count →
     ((n : ℕ) (x y : A) → Done n x y → f y ≡ f x) → map f new ≡ map f old
@@ -85,3 +91,27 @@ module _ {A : Type 0} where
   all-behind P row before rest x is each =
       subst P (ap (λ r. get_or r (length before) x) is ∙ get_or-append_seam before x rest x)
       (All-get_or P row (length before) x (omega (arith, ap length is, length-append before (x ∷ rest))) each)
+
+-- two rows one behind the other, in each of which each element was replaced
+module _ {A : Type 0} (R : A → A → Type 0) where
+  pub replaced-both : (xs xs' ys ys' : List A) → length xs' ≡ length xs → ((n : ℕ) (d : A) → n < length xs → R (get_or xs n d) (get_or xs' n d)) → ((n : ℕ) (d : A) → n < length ys → R (get_or ys n d) (get_or ys' n d)) →
+      (n : ℕ) (d : A) → n < length (xs ++ ys) → R (get_or (xs ++ ys) n d) (get_or (xs' ++ ys') n d)
+  replaced-both [] [] ys ys' long first others n d l = others n d l
+  replaced-both [] (x' ∷ xs') ys ys' long first others n d l = absurd (omega (arith, long))
+  replaced-both (x ∷ xs) [] ys ys' long first others n d l = absurd (omega (arith, long))
+  replaced-both (x ∷ xs) (x' ∷ xs') ys ys' long first others zero d l = first 0 d (omega arith)
+  replaced-both (x ∷ xs) (x' ∷ xs') ys ys' long first others (suc n) d l = replaced-both xs xs' ys ys' (omega (arith, long)) (λ m e k. first (suc m) e (omega (arith, k))) others n d (omega (arith, l))
+
+-- there is room for what is built of the next element of a row
+pub next-fits : {A B : Type 0} (f : A → B) (row yielded rest : List A) (x : A) (built : List B) (room : ℕ) → row ≡ yielded ++ x ∷ rest → built ≡ map f yielded → length row ≤ room → length built < room
+next-fits f row yielded rest x built room split is wide = omega (arith, ap length split, length-append yielded (x ∷ rest), ap length is, length-map yielded f, wide)
+
+-- what holds of each element of a row, at each of the two parts of it
+module _ {A : Type 0} (P : A → Type 0) where
+  pub all-first : (row first second : List A) → row ≡ first ++ second → All P row → All P first
+  all-first row first second is each = λ n d l.
+      subst P (get_or_append_left first second d n l) (subst (λ xs. P (get_or xs n d)) is (each n d (omega (arith, l, ap length is, length-append first second))))
+
+  pub all-second : (row first second : List A) → row ≡ first ++ second → All P row → All P second
+  all-second row [] second is each = subst (All P) is each
+  all-second row (x ∷ first) second is each = all-second (first ++ second) first second refl (λ n d l. subst (λ xs. P (get_or xs (suc n) d)) is (each (suc n) d (omega (arith, l, ap length is))))

@@ -2,13 +2,19 @@
 use denote.RattleType.{RattleType}
 use denote.Param.Send.{IsSend, IsSync, sendable}
 use denote.Param.SendFields.{declared_send, declared_sync}
-use Rattle.std.proofs.Crossing.{Box-send, Vec-send, Vec-sync}
+use denote.Ref.{NamedLft}
+use Rattle.std.proofs.Crossing.{Box-send, Vec-send, Vec-sync, Deque-send, crosses}
+use Rattle.mx_ident.proofs.server_names.ServerName.TheSendSync as server_name
 use Rattle.mx_keeper.specs.declared.keepers.Keeper.{Ghosts}
 use Rattle.mx_keeper.specs.declared.rows.ShardRow.{ShardRow}
 use Rattle.mx_keeper.specs.declared.rows.BookRow.{BookRow}
 use Rattle.mx_keeper.proofs.caller.Caller.TheSendSync as caller
+use Rattle.mx_keeper.proofs.places.Place.TheSendSync as place
+use Rattle.mx_world.proofs.answers.Told.TheSendSync as told
+use Rattle.mx_dock.specs.contracts.docks.Dock as docks
 use Rattle.mx_dock.proofs.berths.Berth.TheSendSync as berth
 use Rattle.mx_dock.proofs.docks.Dock.TheSendSync as dock
+use Rattle.crossbeam_utils.specs.contracts.cache_padded.CachePadded as padding
 use Rattle.crossbeam_utils.proofs.cache_padded.CachePadded.TheSendSync as padded
 use Rattle.mx_shard.specs.contracts.entries.ShardEntry as shard_entry
 use Rattle.mx_book.specs.contracts.entries.BookEntry as book_entry
@@ -17,6 +23,9 @@ use Rattle.mx_engine.specs.contracts.docked.DockedBook as docked_book
 use Rattle.mx_engine.specs.contracts.docked.DockedShardJournaled.TheImpl as shard_journaled
 use Rattle.mx_engine.specs.contracts.docked.DockedBookJournaled.TheImpl as book_journaled
 use Rattle.mx_engine.specs.contracts.seats.Seat as seat
+use Rattle.mx_engine.specs.contracts.jobs.Job as job
+use Rattle.mx_engine.specs.contracts.jobs.Sender as sender
+use Rattle.mx_engine.proofs.jobs.Fault.TheSendSync as fault
 use Rattle.mx_engine.specs.contracts.engines.Engine as engine
 use Rattle.mx_engine.proofs.Sending.{shard_send, book_send}
 
@@ -37,6 +46,25 @@ seat_send K L g h k l = declared_send (seat.the_type K L g h) (
     ),
   ),
 )
+
+pub job_send : (K : RattleType) (g : Ghosts K.Denot ShardRow) → IsSend K → IsSend (job.the_row K g)
+job_send K g k = declared_send (job.the_type K g) (
+  place.the_send,
+  (
+    berth.the_send (docked_shard.the_row K g) shard_entry.the_row (docked_shard_send K g k),
+    (search sendable depth 20, (Deque-send _ told.the_send, (search (fault.the_send, crosses, sendable) depth 20, tt))),
+  ),
+)
+
+-- a dock of a shard, with nothing else on its cache lines
+abbrev pub padded_row : (K : RattleType) → Ghosts K.Denot ShardRow → RattleType
+padded_row K g = padding.the_row (docks.the_row (docked_shard.the_row K g) shard_entry.the_row (shard_journaled.ghosts K g shard_journaled.no_dict shard_journaled.no_dict))
+
+pub padded_sync : (K : RattleType) (g : Ghosts K.Denot ShardRow) → IsSend K → IsSync (padded_row K g)
+padded_sync K g k = padded.the_sync _ (dock.the_sync (docked_shard.the_row K g) shard_entry.the_row (shard_journaled.ghosts K g shard_journaled.no_dict shard_journaled.no_dict) (docked_shard_send K g k))
+
+pub sender_sync : (l : NamedLft) → IsSync (sender.the_row l)
+sender_sync l = declared_sync (sender.the_type l) (caller.the_sync, (search (server_name.the_sync, sendable) depth 20, tt))
 
 pub engine_sync : (K L V G : RattleType) (g : Ghosts K.Denot ShardRow) (h : Ghosts L.Denot BookRow) → IsSend K → IsSend L → IsSync V → IsSync G → IsSync (engine.the_row K L V G g h)
 engine_sync K L V G g h k l v w = declared_sync (engine.the_type K L V G g h) (

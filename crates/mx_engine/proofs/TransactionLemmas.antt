@@ -204,6 +204,18 @@ free_of_fresh free h = refl
 free_of_fresh (begun other) h = absurd (let e : opening.Fresh ≡ opening.Busy = h in cc)
 free_of_fresh (kept reply) h = absurd (let e : opening.Fresh ≡ opening.Kept reply = h in cc)
 
+busy_of : (hold : Hold) → opening.Busy ≡ opening_of hold → (other : ℕ) × (hold ≡ begun other)
+busy_of free h = absurd (let e : opening.Busy ≡ opening.Fresh = h in cc)
+busy_of (begun other) h = (other, refl)
+busy_of (kept reply) h = absurd (let e : opening.Busy ≡ opening.Kept reply = h in cc)
+
+-- what is busy is begun by another call, and stays as it was
+pub busy_found : (caller : ℕ) (key : TransactionKey) (old new : List (BerthView BookEntry)) (how : Opening) → how ≡ opening.Busy → IsOpenedIn caller key old new (Ok how) →
+    (journal : List BookEntry) × IsFound old key journal × ((other : ℕ) × (hold_of journal key ≡ begun other)) × (new ≡ turned old (book_number old key) journal [])
+busy_found caller key old new how is o =
+    let held = busy_of (hold_of o.journal key) (sym is ∙ o.reply) in
+    (o.journal, o.found, held, o.ok ∙ ap (λ h. turned old (book_number old key) o.journal (begins key caller h)) held.1)
+
 pub opened_free : (caller : ℕ) (key : TransactionKey) (old new : BerthView BookEntry) (o : IsOpened caller key old new (Ok opening.Fresh)) → hold_of o.journal key ≡ free
 opened_free caller key old new o = free_of_fresh (hold_of o.journal key) o.reply
 

@@ -5,5 +5,7 @@ pub mod Calls
 pub mod Calling
 pub mod BookTurns
 pub mod Transactions
+pub mod Offering
+pub mod Jobs
 pub mod Seats
 pub mod Closing

@@ -1,7 +1,7 @@
 -- What a caller is told of a transaction, by what it knows before and afterwards (our own).
-use Rattle.std.specs.Prelude.{◌≡◌, ◌⊎◌, ℕ, List, [], ◌∷◌, ◌++◌, length, IsTrue}
+use Rattle.std.specs.Prelude.{◌≡◌, ◌⊎◌, ◌<◌, ℕ, List, [], ◌∷◌, ◌++◌, filter, length, IsTrue}
 use Rattle.mx_dock.specs.Journal.{IsPrefix}
-use Rattle.mx_keeper.specs.Places.{place_number}
+use Rattle.mx_keeper.specs.Places.{PlaceView, place_number, is_at}
 use Rattle.mx_pdu.specs.Event.{room_of}
 use Rattle.mx_room.specs.Offer.{Offered}
 use Rattle.mx_shard.specs.LoneRoom.{to_offer}
@@ -12,7 +12,7 @@ use Rattle.mx_book.specs.declared.entries.BookEntry.{BookEntry}
 use Rattle.mx_book.specs.declared.entries.BookEntry.TheVariants.{Begun, Kept, GivenUp}
 use Rattle.mx_world.specs.Replies.{body_of, told_of}
 use Rattle.mx_world.specs.declared.answers.Told.{Told}
-use Rattle.mx_engine.specs.Views.{BerthView, view_at, turned, AddsNothing}
+use Rattle.mx_engine.specs.Views.{BerthView, view_at, after_turn, turned, AddsNothing, AddsNothingThere}
 use Rattle.mx_engine.specs.Calls.{entries_added}
 use Rattle.mx_engine.specs.declared.replies.TransactionReply.{TransactionReply}
 use Rattle.mx_engine.specs.declared.replies.TransactionReply.TheVariants as reply
@@ -35,15 +35,40 @@ AreOffered caller origin (o ∷ os) old new (t ∷ ts) =
 AreOffered caller origin [] old new (t ∷ ts) = ⊥
 AreOffered caller origin (o ∷ os) old new [] = ⊥
 
+-- the events of the rooms of one shard
+abbrev pub events_at : PlaceView → List Offered → List Offered
+events_at place events = filter (λ o. is_at place (room_of o.pdu)) events
+
+-- one event was offered, by what is known of its room's shard alone
+pub record IsOfferedThere (caller : ℕ) (origin : List ℕ) (o : Offered) (old new : BerthView Entry) (told : Told) : Type 0 where
+  pub journal : List Entry
+  pub legal : IsLegal journal
+  pub later : IsPrefix old.seen journal
+  pub outcome : told ≡ told_of (record_of journal) origin o
+  pub seen : new ≡ after_turn old journal (entries_added journal caller (room_of o.pdu) (to_offer origin o))
+
+-- each event of rooms of one shard was offered once, in their order
+abbrev pub AreOfferedThere : ℕ → List ℕ → List Offered → BerthView Entry → BerthView Entry → List Told → Type 0
+AreOfferedThere caller origin [] old new [] = new ≡ old
+AreOfferedThere caller origin (o ∷ os) old new (t ∷ ts) =
+    (between : BerthView Entry) × IsOfferedThere caller origin o old between t × AreOfferedThere caller origin os between new ts
+AreOfferedThere caller origin [] old new (t ∷ ts) = ⊥
+AreOfferedThere caller origin (o ∷ os) old new [] = ⊥
+
 -- some first ones were, and of the others none was kept
-pub record SomeOffered (caller : ℕ) (origin : List ℕ) (events : List Offered) (old new : List (BerthView Entry)) : Type 0 where
+pub record SomeOfferedThere (caller : ℕ) (origin : List ℕ) (events : List Offered) (old new : BerthView Entry) : Type 0 where
   pub first : List Offered
   pub others : List Offered
   pub are : events ≡ first ++ others
-  pub between : List (BerthView Entry)
+  pub between : BerthView Entry
   pub told : List Told
-  pub offered : AreOffered caller origin first old between told
-  pub nothing : AddsNothing between new
+  pub offered : AreOfferedThere caller origin first old between told
+  pub nothing : AddsNothingThere between new
+
+-- So it was at each shard, of the events of its rooms: shards go side by side, and each stops at its own first fault.
+pub record SomeOffered (caller : ℕ) (origin : List ℕ) (events : List Offered) (old new : List (BerthView Entry)) : Type 0 where
+  pub long : length new ≡ length old
+  pub each : (n : ℕ) → n < length old → SomeOfferedThere caller origin (events_at (record { number = n; count = length old }) events) (view_at old n) (view_at new n)
 
 -- ---- its book
 

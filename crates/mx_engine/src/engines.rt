@@ -35,6 +35,7 @@ use mx_shard::{Answer, Sending};
 use mx_world::World;
 use std::alloc::{AllocError, Global};
 use std::sync::Wait;
+use std::thread::Threads;
 
 /// The most seats of an engine.
 pub const MOST_SEATS: u32 = 64;
@@ -133,67 +134,6 @@ impl<
         let call = ShardCall::Host(&offered);
         let berths = &mut seat.shards;
         call_in(rt, &self.gate, &self.shards, berths, caller, room, &call)
-    }
-
-    /// The reply to a transaction of a server, with these events.
-    ///
-    /// Where its reply is kept that is the answer, and no shard is asked; where it is begun and not ended the answer is
-    /// `Busy`. Else it is begun, each event is offered once to its room, in their order, and the reply that they call for
-    /// is kept and answered. `Memory` where no memory is left, `Storage` where what keeps rows of a shard or of the book
-    /// failed, now or before. Then what was begun is given up, and events that were kept stay. The verifier is asked
-    /// before anything is taken.
-    ///
-    /// Source: the Matrix specification, Server-Server API, "Transactions".
-    pub fn transaction<R: Wait>(
-        &self,
-        rt: &R,
-        alloc: Global,
-        seat: &mut Seat<K, L>,
-        key: &TransactionKey,
-        events: Vec<Pdu>,
-    ) -> Result<TransactionReply, CallError>
-        requires seat { IsSeatOf self.now seat.old }
-        ensures seat { IsSeatOf self.now seat.new }
-        ensures number { seat_number seat.new ≡ seat_number seat.old }
-        ensures same_shards { AreSameViews (shard_views seat.old) (shard_views seat.new) }
-        ensures same_books { AreSameViews (book_views seat.old) (book_views seat.new) }
-        ensures ok { IfOk result (IsReplied (seat_number seat.old) key.now (map (offer_by (V.judges (verifier_of self.now))) events.items)
-            (shard_views seat.old) (book_views seat.old) (shard_views seat.new) (book_views seat.new)) }
-        ensures err { OnErr result (IsRefused (seat_number seat.old) key.now (map (offer_by (V.judges (verifier_of self.now))) events.items)
-            (shard_views seat.old) (book_views seat.old) (shard_views seat.new) (book_views seat.new)) }
-    {
-        let offers = offers_of(alloc, events, &self.verifier)?;
-        self.transaction_offered(rt, alloc, seat, key, &offers)
-    }
-
-    /// The reply to a transaction of a server, as of [`transaction`](Engine::transaction), with these events as they are
-    /// offered to their rooms.
-    ///
-    /// Source: the Matrix specification, Server-Server API, "Transactions".
-    pub fn transaction_offered<R: Wait>(
-        &self,
-        rt: &R,
-        alloc: Global,
-        seat: &mut Seat<K, L>,
-        key: &TransactionKey,
-        events: &[Offered],
-    ) -> Result<TransactionReply, CallError>
-        requires seat { IsSeatOf self.now seat.old }
-        ensures seat { IsSeatOf self.now seat.new }
-        ensures number { seat_number seat.new ≡ seat_number seat.old }
-        ensures same_shards { AreSameViews (shard_views seat.old) (shard_views seat.new) }
-        ensures same_books { AreSameViews (book_views seat.old) (book_views seat.new) }
-        ensures ok { IfOk result (IsReplied (seat_number seat.old) key.now events.now
-            (shard_views seat.old) (book_views seat.old) (shard_views seat.new) (book_views seat.new)) }
-        ensures err { OnErr result (IsRefused (seat_number seat.old) key.now events.now
-            (shard_views seat.old) (book_views seat.old) (shard_views seat.new) (book_views seat.new)) }
-    {
-        let docks = Docks {
-            gate: &self.gate,
-            shards: &self.shards,
-            books: &self.books,
-        };
-        transact(rt, alloc, &docks, seat, key, events)
     }
 
     /// Sends the join of a user of a server to its room, which keeps it where it can, and answers what that server is to
@@ -341,5 +281,73 @@ impl<
         let Engine { shards, books, .. } = self;
         let (shards, books) = close_all(rt, shards, books, first, others);
         World::from_parts(alloc, shards, books)
+    }
+}
+
+impl<
+    K: Keeper<Row = ShardRow> + Send,
+    L: Keeper<Row = BookRow>,
+    V: Verifier + Drop,
+    G: Gate + Sync + Drop,
+> Engine<K, L, V, G> {
+    /// The reply to a transaction of a server, with these events.
+    ///
+    /// Where its reply is kept that is the answer, and no shard is asked; where it is begun and not ended the answer is
+    /// `Busy`. Else it is begun, each event is offered once to its room, in their order, and the reply that they call for
+    /// is kept and answered. `Memory` where no memory is left, `Storage` where what keeps rows of a shard or of the book
+    /// failed, now or before. Then what was begun is given up, and events that were kept stay. The verifier is asked
+    /// before anything is taken.
+    ///
+    /// Source: the Matrix specification, Server-Server API, "Transactions".
+    pub fn transaction<R: Threads + Wait + Sync>(
+        &self,
+        rt: &R,
+        alloc: Global,
+        seat: &mut Seat<K, L>,
+        key: &TransactionKey,
+        events: Vec<Pdu>,
+    ) -> Result<TransactionReply, CallError>
+        requires seat { IsSeatOf self.now seat.old }
+        ensures seat { IsSeatOf self.now seat.new }
+        ensures number { seat_number seat.new ≡ seat_number seat.old }
+        ensures same_shards { AreSameViews (shard_views seat.old) (shard_views seat.new) }
+        ensures same_books { AreSameViews (book_views seat.old) (book_views seat.new) }
+        ensures ok { IfOk result (IsReplied (seat_number seat.old) key.now (map (offer_by (V.judges (verifier_of self.now))) events.items)
+            (shard_views seat.old) (book_views seat.old) (shard_views seat.new) (book_views seat.new)) }
+        ensures err { OnErr result (IsRefused (seat_number seat.old) key.now (map (offer_by (V.judges (verifier_of self.now))) events.items)
+            (shard_views seat.old) (book_views seat.old) (shard_views seat.new) (book_views seat.new)) }
+    {
+        let offers = offers_of(alloc, events, &self.verifier)?;
+        self.transaction_offered(rt, alloc, seat, key, &offers)
+    }
+
+    /// The reply to a transaction of a server, as of [`transaction`](Engine::transaction), with these events as they are
+    /// offered to their rooms.
+    ///
+    /// Source: the Matrix specification, Server-Server API, "Transactions".
+    pub fn transaction_offered<R: Threads + Wait + Sync>(
+        &self,
+        rt: &R,
+        alloc: Global,
+        seat: &mut Seat<K, L>,
+        key: &TransactionKey,
+        events: &[Offered],
+    ) -> Result<TransactionReply, CallError>
+        requires seat { IsSeatOf self.now seat.old }
+        ensures seat { IsSeatOf self.now seat.new }
+        ensures number { seat_number seat.new ≡ seat_number seat.old }
+        ensures same_shards { AreSameViews (shard_views seat.old) (shard_views seat.new) }
+        ensures same_books { AreSameViews (book_views seat.old) (book_views seat.new) }
+        ensures ok { IfOk result (IsReplied (seat_number seat.old) key.now events.now
+            (shard_views seat.old) (book_views seat.old) (shard_views seat.new) (book_views seat.new)) }
+        ensures err { OnErr result (IsRefused (seat_number seat.old) key.now events.now
+            (shard_views seat.old) (book_views seat.old) (shard_views seat.new) (book_views seat.new)) }
+    {
+        let docks = Docks {
+            gate: &self.gate,
+            shards: &self.shards,
+            books: &self.books,
+        };
+        transact(rt, alloc, &docks, seat, key, events)
     }
 }

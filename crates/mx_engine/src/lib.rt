@@ -8,6 +8,7 @@ mod closing;
 mod docked;
 mod engines;
 mod gates;
+mod jobs;
 mod meeting;
 mod offers;
 mod opening;

@@ -7,23 +7,25 @@ ghost use Rattle.mx_world.specs.declared.answers.Told.{Told as ToldOf};
 ghost use Rattle.mx_engine.specs.Views.{view_at, AddsNothing, AreSameViews};
 ghost use Rattle.mx_engine.specs.BookTurns.{HasBegunIn, IsEndedIn};
 ghost use Rattle.mx_engine.specs.Transactions.{IsOffered, AreOffered, SomeOffered, IsReplied, IsRefused};
+ghost use Rattle.mx_engine.specs.Offering.{FirstOffered};
 ghost use Rattle.mx_engine.specs.Berths.{AreBerthsAt, views_of};
 
 use crate::book_turns::{begin_transaction, give_up_transaction, keep_reply};
 use crate::calls::{ShardCall, call_in};
 use crate::docked::{DockedBook, DockedShard, PaddedDock};
 use crate::gates::Gate;
+use crate::jobs::{Sender, are_several, busy_docks, offer_side_by_side};
 use crate::replies::TransactionReply;
 use crate::seats::Seat;
 use mx_book::{Opening, TransactionKey};
 use mx_dock::Berth;
-use mx_ident::ServerName;
-use mx_keeper::{BookRow, CallError, Caller, Keeper, Reply, ShardRow};
+use mx_keeper::{BookRow, CallError, Keeper, Reply, ShardRow};
 use mx_pdu::Offered;
 use mx_shard::Sending;
 use mx_world::{Told, outcome_of, reply_body};
 use std::alloc::Global;
 use std::sync::Wait;
+use std::thread::Threads;
 
 /// The docks of an engine, and its gate.
 #[derive(Drop)]
@@ -33,17 +35,15 @@ pub(crate) struct Docks<'a, K: Keeper<Row = ShardRow>, L: Keeper<Row = BookRow>,
     pub books: &'a [PaddedDock<DockedBook<L>>],
 }
 
-/// The server whose events are offered, by the caller with this number.
-#[derive(Clone, Copy)]
-struct Sender<'a> {
-    caller: Caller,
-    origin: &'a ServerName,
-}
-
 // ---- a transaction
 
 /// The reply to a transaction with these events.
-pub(crate) fn transact<R: Wait, K: Keeper<Row = ShardRow>, L: Keeper<Row = BookRow>, G: Gate>(
+pub(crate) fn transact<
+    R: Threads + Wait + Sync,
+    K: Keeper<Row = ShardRow> + Send,
+    L: Keeper<Row = BookRow>,
+    G: Gate + Sync,
+>(
     rt: &R,
     alloc: Global,
     docks: &Docks<'_, K, L, G>,
@@ -75,7 +75,12 @@ pub(crate) fn transact<R: Wait, K: Keeper<Row = ShardRow>, L: Keeper<Row = BookR
 
 // Ends the transaction, which this caller has begun: with the reply that its events call for, or, where that is refused,
 // with none.
-fn close_begun<R: Wait, K: Keeper<Row = ShardRow>, L: Keeper<Row = BookRow>, G: Gate>(
+fn close_begun<
+    R: Threads + Wait + Sync,
+    K: Keeper<Row = ShardRow> + Send,
+    L: Keeper<Row = BookRow>,
+    G: Gate + Sync,
+>(
     rt: &R,
     alloc: Global,
     docks: &Docks<'_, K, L, G>,
@@ -124,8 +129,8 @@ fn close_begun<R: Wait, K: Keeper<Row = ShardRow>, L: Keeper<Row = BookRow>, G: 
 
 // ---- its events
 
-// Offers each event to its room, in their order, and gives the reply that they call for, twice.
-fn reply_to<R: Wait, K: Keeper<Row = ShardRow>, G: Gate>(
+// Offers each event to its room, those of each shard in their order, and gives the reply that they call for, twice.
+fn reply_to<R: Threads + Wait + Sync, K: Keeper<Row = ShardRow> + Send, G: Gate + Sync>(
     rt: &R,
     alloc: Global,
     gate: &G,
@@ -141,11 +146,55 @@ fn reply_to<R: Wait, K: Keeper<Row = ShardRow>, G: Gate>(
         × (replies.0 ≡ body_of told) × (replies.1 ≡ body_of told)) }
     ensures err { OnErr result (SomeOffered sender.now.caller sender.now.origin.now events.now (views_of berths.old.items) (views_of berths.new.items)) }
 {
-    let mut told = Vec::new(alloc);
-    offer_each(rt, gate, docks, berths, sender, events, &mut told)?;
+    let told = offer_all(rt, alloc, gate, docks, berths, sender, events)?;
     let reply = reply_body(alloc, &told)?;
     let kept = reply.clone()?;
     Ok((reply, kept))
+}
+
+// Offers each event to its room, those of each shard in their order, and tells of each in the order of the events. Several
+// shards go one beside the other.
+fn offer_all<R: Threads + Wait + Sync, K: Keeper<Row = ShardRow> + Send, G: Gate + Sync>(
+    rt: &R,
+    alloc: Global,
+    gate: &G,
+    docks: &[PaddedDock<DockedShard<K>>],
+    berths: &mut Vec<Berth<DockedShard<K>>>,
+    sender: &Sender<'_>,
+    events: &[Offered],
+) -> Result<Vec<Told>, CallError>
+    requires { AreBerthsAt docks.now sender.now.caller berths.old.items }
+    ensures seated { AreBerthsAt docks.now sender.now.caller berths.new.items }
+    ensures same { AreSameViews (views_of berths.old.items) (views_of berths.new.items) }
+    ensures ok { IfOk result (λ told. AreOffered sender.now.caller sender.now.origin.now events.now (views_of berths.old.items) (views_of berths.new.items) told.items) }
+    ensures err { OnErr result (SomeOffered sender.now.caller sender.now.origin.now events.now (views_of berths.old.items) (views_of berths.new.items)) }
+{
+    let busy = busy_docks(events, docks.len());
+    if are_several(&busy) {
+        return offer_side_by_side(rt, alloc, gate, docks, berths, sender, events, &busy);
+    }
+    offer_in_turn(rt, alloc, gate, docks, berths, sender, events)
+}
+
+// Offers each event to its room, one after the other, and tells of each.
+fn offer_in_turn<R: Wait, K: Keeper<Row = ShardRow>, G: Gate>(
+    rt: &R,
+    alloc: Global,
+    gate: &G,
+    docks: &[PaddedDock<DockedShard<K>>],
+    berths: &mut Vec<Berth<DockedShard<K>>>,
+    sender: &Sender<'_>,
+    events: &[Offered],
+) -> Result<Vec<Told>, CallError>
+    requires { AreBerthsAt docks.now sender.now.caller berths.old.items }
+    ensures seated { AreBerthsAt docks.now sender.now.caller berths.new.items }
+    ensures same { AreSameViews (views_of berths.old.items) (views_of berths.new.items) }
+    ensures ok { IfOk result (λ told. AreOffered sender.now.caller sender.now.origin.now events.now (views_of berths.old.items) (views_of berths.new.items) told.items) }
+    ensures err { OnErr result (SomeOffered sender.now.caller sender.now.origin.now events.now (views_of berths.old.items) (views_of berths.new.items)) }
+{
+    let mut told = Vec::new(alloc);
+    offer_each(rt, gate, docks, berths, sender, events, &mut told)?;
+    Ok(told)
 }
 
 // Offers each event to its room, in their order, and tells of each.
@@ -163,7 +212,7 @@ fn offer_each<R: Wait, K: Keeper<Row = ShardRow>, G: Gate>(
     ensures same { AreSameViews (views_of berths.old.items) (views_of berths.new.items) }
     ensures ok { OnOk result ((later : List ToldOf) × AreOffered sender.now.caller sender.now.origin.now events.now (views_of berths.old.items) (views_of berths.new.items) later
         × (told.new.items ≡ told.old.items ++ later)) }
-    ensures err { OnErr result (SomeOffered sender.now.caller sender.now.origin.now events.now (views_of berths.old.items) (views_of berths.new.items)) }
+    ensures err { OnErr result (FirstOffered sender.now.caller sender.now.origin.now events.now (views_of berths.old.items) (views_of berths.new.items)) }
 {
     for offered in events {
         offer_next(rt, gate, docks, berths, sender, offered, told)?;
@@ -186,7 +235,7 @@ fn offer_next<R: Wait, K: Keeper<Row = ShardRow>, G: Gate>(
     ensures same { AreSameViews (views_of berths.old.items) (views_of berths.new.items) }
     ensures ok { OnOk result ((one : ToldOf) × IsOffered sender.now.caller sender.now.origin.now offered.now (views_of berths.old.items) (views_of berths.new.items) one
         × (told.new.items ≡ told.old.items ++ one ∷ [])) }
-    ensures err { OnErr result (SomeOffered sender.now.caller sender.now.origin.now (offered.now ∷ []) (views_of berths.old.items) (views_of berths.new.items)) }
+    ensures err { OnErr result (FirstOffered sender.now.caller sender.now.origin.now (offered.now ∷ []) (views_of berths.old.items) (views_of berths.new.items)) }
 {
     let one = offer_one(rt, gate, docks, berths, sender, offered)?;
     told.push(one)?;

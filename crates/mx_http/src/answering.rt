@@ -86,7 +86,9 @@ impl<A: Responder> SharedResponder<A> {
         rt: &R,
         alloc: Global,
         request: HttpRequest,
-    ) -> HttpReply {
+    ) -> HttpReply
+        requires { A.can_respond }
+    {
         self.is_busy.store(true, Ordering::SeqCst);
         let (reply, is_done) = respond_by(rt, alloc, &self.responder, request);
         self.is_busy.store(false, Ordering::SeqCst);
@@ -113,7 +115,9 @@ fn respond_by<R: Wait + Clock + Eprint, A: Responder>(
     alloc: Global,
     responder: &Mutex<A>,
     request: HttpRequest,
-) -> (HttpReply, bool) {
+) -> (HttpReply, bool)
+    requires { A.can_respond }
+{
     let mut responder = responder.lock(rt);
     let reply = responder.respond(rt, alloc, request);
     let is_done = responder.is_done();
@@ -187,7 +191,9 @@ impl<A: Responder> Call<A> {
         rt: &R,
         alloc: Global,
         body: Vec<u8>,
-    ) -> Response<Full<Bytes>> {
+    ) -> Response<Full<Bytes>>
+        requires { A.can_respond }
+    {
         let Call {
             shared,
             mut request,
@@ -224,7 +230,9 @@ fn answered<R: Wait + Clock + Eprint + Net, A: Responder>(
     alloc: Global,
     call: Result<Call<A>, AllocError>,
     body: Result<Vec<u8>, BodyError>,
-) -> Result<Response<Full<Bytes>>, Unanswered> {
+) -> Result<Response<Full<Bytes>>, Unanswered>
+    requires { A.can_respond }
+{
     let call = call?;
     call.stage.set(Stage::Reply);
     match body {
@@ -258,6 +266,8 @@ where
 
     type Future = Answer<R, A, WholeBody<Incoming<I>>>;
 
+    ghost can_call = { λ _. A.can_respond };
+
     fn call(&self, request: Request<Incoming<I>>) -> Self::Future {
         let alloc = self.rt.alloc();
         self.stage.set(Stage::Body);
@@ -286,7 +296,7 @@ where
 {
     type Output = Result<Response<Full<Bytes>>, Unanswered>;
 
-    ghost can_poll = { λ answer. F.can_poll answer.body };
+    ghost can_poll = { λ answer. A.can_respond × F.can_poll answer.body };
 
     ghost needs = { λ answer. F.needs answer.body };
 
@@ -308,7 +318,7 @@ fn response(alloc: Global, reply: HttpReply) -> Response<Full<Bytes>> {
     let kind = HeaderValue::from_static("application/json");
     let _ = response.headers_mut().insert(header::CONTENT_TYPE, kind);
     if let Some(method) = reply.allowed {
-        if let Ok(allowed) = HeaderValue::from_str(alloc, method) {
+        if let Ok(allowed) = HeaderValue::from_string(method) {
             let _ = response.headers_mut().insert(header::ALLOW, allowed);
         }
     }

@@ -62,6 +62,8 @@ where
 {
     type Served = Connection<Timed<S::Io, R>, Answers<R, A>, Full<Bytes>, TokioTimer<R>>;
 
+    ghost can_open = { λ _. A.can_respond };
+
     fn open(&self, arrival: Arrival<S>, handle: &Handle) -> io::Result<Self::Served> {
         let (source, guard) = arrival;
         let alloc = self.rt.alloc();
@@ -96,6 +98,7 @@ where
     R: Wait + Clock + Eprint + Net + RandomSource + AllocGlobal + Copy + Drop,
     S: Source,
     A: Responder,
+    requires { A.can_respond }
 {
     let is_busy = Arc::new(rt.alloc(), AtomicBool::new(false)).map_err(AllocError::from)?;
     let serving = Serving {
@@ -131,6 +134,7 @@ pub fn serve_all<R, A>(
 where
     R: Wait + Clock + Eprint + Net + RandomSource + AllocGlobal + Copy + Drop,
     A: Responder,
+    requires { A.can_respond }
 {
     let serving = Serving {
         rt,

@@ -16,8 +16,12 @@ use tokio::runtime::{Handle, LocalRuntime};
 pub trait Opener<S>: Drop {
     type Served: Future;
 
+    /// Holds of what may open.
+    ghost can_open: { Self → Type 0 };
+
     /// The future that serves it, on an event loop with this handle.
     fn open(&self, source: S, handle: &Handle) -> io::Result<Self::Served>
+        requires { can_open self.now }
         ensures { IfOk result Self.Served.can_poll };
 }
 
@@ -59,7 +63,7 @@ where
 {
     type Item = Opened<O::Served>;
 
-    ghost can_poll = { λ served. S.can_poll served.arrivals };
+    ghost can_poll = { λ served. O.can_open served.opener × S.can_poll served.arrivals };
 
     ghost needs = { λ served. S.needs served.arrivals };
 
@@ -83,7 +87,8 @@ where
     S: Stream,
     O: Opener<S::Item>,
     <O::Served as Future>::Output: Drop,
-    requires { S.can_poll arrivals }
+    requires arrivals { S.can_poll arrivals }
+    requires opener { O.can_open opener }
 {
     let mut runtime = LocalRuntime::new(rt)?;
     let handle = runtime.handle().clone()?;
@@ -105,6 +110,7 @@ where
     R: Wait + Clock + Net + RandomSource + AllocGlobal,
     S: Drop,
     O: Opener<S>,
+    requires { O.can_open opener }
 {
     let mut runtime = LocalRuntime::new(rt)?;
     let connection = opener.open(source, runtime.handle())?;

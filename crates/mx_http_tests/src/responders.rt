@@ -35,6 +35,10 @@ fn reply(status: u16) -> HttpReply {
 }
 
 impl Responder for Counter {
+    ghost use Rattle.std.specs.Prelude.{⊤};
+
+    ghost can_respond = { ⊤ };
+
     fn respond<R: Wait + Clock + Eprint>(
         &mut self,
         _rt: &R,

@@ -83,4 +83,4 @@ module _ (K L : RattleType) (g : Ghosts K.Denot ShardRow) (h : Ghosts L.Denot Bo
   )
 
   pub worker_send : IsSend (worker.the_row K L g h)
-  worker_send = view_send _ _ _ _ _ (declared_send (worker_inside.the_type K L g h) (Arc-send _ shared_send shared_sync, (seat_send K L g h k l, (search sendable depth 20, tt))))
+  worker_send = view_send _ _ _ _ _ (declared_send (worker_inside.the_type K L g h) (Arc-send _ shared_send shared_sync, (seat_send K L g h k l, tt)))

@@ -6,12 +6,13 @@ use crate::errors::{ServerError, StartError};
 use crate::losses::check_losses;
 use crate::options::{SeatCount, ServeOptions};
 use crate::row_files::{RowFile, RowFiles};
-use crate::workers::{ServerEngine, Shared, Worker, workers_of};
+use crate::workers::{Handler, ServerEngine, Shared, Worker, workers_of};
 use mx_engine::{Engine, OpenGate};
-use mx_http::{Announcer, Limits, ServeError, ServerRuntime, serve_on};
+use mx_http::{Announcer, HttpRequest, Limits, ServeError, ServerRuntime, serve_on};
 use mx_ident::ServerName;
 use mx_keeper::{BookRow, CallError, Keeper, MOST_PLACES, ShardRow, SqliteKeeper};
 use mx_pdu::PresenceVerifier;
+use mx_room::Moment;
 use mx_wire::{HostLineOutcome, LARGEST_BODY, WireServer, first_line, host_by_line, read_all};
 use mx_world::World;
 use sqlite::Alter;
@@ -242,10 +243,38 @@ where
         port,
         data,
     };
-    match serve_on(rt, &listener, workers, limits, &mut opening) {
-        Ok(_workers) => Err(StartError::from(ServerError::Storage)),
+    let served = serve_by(rt, &listener, workers, limits, &mut opening);
+    match served {
+        Ok(()) => Err(StartError::from(ServerError::Storage)),
         Err(error) => Err(unserved(alloc, &error)),
     }
+}
+
+// Serves the connections that come to a listener by these workers, in a thread each.
+fn serve_by<K, L, R, T: Announcer>(
+    rt: &R,
+    listener: &TcpListener,
+    workers: Vec<Worker<K, L>>,
+    limits: Limits,
+    announcer: &mut T,
+) -> Result<(), ServeError>
+where
+    K: Keeper<Row = ShardRow> + Send,
+    L: Keeper<Row = BookRow> + Send,
+    R: ServerRuntime,
+{
+    let runtime = *rt;
+    let mut handlers = Vec::new(rt.alloc());
+    for worker in workers {
+        let mut worker = worker;
+        let answer = move |alloc: Global, now: Moment, request: HttpRequest| {
+            worker.answer(&runtime, alloc, now, request)
+        };
+        let handler = Handler::new(answer);
+        handlers.push(handler).map_err(AllocError::from)?;
+    }
+    serve_on(rt, listener, handlers, limits, announcer)?;
+    Ok(())
 }
 
 fn listener_at<R: ServerRuntime>(rt: &R, port: u16) -> Result<TcpListener, StartError> {

@@ -16,6 +16,7 @@ use mx_wire::{
 use std::alloc::{AllocError, Global};
 use std::marker::Model;
 use std::sync::{Arc, Wait};
+use std::thread::Threads;
 use std::time::Clock;
 
 // The status where a body does not come in its coding.
@@ -41,8 +42,6 @@ pub struct Shared<K: Keeper<Row = ShardRow>, L: Keeper<Row = BookRow>> {
 pub struct Worker<K: Keeper<Row = ShardRow>, L: Keeper<Row = BookRow>> {
     shared: Arc<Shared<K, L>>,
     seat: Seat<K, L>,
-    // Whether it saw that what keeps rows has failed.
-    has_failed: bool,
 }
 
 impl<K: Keeper<Row = ShardRow>, L: Keeper<Row = BookRow>> Model for Worker<K, L> {
@@ -57,26 +56,86 @@ impl<K: Keeper<Row = ShardRow>, L: Keeper<Row = BookRow>> Model for Worker<K, L>
     ghost invariant = { λ worker. IsSeatOf worker.shared.value.engine worker.seat };
 }
 
-impl<K: Keeper<Row = ShardRow>, L: Keeper<Row = BookRow>> Responder for Worker<K, L> {
+/// What a request is answered, and whether no more requests are wanted then.
+#[derive(Drop)]
+pub struct AnsweredRequest {
+    reply: HttpReply,
+    is_last: bool,
+}
+
+impl<K: Keeper<Row = ShardRow> + Send, L: Keeper<Row = BookRow>> Worker<K, L> {
+    /// The answer to a request that came at this moment. Where what keeps rows refused it, standard error is told which
+    /// file has failed, and no more requests are wanted if the server is to end then.
+    pub fn answer<R: Threads + Wait + Sync + Eprint>(
+        &mut self,
+        rt: &R,
+        alloc: Global,
+        now: Moment,
+        request: HttpRequest,
+    ) -> AnsweredRequest {
+        let request = asked(request);
+        let answered = answer_in(rt, alloc, &self.shared, &mut self.seat, now, &request);
+        answered_request(rt, alloc, &self.shared, &request, answered)
+    }
+}
+
+// What a request is answered. Where what keeps rows refused it, standard error is told which file has failed.
+fn answered_request<K: Keeper<Row = ShardRow>, L: Keeper<Row = BookRow>, R: Eprint>(
+    rt: &R,
+    alloc: Global,
+    shared: &Shared<K, L>,
+    request: &WireRequest,
+    answered: RequestReply,
+) -> AnsweredRequest {
+    let RequestReply { reply, refused } = answered;
+    let Shared { server, files, .. } = shared;
+    let has_failed = refused == Some(CallError::Storage);
+    if has_failed {
+        files.tell(rt, alloc);
+    }
+    AnsweredRequest {
+        reply: sent(alloc, server, request, reply),
+        is_last: has_failed && files.stop_on_failure,
+    }
+}
+
+/// Answers the requests of connections by a call, as of a worker.
+#[derive(Drop)]
+pub struct Handler<F: Drop> {
+    answer: F,
+    // Whether it wants no more requests.
+    is_done: bool,
+}
+
+impl<F: Drop> Handler<F> {
+    pub fn new(answer: F) -> Handler<F>
+        ensures { result.answer ≡ answer }
+    {
+        Handler {
+            answer,
+            is_done: false,
+        }
+    }
+}
+
+impl<F: FnMut(Global, Moment, HttpRequest) -> AnsweredRequest + Drop> Responder for Handler<F> {
+    ghost can_respond = { (answer : F) → F.IsAlwaysCallable answer };
+
     fn respond<R: Wait + Clock + Eprint>(
         &mut self,
         rt: &R,
         alloc: Global,
         request: HttpRequest,
     ) -> HttpReply {
-        let request = asked(request);
-        let answered = answer_in(rt, alloc, &self.shared, &mut self.seat, &request);
-        let RequestReply { reply, refused } = answered;
-        let has_failed = refused == Some(CallError::Storage);
-        self.has_failed |= has_failed;
-        if has_failed {
-            self.shared.files.tell(rt, alloc);
-        }
-        sent(&self.shared.server, &request, reply)
+        let now = moment(rt);
+        let answered = (self.answer)(alloc, now, request);
+        let AnsweredRequest { reply, is_last } = answered;
+        self.is_done |= is_last;
+        reply
     }
 
     fn is_done(&self) -> bool {
-        self.has_failed && self.shared.files.stop_on_failure
+        self.is_done
     }
 
     fn refuse_body(&self, alloc: Global) -> HttpReply {
@@ -124,12 +183,13 @@ fn asked(request: HttpRequest) -> WireRequest {
     }
 }
 
-// The reply to a request through a seat.
-fn answer_in<K: Keeper<Row = ShardRow>, L: Keeper<Row = BookRow>, R: Wait + Clock>(
+// The reply to a request through a seat, at a moment.
+fn answer_in<K: Keeper<Row = ShardRow> + Send, L: Keeper<Row = BookRow>, R: Threads + Wait + Sync>(
     rt: &R,
     alloc: Global,
     shared: &Shared<K, L>,
     seat: &mut Seat<K, L>,
+    now: Moment,
     request: &WireRequest,
 ) -> RequestReply
     requires { IsSeatOf shared.now.engine seat.old }
@@ -142,7 +202,7 @@ fn answer_in<K: Keeper<Row = ShardRow>, L: Keeper<Row = BookRow>, R: Wait + Cloc
         &shared.server,
         &shared.engine,
         seat,
-        moment(rt),
+        now,
         request,
     )
 }
@@ -161,12 +221,17 @@ fn moment<C: Clock>(clock: &C) -> Moment {
 }
 
 // The reply to a request. Where its target has another method, that is told.
-fn sent(server: &WireServer, request: &WireRequest, reply: WireReply) -> HttpReply {
+fn sent(alloc: Global, server: &WireServer, request: &WireRequest, reply: WireReply) -> HttpReply {
     let mut sent = sent_plainly(reply);
     if sent.status == METHOD_NOT_ALLOWED {
-        sent.allowed = server.method_at(&request.target);
+        sent.allowed = allowed_at(alloc, server, &request.target);
     }
     sent
+}
+
+// The method that a target has. Where no memory is left for it the reply goes without it.
+fn allowed_at(alloc: Global, server: &WireServer, target: &[u8]) -> Option<String> {
+    String::from_str(alloc, server.method_at(target)?).ok()
 }
 
 // A reply, or where no memory is left for it that one.
@@ -221,9 +286,5 @@ fn worker_of<K: Keeper<Row = ShardRow>, L: Keeper<Row = BookRow>>(
     requires { IsSeatOf shared.now.value.engine seat }
 {
     let shared = Arc::try_clone(shared)?;
-    Ok(Worker {
-        shared,
-        seat,
-        has_failed: false,
-    })
+    Ok(Worker { shared, seat })
 }

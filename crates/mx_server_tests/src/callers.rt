@@ -1,9 +1,10 @@
 // Callers of an engine, each in a thread of its own.
 ghost use Rattle.std.specs.Prelude.{◌≡◌, ◌<◌, ℕ, All, IfOk, length, get_or, map};
+ghost use Rattle.std.specs.Thread.{IsSync};
 ghost use Rattle.mx_engine.specs.Seats.{IsSeatOf, seat_number};
 ghost use Rattle.mx_server_tests.specs.Callers.{AreTheSeats};
 
-use crate::engines::{TestEngine, TestSeat};
+use crate::engines::{TestEngine, TestSeat, send};
 use crate::gates::Meeting;
 use crate::room_events::{RoomEvents, events, key_of, message};
 use crate::values::event;
@@ -32,7 +33,7 @@ pub struct Caller {
 }
 
 // Does a turn through a seat, and gives the reply to what it sends.
-fn do_turn<R: Wait>(
+fn do_turn<R: Threads + Wait + Sync>(
     rt: &R,
     alloc: Global,
     engine: &TestEngine,
@@ -49,12 +50,17 @@ fn do_turn<R: Wait>(
             let _hosted = engine.host(rt, alloc, seat, create);
             None
         }
-        Turn::Send(key, events) => engine.transaction(rt, alloc, seat, &key, events).ok(),
+        Turn::Send(key, events) => send(rt, alloc, engine, seat, &key, events).ok(),
     }
 }
 
 // Does a caller's next turn.
-fn take_turn<R: Wait>(rt: &R, alloc: Global, engine: &TestEngine, caller: &mut Caller)
+fn take_turn<R: Threads + Wait + Sync>(
+    rt: &R,
+    alloc: Global,
+    engine: &TestEngine,
+    caller: &mut Caller,
+)
     requires { IsSeatOf engine.now caller.old.seat }
     ensures mine { IsSeatOf engine.now caller.new.seat }
     ensures number { seat_number caller.new.seat ≡ seat_number caller.old.seat }
@@ -81,7 +87,7 @@ fn turns_in_threads<R: Threads + Wait + Sync>(
         callers,
         4,
         &|place, caller|
-            requires { IsSeatOf engine.now caller.old.seat }
+            requires { IsSync R.row × IsSeatOf engine.now caller.old.seat }
             ensures { IsSeatOf engine.entry.now caller.new.seat × (seat_number caller.new.seat ≡ seat_number caller.old.seat) }
         {
             meeting.before(place);

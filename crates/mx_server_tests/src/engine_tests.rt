@@ -1,18 +1,23 @@
+ghost use Rattle.std.specs.Prelude.{IfOk};
+ghost use Rattle.mx_engine.specs.Seats.{IsSeatOf};
+
 use crate::callers::{Caller, Plan, after_a_turn, callers_of, seats_of};
-use crate::engines::{closed, kept, opened};
+use crate::engines::{TestEngine, TestSeat, closed, kept, opened, send};
 use crate::gates::{Meeting, MeetingGate};
 use crate::room_events::{
     FIRST_ROOM, ID_OF_JOIN_OF_D, JOIN_OF_D, REPLY_TO_FIRST_ROOM, RoomEvents, SECOND_ROOM, events,
-    key_of,
+    key_of, message,
 };
 use crate::values::{event, event_id, refused, server};
 use mx_engine::TransactionReply;
 use mx_keeper::ShardRow;
+use mx_pdu::Pdu;
 use mx_room::{JoinReply, Moment, Query, QueryReply};
 use mx_shard::Answer;
 use std::alloc::{AllocError, Global};
-use std::sync::Arc;
+use std::sync::{Arc, Wait};
 use std::test::Fail;
+use std::thread::Threads;
 
 // That calls in two shards run at the same time, and that each call comes to its end: no clause says so.
 
@@ -73,6 +78,91 @@ fn two_shards_at_once(rt: HostRuntime) -> Result<(), Fail> {
     Ok(())
 }
 
+// Hosts and fills the room through the seat.
+fn fill<R: Threads + Wait + Sync>(
+    rt: &R,
+    alloc: Global,
+    engine: &TestEngine,
+    seat: &mut TestSeat,
+    room: &RoomEvents,
+) -> Result<(), AllocError>
+    requires { IsSeatOf engine.now seat.old }
+    ensures { IsSeatOf engine.now seat.new }
+{
+    let create = event(alloc, room.create)?;
+    engine.host(rt, alloc, seat, create).map_err(refused)?;
+    let others = events(alloc, &room.others)?;
+    let key = key_of(alloc, room.room)?;
+    send(rt, alloc, engine, seat, &key, others).map_err(refused)?;
+    Ok(())
+}
+
+// An engine with this gate, where two rooms are hosted and filled, each in a shard of its own, and its seat.
+fn with_two_rooms<R: Threads + Wait + Sync>(
+    rt: &R,
+    alloc: Global,
+    gate: MeetingGate,
+) -> Result<(TestEngine, TestSeat), AllocError>
+    ensures { IfOk result (λ made. IsSeatOf made.0 made.1) }
+{
+    let (engine, mut seats) = opened(rt, alloc, gate, 1)?;
+    let mut seat = seats.remove(0);
+    fill(rt, alloc, &engine, &mut seat, &FIRST_ROOM)?;
+    fill(rt, alloc, &engine, &mut seat, &SECOND_ROOM)?;
+    Ok((engine, seat))
+}
+
+// An event of each of the two rooms.
+fn one_of_each(alloc: Global) -> Result<Vec<Pdu>, AllocError> {
+    let mut both = Vec::new(alloc);
+    both.push(message(alloc, &FIRST_ROOM, "first")?)?;
+    both.push(message(alloc, &SECOND_ROOM, "second")?)?;
+    Ok(both)
+}
+
+// Whether the reply has two events, and no fault.
+fn has_both(reply: &TransactionReply) -> bool {
+    match reply {
+        TransactionReply::Closed(reply) => {
+            let text = reply.as_str();
+            text.contains("\":{},\"$") && text.ends_with("\":{}}}") && !text.contains("error")
+        }
+        _ => false,
+    }
+}
+
+// Whether one transaction with an event of each of the two rooms is replied to with both.
+fn are_both_sent<R: Threads + Wait + Sync>(
+    rt: &R,
+    alloc: Global,
+    engine: &TestEngine,
+    seat: &mut TestSeat,
+) -> Result<bool, AllocError>
+    requires { IsSeatOf engine.now seat.old }
+{
+    let key = key_of(alloc, "1")?;
+    let both = one_of_each(alloc)?;
+    let reply = send(rt, alloc, engine, seat, &key, both).map_err(refused)?;
+    Ok(has_both(&reply))
+}
+
+// One transaction has an event of each of two rooms in two shards. The call in the first shard stays there until the call in
+// the second one is inside: neither waits for too long, and the reply has both events, with no fault.
+#[test]
+fn one_transaction_in_two_shards_at_once(rt: HostRuntime) -> Result<(), Fail> {
+    let alloc = rt.alloc();
+    let meeting = Arc::new(alloc, Meeting::new())?;
+    let gate = MeetingGate {
+        meeting: Arc::clone(&meeting)?,
+    };
+    let (engine, mut seat) = with_two_rooms(&rt, alloc, gate)?;
+    meeting.ask_calls();
+    let are_sent = are_both_sent(&rt, alloc, &engine, &mut seat)?;
+    assert!(rt; are_sent);
+    assert!(rt; !meeting.is_given_up());
+    Ok(())
+}
+
 // A room is hosted, filled and joined through one seat, and another seat that has met it is shown the join.
 #[test]
 fn seat_to_seat(rt: HostRuntime) -> Result<(), Fail> {
@@ -85,9 +175,7 @@ fn seat_to_seat(rt: HostRuntime) -> Result<(), Fail> {
     assert!(rt; matches!(hosted, Answer::Hosted(_)));
     let key = key_of(alloc, "1")?;
     let others = events(alloc, &FIRST_ROOM.others)?;
-    let sent = engine
-        .transaction(&rt, alloc, &mut seat, &key, others)
-        .map_err(refused)?;
+    let sent = send(&rt, alloc, &engine, &mut seat, &key, others).map_err(refused)?;
     match sent {
         TransactionReply::Closed(reply) => assert_eq!(rt; reply.as_str(), REPLY_TO_FIRST_ROOM),
         _ => assert!(rt; false),

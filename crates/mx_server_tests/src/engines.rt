@@ -1,17 +1,19 @@
 // An engine over rows in memory, from its opening to what it leaves.
 ghost use Rattle.std.specs.Prelude.{◌≡◌, ◌≤◌, IfOk, length};
+ghost use Rattle.mx_engine.specs.Seats.{IsSeatOf, seat_number};
 ghost use Rattle.mx_server_tests.specs.Callers.{AreTheSeats};
 
 use crate::gates::MeetingGate;
 use crate::values::refused;
-use mx_book::Book;
-use mx_engine::{Engine, Seat};
-use mx_keeper::{BookRow, Keeper, MemoryKeeper, ShardRow, Storable};
-use mx_pdu::PresenceVerifier;
+use mx_book::{Book, TransactionKey};
+use mx_engine::{Engine, Seat, TransactionReply};
+use mx_keeper::{BookRow, CallError, Keeper, MemoryKeeper, ShardRow, Storable};
+use mx_pdu::{Pdu, PresenceVerifier};
 use mx_shard::Shard;
 use mx_world::World;
 use std::alloc::{AllocError, Global};
 use std::sync::Wait;
+use std::thread::Threads;
 
 pub type Rooms = MemoryKeeper<ShardRow>;
 
@@ -45,6 +47,22 @@ pub fn opened<R: Wait>(
     let world = World::new(alloc, keepers(alloc)?, keepers(alloc)?).map_err(refused)?;
     let made = Engine::open(rt, alloc, world, PresenceVerifier, gate, seats)?;
     Ok(made)
+}
+
+// The reply to a transaction of these events through a seat.
+pub fn send<R: Threads + Wait + Sync>(
+    rt: &R,
+    alloc: Global,
+    engine: &TestEngine,
+    seat: &mut TestSeat,
+    key: &TransactionKey,
+    events: Vec<Pdu>,
+) -> Result<TransactionReply, CallError>
+    requires { IsSeatOf engine.now seat.old }
+    ensures mine { IsSeatOf engine.now seat.new }
+    ensures number { seat_number seat.new ≡ seat_number seat.old }
+{
+    engine.transaction(rt, alloc, seat, key, events)
 }
 
 // The server on one thread that is left once all seats are given back.

@@ -12,10 +12,12 @@ const MOST_TURNS: u32 = 100_000;
 const YIELDS_A_TURN: u32 = 1_000;
 
 // Two callers that meet in the engine, where they are asked to: the first one is held inside the first shard until the
-// second one is answered, and the second one sends nothing before the first one is held. Whether one waited for too long.
+// second one is answered, and the second one sends nothing before the first one is held. Or two calls of one transaction
+// meet: the one in the first shard is held there until the other is inside the second shard. Whether one waited for too long.
 #[derive(Drop)]
 pub struct Meeting {
     is_asked: AtomicBool,
+    is_asked_of_calls: AtomicBool,
     is_held: AtomicBool,
     is_answered: AtomicBool,
     is_given_up: AtomicBool,
@@ -25,6 +27,7 @@ impl Meeting {
     pub fn new() -> Meeting {
         Meeting {
             is_asked: AtomicBool::new(false),
+            is_asked_of_calls: AtomicBool::new(false),
             is_held: AtomicBool::new(false),
             is_answered: AtomicBool::new(false),
             is_given_up: AtomicBool::new(false),
@@ -36,6 +39,11 @@ impl Meeting {
         self.is_asked.store(true, Ordering::SeqCst);
     }
 
+    // From now on two calls of one transaction are to meet.
+    pub fn ask_calls(&self) {
+        self.is_asked_of_calls.store(true, Ordering::SeqCst);
+    }
+
     pub fn is_given_up(&self) -> bool {
         self.is_given_up.load(Ordering::SeqCst)
     }
@@ -45,6 +53,16 @@ impl Meeting {
         if self.is_asked.load(Ordering::SeqCst) {
             self.is_held.store(true, Ordering::SeqCst);
             self.wait_for(&self.is_answered);
+        }
+        if self.is_asked_of_calls.load(Ordering::SeqCst) {
+            self.wait_for(&self.is_answered);
+        }
+    }
+
+    // A call is inside another shard.
+    fn enter(&self) {
+        if self.is_asked_of_calls.load(Ordering::SeqCst) {
+            self.is_answered.store(true, Ordering::SeqCst);
         }
     }
 
@@ -82,7 +100,7 @@ fn give_way() {
     }
 }
 
-// A gate that holds who is inside the first shard.
+// A gate that holds who is inside the first shard, and tells of who is inside another one.
 #[derive(Drop)]
 pub struct MeetingGate {
     pub meeting: Arc<Meeting>,
@@ -92,6 +110,8 @@ impl Gate for MeetingGate {
     fn inside<R: Wait>(&self, _rt: &R, shard: usize) {
         if shard == 0 {
             self.meeting.hold();
+        } else {
+            self.meeting.enter();
         }
     }
 }

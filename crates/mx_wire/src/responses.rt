@@ -21,6 +21,7 @@ use mx_room::{Moment, Query};
 use mx_world::{StepReply, TransactionKey};
 use std::alloc::Global;
 use std::sync::Wait;
+use std::thread::Threads;
 
 /// The reply to a request, and why it stands in place of an answer, where it does.
 #[derive(Debug, Drop)]
@@ -40,11 +41,11 @@ pub struct RequestReply {
 /// It waits where the engine does. Source: the Server-Server API of the Matrix specification: "Request Authentication",
 /// "Transactions", "Retrieving events", "Backfilling and retrieving missing events" and "Joining Rooms".
 pub fn respond<
-    K: Keeper<Row = ShardRow>,
+    K: Keeper<Row = ShardRow> + Send,
     L: Keeper<Row = BookRow>,
     V: Verifier + Drop,
-    G: Gate + Drop,
-    R: Wait,
+    G: Gate + Sync + Drop,
+    R: Threads + Wait + Sync,
 >(
     rt: &R,
     alloc: Global,
@@ -89,11 +90,11 @@ fn unavailable_reply(error: CallError) -> WireReply
 
 // The reply to a request, or why there is none.
 fn reply_or_refusal<
-    K: Keeper<Row = ShardRow>,
+    K: Keeper<Row = ShardRow> + Send,
     L: Keeper<Row = BookRow>,
     V: Verifier + Drop,
-    G: Gate + Drop,
-    R: Wait,
+    G: Gate + Sync + Drop,
+    R: Threads + Wait + Sync,
 >(
     rt: &R,
     alloc: Global,
@@ -142,11 +143,11 @@ fn told_fault(alloc: Global, fault: Fault) -> Result<WireReply, CallError>
 
 // The reply to a call.
 fn answer_call<
-    K: Keeper<Row = ShardRow>,
+    K: Keeper<Row = ShardRow> + Send,
     L: Keeper<Row = BookRow>,
     V: Verifier + Drop,
-    G: Gate + Drop,
-    R: Wait,
+    G: Gate + Sync + Drop,
+    R: Threads + Wait + Sync,
 >(
     rt: &R,
     alloc: Global,
@@ -266,11 +267,11 @@ fn answer_join<
 
 // The reply to a transaction.
 fn answer_transaction<
-    K: Keeper<Row = ShardRow>,
+    K: Keeper<Row = ShardRow> + Send,
     L: Keeper<Row = BookRow>,
     V: Verifier + Drop,
-    G: Gate + Drop,
-    R: Wait,
+    G: Gate + Sync + Drop,
+    R: Threads + Wait + Sync,
 >(
     rt: &R,
     alloc: Global,

@@ -1,5 +1,5 @@
 use denote.RattleType.{RattleType}
-use denote.Param.Send.{IsSend, IsSync, param_send, param_sync, arg_send, arg_sync, shr_sync, sendable}
+use denote.Param.Send.{IsSend, IsSync, param_sync, arg_sync, shr_sync, sendable}
 use denote.Param.SendFields.{declared_send, declared_sync, variants_send, as_row_sync}
 use denote.Exit.{no}
 use denote.Struct.Tuple.{type_at}
@@ -12,20 +12,10 @@ use Rattle.std.specs.contracts.alloc.Global as global
 use mir.Syntax.{Sym, named}
 use Rattle.std.proofs.Common.{◌∷◌, []}
 use Rattle.std.proofs.Crossing.{crosses, Vec-send}
-use Rattle.mx_keeper.specs.declared.keepers.Keeper.{Ghosts}
-use Rattle.mx_keeper.specs.declared.rows.ShardRow.{ShardRow}
-use Rattle.mx_keeper.specs.declared.rows.BookRow.{BookRow}
-use Rattle.mx_keeper.proofs.caller.Caller.TheSendSync as caller_number
-use Rattle.mx_keeper.proofs.memory.MemoryKeeper.TheSendSync as memory
-use Rattle.mx_keeper.proofs.rows.BookRow.TheSendSync as rows
-use Rattle.mx_ident.proofs.room_ids.RoomId.TheSendSync as room_id
+use Rattle.std.proofs.sync.atomic.AtomicBool.TheSendSync as atomic
 use Rattle.mx_keeper.specs.contracts.memory.MemoryKeeper as memory_keeper
 use Rattle.mx_keeper.specs.contracts.rows.ShardRow as shard_row
 use Rattle.mx_keeper.specs.contracts.rows.BookRow as book_row
-use Rattle.mx_keeper.specs.contracts.memory.MemoryKeeperKeeper.TheImpl as keeping
-use Rattle.mx_keeper.specs.contracts.rows.ShardRowStorable.TheImpl as storable_event
-use Rattle.mx_keeper.specs.contracts.rows.BookRowStorable.TheImpl as storable_reply
-use Rattle.std.proofs.sync.atomic.AtomicBool.TheSendSync as atomic
 use Rattle.mx_pdu.specs.contracts.verifiers.PresenceVerifier as presence_verifier
 use Rattle.mx_pdu.proofs.verifiers.PresenceVerifier.TheSendSync as presence
 use Rattle.mx_book.proofs.transaction_keys.TransactionKey.TheSendSync as key
@@ -37,38 +27,24 @@ use Rattle.mx_server_tests.specs.contracts.callers.Caller as caller
 use Rattle.mx_server_tests.specs.contracts.callers.Turn as turn
 use Rattle.mx_server_tests.specs.contracts.gates.Meeting as meeting
 use Rattle.mx_server_tests.specs.contracts.gates.MeetingGate as gate
+use Rattle.mx_server_tests.proofs.MemorySending.{rooms_send, replies_send, of_events, of_replies}
 use Rattle.mx_server_tests.proofs.callers.turns_in_threads.Lts as lts
 use Rattle.mx_server_tests.proofs.callers.turns_in_threads.Goals as goal
 
-shard_row_send : IsSend shard_row.the_row
-shard_row_send = search (room_id.the_send, pdu_send, caller_number.the_send, sendable) depth 20 fits 20000
+meeting_sync : IsSync meeting.the_row
+meeting_sync = declared_sync meeting.the_type (atomic.the_sync, (atomic.the_sync, (atomic.the_sync, (atomic.the_sync, (atomic.the_sync, tt)))))
 
-rooms_send : IsSend (memory_keeper.the_row shard_row.the_row)
-rooms_send = memory.the_send shard_row.the_row shard_row_send
+meeting_send : IsSend meeting.the_row
+meeting_send = declared_send meeting.the_type (atomic.the_send, (atomic.the_send, (atomic.the_send, (atomic.the_send, (atomic.the_send, tt)))))
 
-replies_send : IsSend (memory_keeper.the_row book_row.the_row)
-replies_send = memory.the_send book_row.the_row rows.the_send
-
-abbrev of_events : Ghosts (memory_keeper.the_row shard_row.the_row).Denot ShardRow
-of_events = keeping.ghosts shard_row.the_row storable_event.ghosts keeping.no_dict keeping.no_dict
-
-abbrev of_replies : Ghosts (memory_keeper.the_row book_row.the_row).Denot BookRow
-of_replies = keeping.ghosts book_row.the_row storable_reply.ghosts keeping.no_dict keeping.no_dict
+gate_sync : IsSync gate.the_row
+gate_sync = declared_sync gate.the_type (search (meeting_sync, meeting_send, crosses, sendable) depth 20, tt)
 
 turn_send : IsSend turn.the_row
 turn_send = variants_send turn.enum (tt, ((pdu_send, tt), ((key.the_send, (Vec-send _ pdu_send, tt)), tt)))
 
 caller_send : IsSend caller.the_row
 caller_send = declared_send caller.the_type (seat_send (memory_keeper.the_row shard_row.the_row) (memory_keeper.the_row book_row.the_row) of_events of_replies rooms_send replies_send, (Vec-send _ turn_send, (search (crosses, reply.the_send, sendable) depth 20, tt)))
-
-meeting_sync : IsSync meeting.the_row
-meeting_sync = declared_sync meeting.the_type (atomic.the_sync, (atomic.the_sync, (atomic.the_sync, (atomic.the_sync, tt))))
-
-meeting_send : IsSend meeting.the_row
-meeting_send = declared_send meeting.the_type (atomic.the_send, (atomic.the_send, (atomic.the_send, (atomic.the_send, tt))))
-
-gate_sync : IsSync gate.the_row
-gate_sync = declared_sync gate.the_type (search (meeting_sync, meeting_send, crosses, sendable) depth 20, tt)
 
 shared : IsSync (engine.the_row (memory_keeper.the_row shard_row.the_row) (memory_keeper.the_row book_row.the_row) presence_verifier.the_row gate.the_row of_events of_replies)
 shared = engine_sync (memory_keeper.the_row shard_row.the_row) (memory_keeper.the_row book_row.the_row) presence_verifier.the_row gate.the_row of_events of_replies rooms_send replies_send presence.the_sync gate_sync

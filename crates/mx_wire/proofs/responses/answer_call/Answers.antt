@@ -25,3 +25,10 @@ returns-in_ok-reply-in-Sends-clause-reply g c =
     subst (λ call. IsCallAnswered c.args.name.now c.args.now (seat_number old) (call_shown call) (shard_views old) (book_views old) (shard_views new) (book_views new) reply) (sym c.in-Sends.is)
     (subst (λ events. IsCallAnswered c.args.name.now c.args.now (seat_number old) (sends c.in-Sends.origin (string_bytes c.in-Sends.transaction) events) (shard_views old) (book_views old) (shard_views new) (book_views new) reply) c.deref.ensures.value
     (subst (λ txn. IsCallAnswered c.args.name.now c.args.now (seat_number old) (sends c.in-Sends.origin txn c.deref.result.now) (shard_views old) (book_views old) (shard_views new) (book_views new) reply) c.new-txn.ensures (c.in_ok-reply-in-Sends.ensures.reply c.args.now)))
+
+pub returns-in_ok-reply-in-Joins-clause-reply : goal.returns-in_ok-reply-in-Joins-clause-reply
+returns-in_ok-reply-in-Joins-clause-reply g c =
+    let old = c.args.seat.now in
+    let new = c.answer_join.new.seat in
+    subst (λ call. IsCallAnswered c.args.name.now c.args.now (seat_number old) (call_shown call) (shard_views old) (book_views old) (shard_views new) (book_views new) (reply_shown c.in_ok-reply-in-Joins.reply)) (sym c.in-Joins.is)
+    (c.in_ok-reply-in-Joins.ensures.reply c.args.now)

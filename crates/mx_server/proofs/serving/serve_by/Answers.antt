@@ -1,0 +1,34 @@
+use denote.RattleType.{RattleType}
+use denote.Param.Send.{IsSend, param_send, arg_send, sendable}
+use denote.Param.SendFields.{declared_send, as_row_send}
+use denote.Exit.{no}
+use denote.Struct.Tuple.{type_at}
+use denote.Struct.Declared.{row}
+use denote.Struct.Field.{row_field}
+use mir.Syntax.{Sym}
+use Rattle.std.specs.Prelude.{codes}
+use Rattle.std.proofs.Common.{◌∷◌, []}
+use Rattle.mx_server.specs.contracts.serving.serve_by as contract
+use Rattle.mx_server.specs.contracts.workers.Handler as handler
+use Rattle.mx_server.specs.contracts.workers.Worker as worker
+use Rattle.mx_server.proofs.WorkerSending.{worker_send}
+use Rattle.mx_server.proofs.serving.serve_by.Goals as goal
+
+-- what a closure captures of two values may be sent where each of them may
+abbrev captured : Sym → RattleType → RattleType → RattleType
+captured ν A B = row (type_at ν (A ∷ B ∷ []))
+
+captured_send : (ν : Sym) (A B : RattleType) → IsSend A → IsSend B → IsSend (captured ν A B)
+captured_send ν A B a b = declared_send (type_at ν (A ∷ B ∷ [])) (as_row_send (row_field A) a, (as_row_send (row_field B) b, tt))
+
+handler_send : (F : RattleType) → IsSend F → IsSend (handler.the_row F)
+handler_send F f = declared_send (handler.the_type F) (as_row_send (row_field F) f, (search sendable depth 20, tt))
+
+abbrev closure : Sym
+closure = codes "mx_server::serving::fn::serve_by::answer+Self"
+
+pub serve_on-requires-send-A : goal.serve_on-requires-send-A
+serve_on-requires-send-A g c κs within = param_send 1 _ (arg_send _ no _
+    (handler_send (captured closure (worker.the_row (contract.K-row g.row.K g.row.L g.row.R g.row.T) (contract.L-row g.row.K g.row.L g.row.R g.row.T) g.K.Keeper g.L.Keeper) (contract.R-row g.row.K g.row.L g.row.R g.row.T))
+    (captured_send closure (worker.the_row (contract.K-row g.row.K g.row.L g.row.R g.row.T) (contract.L-row g.row.K g.row.L g.row.R g.row.T) g.K.Keeper g.L.Keeper) (contract.R-row g.row.K g.row.L g.row.R g.row.T)
+    (worker_send (contract.K-row g.row.K g.row.L g.row.R g.row.T) (contract.L-row g.row.K g.row.L g.row.R g.row.T) g.K.Keeper g.L.Keeper c.type_bounds.send-K c.type_bounds.send-L) c.type_bounds.send-R)))
