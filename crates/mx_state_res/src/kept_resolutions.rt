@@ -26,16 +26,18 @@ pub(crate) mod outcomes;
 const FEWEST_STATES: usize = 8;
 
 /// What is kept of the resolution of some of a room's states, so that with one state more it is worked out from there.
+///
+/// None of the events in conflict is a power event, and all of them stand at the one key at which the states differ.
 #[derive(Debug, Drop)]
 pub struct KeptResolution {
-    // The states.
-    pub(crate) numbers: Vec<StateNo>,
-    // The one key at which they differ, with an event there.
-    pub(crate) differing: StateMap,
-    // The events in conflict, in the order in which they were checked. None is a power event, and all stand at that key.
-    pub(crate) order: Vec<CheckedEvent>,
-    // What they resolve to.
-    pub(crate) resolved: StateNo,
+    /// The states.
+    pub numbers: Vec<StateNo>,
+    /// The one key at which they differ, with an event there.
+    pub differing: StateMap,
+    /// The events in conflict, in the order in which they were checked.
+    pub order: Vec<CheckedEvent>,
+    /// What they resolve to.
+    pub resolved: StateNo,
 }
 
 /// [`resolve_numbered`], from the resolution that is kept, where it is that of all states but the last, and tells the

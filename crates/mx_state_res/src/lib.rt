@@ -19,6 +19,7 @@ pub use chains::chain_difference::sparse_chain_difference;
 pub use chains::dense_difference::dense_chain_difference;
 pub use conflicts::{full_conflicted, unconflicted};
 pub use entries::StateEntry;
+pub use kept_resolutions::checked_events::CheckedEvent;
 pub use kept_resolutions::{KeptResolution, resolve_keeping};
 pub use laws::{
     equal_states_resolve_to_themselves, one_state_resolves_to_itself,

@@ -15,11 +15,11 @@ use mx_graph::{EventNo, Graph};
 use mx_pdu::Pdu;
 use std::alloc::{AllocError, Global};
 
-// An event that was checked, and whether it was put into the state.
+/// An event that was checked, and whether it was put into the state.
 #[derive(Clone, Copy, Debug)]
-pub(crate) struct CheckedEvent {
-    pub(crate) event: EventNo,
-    pub(crate) is_put: bool,
+pub struct CheckedEvent {
+    pub event: EventNo,
+    pub is_put: bool,
 }
 
 // Checks each of these events, in order, and puts it into the state that allows it.
