@@ -5,6 +5,7 @@ import contextlib
 import http.client
 import json
 import socket
+import sqlite3
 import subprocess
 import sys
 import tempfile
@@ -22,6 +23,7 @@ LARGEST_BODY = 8_388_608
 # How long a step may take before its test fails: as long as a busy machine may want.
 SECONDS = 300
 JSON = "application/json"
+REPLIES = "SELECT place, origin, txn, reply FROM replies ORDER BY place"
 NOT_JSON = (400, b'{"errcode":"M_NOT_JSON","error":"body is not JSON"}')
 TOO_LARGE = (413, b'{"errcode":"M_TOO_LARGE","error":"body over 8 MiB"}')
 UNKNOWN_PATH = (404, b'{"errcode":"M_UNRECOGNIZED","error":"unknown path"}')
@@ -125,6 +127,14 @@ def base_room(folder, *words):
 
 def host_line(event):
     return canonical({"step": "host", "event": event})
+
+
+def rows_of(data, statement, name="shard-0.db"):
+    """What a statement finds in a file of a server that is stopped; it may change it."""
+    with contextlib.closing(sqlite3.connect(data / name)) as connection:
+        found = connection.execute(statement).fetchall()
+        connection.commit()
+        return found
 
 
 def memory_of(process, name="VmRSS"):
