@@ -8,10 +8,10 @@ use crate::auditing::file_rows::rows_of_directory;
 use crate::auditing::log_rows::rows_of_log;
 use crate::auditing::telling::tell;
 use crate::output::{Failure, flushed};
-use crate::progress::Progress;
 use mx_audit::{AuditError, RoomAudit};
 use mx_ident::{EventId, RoomId, ServerName};
 use mx_keeper::ShardRow;
+use mx_server::ProgressLine;
 use mx_wire::ShardCount;
 use std::alloc::Global;
 use std::io::{BufWriter, Read, Write};
@@ -67,7 +67,7 @@ pub fn audit<R: Read, W: Write>(
         question,
     } = options;
     let alloc = host.alloc();
-    let mut progress = Progress::new(host);
+    let mut progress = ProgressLine::new(host);
     let rows = match source {
         AuditSource::Log { name, shards } => rows_of_log(alloc, name, shards, log, &mut progress)?,
         AuditSource::Directory(directory) => rows_of_directory(host, &directory, &mut progress)?,
@@ -83,7 +83,7 @@ fn audit_of(
     alloc: Global,
     room: &RoomId,
     rows: Vec<ShardRow>,
-    progress: &mut Progress<'_>,
+    progress: &mut ProgressLine<'_>,
 ) -> Result<RoomAudit, Failure> {
     let mut audit = None;
     let mut count: u64 = 0;

@@ -8,19 +8,19 @@
 mod auditing;
 mod checking;
 mod command_line;
+mod counted_input;
 mod migrating;
 mod output;
-mod progress;
 mod replaying;
 
 use auditing::{AuditOptions, audit};
 use checking::check_event;
 use command_line::{Command, CommandLineError};
+use counted_input::CountedInput;
 use migrating::{MigrateOptions, migrate};
-use mx_server::{ServeOptions, serve};
+use mx_server::{ProgressLine, ServeOptions, serve};
 use mx_wire::read_all;
 use output::{Failure, MISUSED, SUCCESS, lines_of, report, report_server, write_to};
-use progress::{CountedInput, Progress};
 use replaying::replay;
 use std::alloc::{AllocError, AllocGlobal, Global};
 use std::env;
@@ -138,7 +138,7 @@ where
         + Send
         + Sync,
 {
-    let mut counted = CountedInput::new(input, Progress::new(host));
+    let mut counted = CountedInput::new(input, ProgressLine::new(host));
     match main_with(rt.alloc(), words, &mut counted, out, err) {
         Asked::Ended(status) => status,
         Asked::Serve(options) => match serve(rt, host, options, out, err) {

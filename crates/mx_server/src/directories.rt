@@ -2,7 +2,7 @@
 ghost use Rattle.std.specs.Prelude.{◌≡◌, ◌≤◌, ◌+◌, IfOk, OnOk, length};
 
 use crate::errors::{ServerError, StartError};
-use crate::progress::Progress;
+use crate::progress_lines::ProgressLine;
 use crate::row_files::RowFile;
 use mx_keeper::{
     BookRow, FailureNote, Keeper, KeeperFault, MOST_PLACES, ShardRow, SqliteKeeper, TableRow,
@@ -42,7 +42,7 @@ pub struct ServerFiles {
 struct OpenedSoFar<'a> {
     is_moved: bool,
     files: Vec<RowFile>,
-    progress: Progress<'a>,
+    progress: ProgressLine<'a>,
 }
 
 /// Rows of one kind in a file, and whether it was of an earlier layout.
@@ -80,7 +80,7 @@ pub fn open_directory(
     let mut opened = OpenedSoFar {
         is_moved: false,
         files: Vec::new(host.alloc()),
-        progress: Progress::new(host),
+        progress: ProgressLine::new(host),
     };
     let rooms = keepers(host, directory, "shard", count, &mut opened)?;
     let replies = keepers(host, directory, "book", count, &mut opened)?;
@@ -115,7 +115,7 @@ pub fn migrate<W: Write>(
     if rooms.lacking {
         return Err(refused(host, directory, "a shard's file is missing"));
     }
-    let mut progress = Progress::new(host);
+    let mut progress = ProgressLine::new(host);
     for number in 0..count {
         let path = path_of(host.alloc(), directory, "shard", number)?;
         let opened = opened_at::<ShardRow>(host, &path)?;

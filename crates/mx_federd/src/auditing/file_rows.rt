@@ -4,8 +4,8 @@ ghost use Rattle.sqlite_disk.specs.Memory.{memory_is_usable};
 
 use crate::auditing::log_rows::add_rows;
 use crate::output::Failure;
-use crate::progress::Progress;
 use mx_keeper::{Keeper, MOST_PLACES, ShardRow, SqliteKeeper};
+use mx_server::ProgressLine;
 use sqlite::{Connection, Error, ErrorCode, FileStore, Files, Options};
 use sqlite_disk::{Disk, Memory};
 use std::alloc::{AllocError, Global};
@@ -18,7 +18,7 @@ use std::fs;
 pub(crate) fn rows_of_directory(
     host: &HostRuntime,
     directory: &str,
-    progress: &mut Progress<'_>,
+    progress: &mut ProgressLine<'_>,
 ) -> Result<Vec<ShardRow>, Failure> {
     let alloc = host.alloc();
     let mut all = Vec::new(alloc);

@@ -3,10 +3,10 @@ ghost use Rattle.std.specs.Prelude.{◌≡◌, ◌≤◌, IfOk, length};
 
 use crate::auditing::log_steps::{LogServer, take_line};
 use crate::output::Failure;
-use crate::progress::Progress;
 use mx_ident::ServerName;
 use mx_keeper::{BookRow, CallError, Keeper, KeeperFault, MemoryKeeper, ShardRow, Storable};
 use mx_requests::WireServer;
+use mx_server::ProgressLine;
 use mx_wire::{ShardCount, first_line, read_all};
 use mx_world::World;
 use std::alloc::{AllocError, Global};
@@ -19,7 +19,7 @@ pub(crate) fn rows_of_log<R: Read>(
     name: ServerName,
     shards: ShardCount,
     log: &mut R,
-    progress: &mut Progress<'_>,
+    progress: &mut ProgressLine<'_>,
 ) -> Result<Vec<ShardRow>, Failure> {
     let text = read_all(alloc, log)?;
     let server = WireServer::new(alloc, name)?;

@@ -1,18 +1,18 @@
 // Input, of which it is told each second how much was read.
-pub(crate) use mx_server::Progress;
+use mx_server::ProgressLine;
 use std::io::{self, Read};
 
 /// Input, of which it is told how many bytes were read.
 #[derive(Drop)]
 pub(crate) struct CountedInput<'a, R> {
     input: &'a mut R,
-    progress: Progress<'a>,
+    progress: ProgressLine<'a>,
     count: u64,
 }
 
 impl<'a, R> CountedInput<'a, R> {
     /// Input of which nothing was read yet.
-    pub(crate) fn new(input: &'a mut R, progress: Progress<'a>) -> CountedInput<'a, R> {
+    pub(crate) fn new(input: &'a mut R, progress: ProgressLine<'a>) -> CountedInput<'a, R> {
         CountedInput {
             input,
             progress,

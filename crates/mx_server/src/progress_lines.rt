@@ -4,21 +4,21 @@ use std::time::{Clock, Duration};
 
 /// Tells each second how much is done, where standard error is a terminal; else nothing.
 #[derive(Drop)]
-pub struct Progress<'a> {
+pub struct ProgressLine<'a> {
     host: &'a HostRuntime,
     // When it was told last. None where nothing is to be told.
     told: Option<Duration>,
 }
 
-impl<'a> Progress<'a> {
+impl<'a> ProgressLine<'a> {
     /// One that has told nothing yet.
-    pub fn new(host: &'a HostRuntime) -> Progress<'a> {
+    pub fn new(host: &'a HostRuntime) -> ProgressLine<'a> {
         let told = if host.stderr().is_terminal() {
             host.monotonic().ok()
         } else {
             None
         };
-        Progress { host, told }
+        ProgressLine { host, told }
     }
 
     /// Tells that so many of these are done, at most once in each second of the clock.
