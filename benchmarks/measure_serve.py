@@ -4,22 +4,27 @@
     measure_serve.py rows [--program PATH] [--folder DIR] [--events 10000]
     measure_serve.py requests [--program PATH] [--folder DIR] [--seconds 5] [--constant PATH]
     measure_serve.py shards [--program PATH] [--folder DIR] [--events 10000]
+    measure_serve.py senders [--program PATH] [--folder DIR] [--events 1000]
 
 `rows`: a transaction of 50 messages, beside sqlite3's own command line, which inserts the same rows in 50 transactions
 with a write-ahead log and synchronous FULL; and how long the server takes to open its files again, beside `replay` of the
 same events. `requests`: requests a second by wrk, over 1 and 4 threads, and sends of one event; in a folder of /dev/shm
 the files are in memory. `--constant` names a program that takes a port and a number of threads, and gives each request
 one answer (benchmarks/constant_server.txt). `shards`: a transaction of 50 messages of four rooms, whose shard is one and the
-same, and whose shards are four. It wants Debian's packages sqlite3 and wrk, `shards` neither."""
+same, and whose shards are four. `senders`: messages to one room by one sender and by eight at once, one event to a
+transaction: events a second, and the server's processor time for each. It wants Debian's packages sqlite3 and wrk,
+`shards` and `senders` neither."""
 
 import argparse
 import http.client
 import json
+import os
 import re
 import statistics
 import subprocess
 import sys
 import tempfile
+import threading
 import time
 from pathlib import Path
 
@@ -31,15 +36,16 @@ sys.dont_write_bytecode = True
 from request_rows import FEDERATION, header, quoted  # noqa: E402
 
 SETTINGS = "PRAGMA journal_mode=WAL; PRAGMA synchronous=FULL;\n"
-TABLE = "CREATE TABLE kept (place INTEGER PRIMARY KEY, room TEXT NOT NULL, event TEXT NOT NULL, caller INTEGER NOT NULL);\n"
+COLUMNS = "place INTEGER PRIMARY KEY, room TEXT NOT NULL, version TEXT NOT NULL, event TEXT NOT NULL, caller INTEGER NOT NULL"
+TABLE = f"CREATE TABLE kept2 ({COLUMNS});\n"
 # How many connections a proxy's pool may have.
 MANY = 64
 # More sends a second than one connection can have.
 MOST_SENDS = 25_000
 
 
-def log_of(events, members=50, batch=50, room="!room:s0.example"):
-    words = [sys.executable, HERE / "make_log.py", "--shape", "linear", "--events", str(events), "--members", str(members)]
+def log_of(events, members=50, batch=50, room="!room:s0.example", shape="linear"):
+    words = [sys.executable, HERE / "make_log.py", "--shape", shape, "--events", str(events), "--members", str(members)]
     words += ["--batch", str(batch), "--room", room]
     return subprocess.run(words, stdout=subprocess.PIPE, check=True).stdout
 
@@ -87,7 +93,8 @@ class Server:
 
 def sqlite_seconds(folder, data, rows):
     """How long sqlite3 takes for each of the rows of a server's file, in a transaction of its own."""
-    read = "SELECT 'INSERT INTO kept VALUES('||place||','||quote(room)||','||quote(event)||','||caller||');' FROM kept ORDER BY place LIMIT %d;"
+    row = "place||','||quote(room)||','||quote(version)||','||quote(event)||','||caller"
+    read = f"SELECT 'INSERT INTO kept2 VALUES('||{row}||');' FROM kept2 ORDER BY place LIMIT %d;"
     inserts = subprocess.run(["sqlite3", data / "shard-0.db", read % rows], stdout=subprocess.PIPE, check=True, text=True).stdout
     found = []
     for number in range(5):
@@ -150,6 +157,41 @@ def shards(options, folder):
         told = ", ".join(f"{seconds * 1000:.1f}" for seconds in medians)
         print(f"50 messages of four rooms in {count} shards: {told} ms (medians of {len(mixed)} transactions)")
     print(f"four shards beside one: {statistics.median(found[4]) / statistics.median(found[1]):.2f}")
+
+
+def processor_seconds(process):
+    """How long a process has had a processor."""
+    fields = Path(f"/proc/{process.pid}/stat").read_text().rpartition(")")[2].split()
+    return (int(fields[11]) + int(fields[12])) / os.sysconf("SC_CLK_TCK")
+
+
+def send_all(server, sends):
+    """Sends these one after the other over a connection of its own."""
+    connection = http.client.HTTPConnection("127.0.0.1", server.port)
+    for origin, txn, body in sends:
+        connection.request("PUT", FEDERATION + "v1/send/" + quoted(txn), body, {"Authorization": header(origin)})
+        connection.getresponse().read()
+    connection.close()
+
+
+def senders(options, folder):
+    """All messages follow one event, so that each can come at any time."""
+    hosts, sends = parts_of(log_of(options.events, batch=1, shape="wide"))
+    base, messages = sends[: len(sends) - options.events], sends[len(sends) - options.events :]
+    for count in (1, 8):
+        server = Server(options.program, folder / str(count), "--threads", "8", hosts=hosts)
+        for send in base:
+            server.send(*send)
+        threads = [threading.Thread(target=send_all, args=(server, messages[number::count])) for number in range(count)]
+        start, before = time.monotonic(), processor_seconds(server.process)
+        for thread in threads:
+            thread.start()
+        for thread in threads:
+            thread.join()
+        rate = options.events / (time.monotonic() - start)
+        each = (processor_seconds(server.process) - before) / options.events
+        print(f"{count} senders: {rate:,.0f} events a second, {each * 1e6:,.0f} microseconds of a processor for each")
+        server.stop()
 
 
 def wrk(port, target, threads, seconds, origin, *script, connections=None):
@@ -229,7 +271,7 @@ def requests(options, folder):
 
 def main():
     parser = argparse.ArgumentParser(description=__doc__, formatter_class=argparse.RawDescriptionHelpFormatter)
-    parser.add_argument("what", choices=("rows", "requests", "shards"))
+    parser.add_argument("what", choices=("rows", "requests", "shards", "senders"))
     parser.add_argument("--program", type=Path, default=PROGRAM)
     parser.add_argument("--folder", type=Path)
     parser.add_argument("--events", type=int, default=10_000)
@@ -237,7 +279,7 @@ def main():
     parser.add_argument("--constant", type=Path)
     options = parser.parse_args()
     with tempfile.TemporaryDirectory(dir=options.folder) as folder:
-        {"rows": rows, "requests": requests, "shards": shards}[options.what](options, Path(folder))
+        {"rows": rows, "requests": requests, "shards": shards, "senders": senders}[options.what](options, Path(folder))
 
 
 main()
