@@ -1,16 +1,12 @@
 // The state in which an event is judged while states are resolved.
-ghost use Rattle.std.specs.Prelude.{◌≡◌, ◌<◌, All, IfSome, None, Some, if◌then◌else◌, length};
-ghost use Rattle.std.specs.Option.{option_copied, option_or};
-ghost use Rattle.mx_graph.specs.Record as record_of;
-ghost use Rattle.mx_orders.specs.StateMap.{auth_event_at, entry as entry_at};
-ghost use Rattle.mx_state_res.specs.Resolution as definition;
+ghost use Rattle.std.specs.Prelude.{◌≡◌, ◌<◌, All, length};
 ghost use Rattle.mx_audit.specs.Steps.{refusal_at};
 
-use mx_auth::{RoomState, RoomVersion, Rule, is_at, judge, needed_keys};
+use mx_auth::{RoomState, RoomVersion, Rule, judge};
 use mx_graph::{EventNo, Graph};
 use mx_ident::EventId;
 use mx_pdu::Pdu;
-use mx_state_res::StateMap;
+use mx_state_res::{StateMap, usable_auth_event};
 use std::marker::Model;
 
 // A state, in which what it lacks is taken from the auth events of an event.
@@ -78,54 +74,6 @@ impl<'a> RoomState for JudgedState<'a> {
             None => None,
         }
     }
-}
-
-// The auth event of an event at a key that it needs, unless that one was rejected.
-fn usable_auth_event(
-    version: RoomVersion,
-    graph: &Graph,
-    number: EventNo,
-    kind: &str,
-    state_key: &str,
-) -> Option<EventNo>
-    requires { number < length graph.now }
-    ensures usable { result ≡ definition.usable_auth_event version graph.now (record_of.event graph.now number)
-        (kind.now, state_key.now) }
-    ensures known { IfSome result (λ n. n < length graph.now) }
-{
-    if !needed_keys(version, &graph.row(number).event).contains(kind, state_key) {
-        return None;
-    }
-    match auth_event(graph, number, kind, state_key) {
-        Some(other) => unless_rejected(graph, other),
-        None => None,
-    }
-}
-
-fn unless_rejected(graph: &Graph, number: EventNo) -> Option<EventNo>
-    requires { number < length graph.now }
-    ensures usable { result ≡ (if (record_of.row graph.now number).rejected then None else Some number) }
-    ensures known { IfSome result (λ n. n < length graph.now) }
-{
-    if graph.row(number).rejected {
-        None
-    } else {
-        Some(number)
-    }
-}
-
-// The first auth event of an event that has this type and this state key.
-fn auth_event(graph: &Graph, number: EventNo, kind: &str, state_key: &str) -> Option<EventNo>
-    requires { number < length graph.now }
-    ensures first { result ≡ auth_event_at graph.now (record_of.event graph.now number) (kind.now, state_key.now) }
-    ensures known { IfSome result (λ other. other < length graph.now) }
-{
-    for other in graph.auth_events(number) {
-        if is_at(&graph.row(*other).event, kind, state_key) {
-            return Some(*other);
-        }
-    }
-    None
 }
 
 /// The line of the rules of a version that does not allow an event in a state, where what the state lacks is taken from

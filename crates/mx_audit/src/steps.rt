@@ -3,12 +3,12 @@ ghost use Rattle.std.specs.Prelude.{◌≡◌, ◌<◌, All, IfOk, OnOk, length,
 ghost use Rattle.mx_state_res.specs.Resolution as resolution;
 ghost use Rattle.mx_audit.specs.Steps as definition;
 
-use crate::conflicting::{conflicted_entries, power_events, without};
+use crate::conflicting::{conflicted_entries, without};
 use crate::judged_states::refusal_in;
 use mx_auth::{RoomVersion, Rule};
 use mx_graph::{EventNo, Graph};
 use mx_orders::{mainline_order, power_order};
-use mx_state_res::{StateMap, full_conflicted, unconflicted};
+use mx_state_res::{StateMap, full_conflicted, power_events, unconflicted};
 use std::alloc::{AllocError, Global};
 
 /// An event of a conflict, and the line of the rules that does not allow it in the state so far; none where they allow it,

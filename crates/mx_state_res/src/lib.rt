@@ -17,6 +17,8 @@ mod states;
 
 pub use chains::chain_difference::sparse_chain_difference;
 pub use chains::dense_difference::dense_chain_difference;
+pub use checks::judged_states::usable_auth_event;
+pub use checks::powers::power_events;
 pub use conflicts::{full_conflicted, unconflicted};
 pub use entries::StateEntry;
 pub use kept_resolutions::checked_events::CheckedEvent;

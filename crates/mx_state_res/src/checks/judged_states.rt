@@ -81,8 +81,11 @@ impl<'a, 's> RoomState for JudgedState<'a, 's> {
     }
 }
 
-// The auth event of an event at a key that it needs, unless that one was rejected.
-fn usable_auth_event(
+/// The auth event that an event needs at a type and a state key, where it cites one there that was not rejected: it stands
+/// in for what a state lacks while the event is judged in it. It takes no memory.
+///
+/// Source: the Matrix specification, Room Version 2, "State resolution", iterative auth checks.
+pub fn usable_auth_event(
     version: RoomVersion,
     graph: &Graph,
     number: EventNo,

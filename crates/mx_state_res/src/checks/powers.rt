@@ -14,7 +14,11 @@ use mx_redact::is_text;
 use std::alloc::{AllocError, Global};
 
 /// The power events of these events, and those of them that are in the auth chains of the power events, rising.
-pub(crate) fn power_events(
+///
+/// `AllocError` where no memory is left.
+///
+/// Source: the Matrix specification, Room Version 2, "State resolution", power events.
+pub fn power_events(
     alloc: Global,
     graph: &Graph,
     full: &[EventNo],
