@@ -1,7 +1,6 @@
 // `audit`: why the events of a room were received as they were, and what its states are.
 mod file_rows;
 mod log_rows;
-mod log_steps;
 mod telling;
 
 use crate::auditing::file_rows::rows_of_directory;
@@ -69,7 +68,7 @@ pub fn audit<R: Read, W: Write>(
     let alloc = host.alloc();
     let mut progress = ProgressLine::new(host);
     let rows = match source {
-        AuditSource::Log { name, shards } => rows_of_log(alloc, name, shards, log, &mut progress)?,
+        AuditSource::Log { name, shards } => rows_of_log(alloc, &name, shards, log)?,
         AuditSource::Directory(directory) => rows_of_directory(host, &directory, &mut progress)?,
     };
     let audit = audit_of(alloc, &room, rows, &mut progress)?;

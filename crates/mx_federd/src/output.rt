@@ -6,7 +6,7 @@ ghost use Rattle.mx_redact.specs.Hashes.{hash_holds};
 ghost use Rattle.mx_federd.specs.Lines.{check_lines};
 
 use crate::checking::{CheckError, Checked};
-use mx_keeper::{CallError, KeeperFault};
+use mx_keeper::KeeperFault;
 use mx_server::{ServerError, StartError};
 use mx_wire::{InputError, LinesError};
 use std::alloc::{AllocError, Global};
@@ -50,22 +50,12 @@ impl Failure {
             _ => Failure::ReadOrWrite,
         }
     }
-}
 
-impl Failure {
     /// Why what keeps rows did not give them.
     pub fn of_keeper(fault: KeeperFault) -> Failure {
         match fault {
             KeeperFault::Memory => Failure::Memory,
             KeeperFault::Store | KeeperFault::Table => Failure::Storage,
-        }
-    }
-
-    /// Why a step was refused.
-    pub fn of_call(error: CallError) -> Failure {
-        match error {
-            CallError::Memory => Failure::Memory,
-            CallError::Storage => Failure::Storage,
         }
     }
 }

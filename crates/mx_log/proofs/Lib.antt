@@ -6,6 +6,7 @@ pub mod LineReadingLemmas
 pub mod LineRunLemmas
 pub mod CallStepLemmas
 pub mod LogLemmas
+pub mod LogServerLemmas
 pub mod TextMemberLemmas
 pub mod LineRows
 pub mod AnswerLemmas

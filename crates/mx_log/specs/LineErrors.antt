@@ -26,3 +26,10 @@ step_refusal call.Storage = refusal.Storage
 abbrev pub request_refusal : CallError → LineRefusal
 request_refusal call.Memory = refusal.CallMemory
 request_refusal call.Storage = refusal.CallStorage
+
+-- of a line that is refused, where the log ends there
+abbrev pub of_refusal : LineRefusal → LinesError
+of_refusal refusal.Memory = Memory
+of_refusal refusal.Storage = Storage
+of_refusal refusal.CallMemory = Memory
+of_refusal refusal.CallStorage = Storage

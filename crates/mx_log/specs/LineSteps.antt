@@ -5,6 +5,8 @@ use Rattle.mx_shard.specs.declared.answers.Answer.TheVariants.{ToJoined, ToAsked
 use Rattle.mx_book.specs.declared.transaction_keys.TransactionKey.{TransactionKey}
 use Rattle.mx_world.specs.Calls.{Start}
 use Rattle.mx_world.specs.Replies.{AreReplies}
+use Rattle.mx_world.specs.View.{WorldView}
+use Rattle.mx_world.specs.Worlds.{IsAfter}
 use Rattle.mx_world.specs.declared.steps.Step.{Step}
 use Rattle.mx_world.specs.declared.steps.Step.TheVariants.{Host, Open, Next, Close, Join, Ask}
 use Rattle.mx_world.specs.declared.steps.StepReply.{StepReply}
@@ -134,3 +136,9 @@ nothing_yet = record { record_at = λ room. []; kept_at = λ key. None }
 abbrev pub IsAnswered : Judge → List ℕ → List ℕ → List ℕ → Type 0
 IsAnswered judges server input output =
     (xs : List Exchange) × AreRun nothing_yet (offer_by judges) server (lines_of input) output xs
+
+-- what a new server under its name keeps after an input, all lines of which are answered
+abbrev pub IsServerAfter : {K L : Type 0} → Judge → List ℕ → List ℕ → WorldView K L → Type 0
+IsServerAfter judges server input w =
+    (output : List ℕ) × (xs : List Exchange) × AreRun nothing_yet (offer_by judges) server (lines_of input) output xs
+    × IsAfter nothing_yet (flat_map (λ x. x.steps) xs) w

@@ -81,6 +81,20 @@ impl From<io::Error> for LinesError {
     }
 }
 
+impl From<LineRefusal> for LinesError {
+    ghost use Rattle.std.specs.Prelude.{◌≡◌};
+    ghost use Rattle.mx_log.specs.LineErrors.{of_refusal};
+
+    ghost from_gives = { λ refusal e. e ≡ of_refusal refusal };
+
+    fn from(refusal: LineRefusal) -> LinesError {
+        match refusal {
+            LineRefusal::Memory | LineRefusal::CallMemory => LinesError::Memory,
+            LineRefusal::Storage | LineRefusal::CallStorage => LinesError::Storage,
+        }
+    }
+}
+
 impl From<CallError> for LinesError {
     ghost use Rattle.std.specs.Prelude.{◌≡◌};
     ghost use Rattle.mx_log.specs.LineErrors.{of_call};
@@ -123,8 +137,8 @@ pub fn run_lines<R: Read, W: Write, V: Verifier>(
     Ok(())
 }
 
-// A server that hosts no room.
-fn new_world(
+/// A server that hosts no room.
+pub(crate) fn new_world(
     alloc: Global,
     shards: ShardCount,
 ) -> Result<World<MemoryKeeper<ShardRow>, MemoryKeeper<BookRow>>, LinesError>
@@ -199,8 +213,8 @@ fn answer_text<K: Keeper<Row = ShardRow>, L: Keeper<Row = BookRow>, V: Verifier,
     }
 }
 
-// The answer to the line that a text is.
-fn answer_of<K: Keeper<Row = ShardRow>, L: Keeper<Row = BookRow>, V: Verifier>(
+/// The answer to the line that a text is.
+pub(crate) fn answer_of<K: Keeper<Row = ShardRow>, L: Keeper<Row = BookRow>, V: Verifier>(
     alloc: Global,
     server: &WireServer,
     verifier: &V,

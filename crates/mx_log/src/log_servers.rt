@@ -1,0 +1,86 @@
+// The server that a log makes.
+ghost use Rattle.std.specs.Prelude.{◌≡◌, ℕ, List, [], IfOk, IfSome, OnOk};
+ghost use Rattle.mx_pdu.specs.Offers.{offer_by};
+ghost use Rattle.mx_world.specs.Calls.{Start};
+ghost use Rattle.mx_world.specs.Worlds.{IsAfter};
+ghost use Rattle.mx_world.specs.declared.steps.Step.{Step as AnyStep};
+ghost use Rattle.mx_log.specs.LineRuns.{AreRunSoFar, IsDone};
+ghost use Rattle.mx_log.specs.LineSteps.{IsServerAfter};
+ghost use Rattle.mx_log.specs.Lines.{lines_of, read_line};
+
+use crate::line_reader::LineReader;
+use crate::logs::{LinesError, answer_of, new_world};
+use crate::shard_counts::ShardCount;
+use json::Scratch;
+use mx_ident::ServerName;
+use mx_keeper::{BookRow, Keeper, MemoryKeeper, ShardRow};
+use mx_pdu::Verifier;
+use mx_requests::WireServer;
+use mx_world::World;
+use std::alloc::Global;
+use std::io::Read;
+
+/// The server of this name, over so many shards and books with their rows in memory, that has done what the lines of a log
+/// ask for, in their order. What they are answered is told to nobody.
+///
+/// `Memory` or `Storage` where a line is refused for that, and where there is none for the server; `Read` where the log
+/// could not be read on.
+///
+/// Source: the lines are our own; the requests that they hold are those of the Matrix specification, Server-Server API.
+pub fn server_after_log<R: Read, V: Verifier>(
+    alloc: Global,
+    input: &mut R,
+    name: &ServerName,
+    shards: ShardCount,
+    verifier: &V,
+) -> Result<World<MemoryKeeper<ShardRow>, MemoryKeeper<BookRow>>, LinesError>
+    ensures { IfOk result (λ world. IfSome (R.remaining input.old) (λ read.
+        IsServerAfter (V.judges verifier.now) name.now read world)) }
+{
+    let name = name.clone()?;
+    let server = WireServer::new(alloc, name)?;
+    let mut world = new_world(alloc, shards)?;
+    take_log(alloc, &server, verifier, &mut world, input)?;
+    Ok(world)
+}
+
+// Each line of a log, done.
+fn take_log<K: Keeper<Row = ShardRow>, L: Keeper<Row = BookRow>, V: Verifier, R: Read>(
+    alloc: Global,
+    server: &WireServer,
+    verifier: &V,
+    world: &mut World<K, L>,
+    input: &mut R,
+) -> Result<(), LinesError>
+    ensures { OnOk result ((start : Start) → IsAfter start [] world.old → IfSome (R.remaining input.old) (λ read.
+        (output : List ℕ) × AreRunSoFar (offer_by (V.judges verifier.now)) server.now.name start (lines_of read) output world.new)) }
+{
+    let mut scratch = Scratch::new(alloc);
+    let mut lines = LineReader::new(alloc)?;
+    let mut line = Vec::new(alloc);
+    while lines.next_line(alloc, input, &mut line)? {
+        take_text(alloc, server, verifier, world, &mut scratch, &line)?;
+    }
+    if line.is_empty() {
+        return Ok(());
+    }
+    take_text(alloc, server, verifier, world, &mut scratch, &line)?;
+    Ok(())
+}
+
+// The line that a text is, done.
+fn take_text<K: Keeper<Row = ShardRow>, L: Keeper<Row = BookRow>, V: Verifier>(
+    alloc: Global,
+    server: &WireServer,
+    verifier: &V,
+    world: &mut World<K, L>,
+    scratch: &mut Scratch,
+    text: &[u8],
+) -> Result<(), LinesError>
+    ensures { OnOk result ((output : List ℕ) × ((start : Start) (earlier : List AnyStep) → IsAfter start earlier world.old
+        → IsDone (offer_by (V.judges verifier.now)) server.now.name (read_line (offer_by (V.judges verifier.now)) text.now)
+        output start earlier world.new)) }
+{
+    let _answer = answer_of(alloc, server, verifier, world, scratch, text)?;
+    Ok(())
+}
