@@ -11,7 +11,7 @@ use Rattle.mx_receipt.specs.Receipt.{states_at}
 use Rattle.mx_receipt.specs.Judgements.{Judged, AreBelow, afters, judged_by, judged_in, numbers_after, verdicts_in, verdicts_of}
 use Rattle.mx_receipt.specs.declared.snapshots.Judgement.{Judgement}
 
-all-tail : {A : Type 0} (P : A → Type 0) (x : A) (xs : List A) → All P (x ∷ xs) → All P xs
+pub all-tail : {A : Type 0} (P : A → Type 0) (x : A) (xs : List A) → All P (x ∷ xs) → All P xs
 all-tail P x xs h = λ k d l. h (suc k) d (omega arith)
 
 abbrev judged-with : Judgement → State → State → Judged

@@ -17,4 +17,5 @@ pub mod RemovalLemmas
 pub mod ClosureLemmas
 pub mod SortedStateLemmas
 pub mod ResolutionLemmas
+pub mod StayingLemmas
 pub mod NamingLemmas

@@ -53,7 +53,7 @@ module _ (rows : List Row) (old more new : List State) (are : new ≡ old ++ mor
   }
 
   -- one that was found
-  resolution-found : (s : ℕ) → AreKnown rows old → All (λ n. n < length old) ns → s < length new → state_at new s ≡ resolve_in rows (map (state_at old) ns) → IsResolution rows new ns s
+  pub resolution-found : (s : ℕ) → AreKnown rows old → All (λ n. n < length old) ns → s < length new → state_at new s ≡ resolve_in rows (map (state_at old) ns) → IsResolution rows new ns s
   resolution-found s known below l is = record {
     below = below-grown below;
     state_below = l;
@@ -89,7 +89,7 @@ resolve_in-longer [] r states sound after known =
 resolve_in-longer (q ∷ rows) r states sound after known = resolve-longer (created_version q.event) (q ∷ rows) r states sound after known
 
 -- nor does a row
-resolution-longer : (rows : List Row) (r : Row) (states : List State) (ns : List ℕ) (s : ℕ) → IsSound rows → IsSound (rows ++ r ∷ []) → IsResolution rows states ns s → IsResolution (rows ++ r ∷ []) states ns s
+pub resolution-longer : (rows : List Row) (r : Row) (states : List State) (ns : List ℕ) (s : ℕ) → IsSound rows → IsSound (rows ++ r ∷ []) → IsResolution rows states ns s → IsResolution (rows ++ r ∷ []) states ns s
 resolution-longer rows r states ns s sound after h = record {
   below = h.below;
   state_below = h.state_below;

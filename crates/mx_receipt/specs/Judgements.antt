@@ -39,6 +39,10 @@ verdicts_in = map (λ j. j.verdict)
 abbrev pub numbers_after : List Judgement → List ℕ
 numbers_after = map (λ j. j.after)
 
+-- those after some of the events
+abbrev pub numbers_at : List Judgement → List ℕ → List ℕ
+numbers_at judgements = map (λ p. slice_index_or (numbers_after judgements) p 0)
+
 -- the events of the record under their verdicts; a row beyond the verdicts is not among them
 abbrev pub kept_of : List Row → List Judged → List Kept
 kept_of [] judgements = []
@@ -94,6 +98,11 @@ pub record AreNext (rows : List Row) (verdicts : List Verdict) (prev extremities
 pub record AreAfter (rows : List Row) (verdicts : List Verdict) (prev extremities : List ℕ) (number : ℕ) (verdict : Verdict) (next : List ℕ) : Type 0 where
   pub stay : is_accepted verdict ≡ false → next ≡ extremities
   pub replace : is_accepted verdict ≡ true → AreNext rows verdicts prev extremities number next
+
+-- the extremities after an event that covers these: those that are not covered, and the event, where it was accepted
+abbrev pub replaced : Verdict → List ℕ → List ℕ → ℕ → List ℕ
+replaced verdict covered extremities number =
+    if is_accepted verdict then filter (λ p. not (is_in covered p)) extremities ++ number ∷ [] else extremities
 
 -- ---- the events that are past
 

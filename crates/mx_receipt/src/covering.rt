@@ -1,5 +1,5 @@
 // The forward extremities that an event replaces.
-ghost use Rattle.std.specs.Prelude.{◌≡◌, ◌==◌, ◌<◌, ◌||◌, All, IfOk, OnOk, ℕ, filter, length, not};
+ghost use Rattle.std.specs.Prelude.{◌≡◌, ◌==◌, ◌<◌, ◌||◌, ◌++◌, ◌∷◌, [], All, IfOk, OnOk, ℕ, filter, length, not};
 ghost use Rattle.std.specs.BTreeSet.{contains};
 ghost use Rattle.std.specs.Ordering.{nat_cmp};
 ghost use Rattle.mx_graph.specs.Edges.{IsAllFrom, Rises};
@@ -40,6 +40,8 @@ pub(crate) fn next_extremities(
         next.extremities.items) }
     ensures covered { IfOk result (λ next.
         IsAllFrom (leads_further graph.now judgements.now) (is_in prev_events.now) (is_in next.covered.items)) }
+    ensures replaced { IfOk result (λ next. next.extremities.items
+        ≡ filter (λ p. not (is_in next.covered.items p)) extremities.now ++ number ∷ []) }
 {
     graph_is_sound(graph);
     let covered = covered(alloc, graph, judgements, prev_events)?;

@@ -1,14 +1,15 @@
 // The receipt of an event.
-ghost use Rattle.std.specs.Prelude.{◌≡◌, ◌<◌, ◌++◌, ◌∷◌, All, IfOk, None, OnErr, OnOk, [], ℕ, List, false, length};
+ghost use Rattle.std.specs.Prelude.{◌≡◌, ◌<◌, ◌++◌, ◌∷◌, All, IfOk, IfSome, None, OnErr, OnOk, [], ℕ, List, false, length, true};
 ghost use Rattle.mx_graph.specs.Adding.{add_error};
 ghost use Rattle.mx_graph.specs.Edges.{Rises};
 ghost use Rattle.mx_graph.specs.Graph.{IsSound};
 ghost use Rattle.mx_graph.specs.Record as record_of;
+ghost use Rattle.mx_graph.specs.Record.{is_in};
 ghost use Rattle.mx_orders.specs.StateMap.{State};
 ghost use Rattle.mx_state_res.specs.Numbered.{AreAdded, AreKnown, state_at};
-ghost use Rattle.mx_receipt.specs.Judgements.{AreAfter, AreBelow, AreCovered, ArePast, AreSorted, IsAdded, IsHeld, IsJudged, afters, is_marked, judged_by, judged_in, kept_of, verdicts_in};
+ghost use Rattle.mx_receipt.specs.Judgements.{AreAfter, AreBelow, AreCovered, ArePast, AreSorted, IsAdded, IsHeld, IsJudged, afters, is_marked, judged_by, judged_in, kept_of, numbers_at, replaced, verdicts_in};
 ghost use Rattle.mx_receipt.specs.Receipt as definition;
-ghost use Rattle.mx_receipt.specs.Resolutions.{AreRight};
+ghost use Rattle.mx_receipt.specs.Resolutions.{AreRight, IsResolution};
 ghost use Rattle.mx_graph.specs.Record.{Row};
 ghost use Rattle.mx_receipt.specs.TimelineView.{IsSoundCreate};
 ghost use Rattle.mx_receipt.specs.declared.snapshots.Judgement.{Judgement as Judged};
@@ -17,7 +18,7 @@ use crate::citing::{Cited, cited_by};
 use crate::covering::{NextExtremities, next_extremities};
 use crate::judging::judged;
 use crate::resolution_cache::ResolutionCache;
-use crate::snapshots::{Judgement, resolved_after, state_after};
+use crate::snapshots::{Judgement, resolved_after, same_after, state_after};
 use crate::timelines::Prepared;
 use crate::verdicts::Verdict;
 use mx_graph::{EventNo, Graph, GraphRow, graph_is_sound, rising};
@@ -98,6 +99,7 @@ fn extremities_after(
     ensures after { IfOk result (λ next. AreAfter graph.now (verdicts_in judgements.now) prev_events.now extremities.now number verdict
         next.extremities.items) }
     ensures covered { IfOk result (λ next. AreCovered graph.now judgements.now prev_events.now verdict next.covered.items) }
+    ensures replaced { IfOk result (λ next. next.extremities.items ≡ replaced verdict next.covered.items extremities.now number) }
 {
     if verdict.is_accepted() {
         let next = next_extremities(alloc, graph, judgements, prev_events, extremities, number)?;
@@ -144,6 +146,8 @@ fn judged_event(
     ensures unmarked { IfOk result (λ judged. judged.judgement.covered ≡ false) }
     ensures covered { IfOk result (λ judged. AreCovered graph.now judgements.now (record_of.prev_events graph.now citing.now.event.now)
         judged.judgement.verdict judged.covered.items) }
+    ensures replaced { IfOk result (λ judged. judged.extremities.items
+        ≡ replaced judged.judgement.verdict judged.covered.items latest.now.extremities.now (length graph.now)) }
     ensures below { IfOk result (λ judged. (judged.judgement.before < length states.new) × (judged.judgement.after < length states.new)) }
     ensures added { (rows : List Row) → length graph.now < length rows → AreAdded rows states.old states.new }
     ensures right { OnOk result (AreRight graph.now states.new resolutions.new) }
@@ -197,18 +201,68 @@ fn next_number(graph: &Graph) -> EventNo
     EventNo::at(graph.len() as u32)
 }
 
-// An event that is judged, as its row comes next: the row, the numbers of the events that it cites, what was judged, and
-// how many states there were before it.
+// The current state with an event that is judged, where it plainly stays what it was. See `states_stay`.
+fn current_that_stays(
+    judgements: &[Judgement],
+    latest: &Latest<'_>,
+    judged: &JudgedEvent,
+) -> Option<StateNo>
+    requires below { All (λ p. p < length judgements.now) latest.now.extremities.now }
+    requires covered { All (λ p. p < length judgements.now) judged.now.covered.items }
+    requires replaced { judged.now.extremities.items
+        ≡ replaced judged.now.judgement.verdict judged.now.covered.items latest.now.extremities.now (length judgements.now) }
+    ensures current { IfSome result (λ current. current ≡ latest.now.current) }
+    ensures same { IfSome result (λ current. (n : ℕ)
+        → is_in (numbers_at (judgements.now ++ judged.now.judgement ∷ []) judged.now.extremities.items) n
+        ≡ is_in (numbers_at judgements.now latest.now.extremities.now) n) }
+{
+    if states_stay(judgements, latest, judged) {
+        return Some(latest.current);
+    }
+    None
+}
+
+// Whether it is plain that the states after the forward extremities are with an event those that they were before it, in
+// whatever order and however often. Then they resolve to the same state, and nothing has to be resolved.
+//
+// It is plain where the event is not accepted, for it changes no extremity. It is plain where the event takes none out and
+// the state after it is that after the last of them, and where it takes some out and the state after each event that it
+// covers is the one after it. The time is that of the events that it covers, however many extremities there are.
+fn states_stay(judgements: &[Judgement], latest: &Latest<'_>, judged: &JudgedEvent) -> bool
+    requires below { All (λ p. p < length judgements.now) latest.now.extremities.now }
+    requires covered { All (λ p. p < length judgements.now) judged.now.covered.items }
+    requires replaced { judged.now.extremities.items
+        ≡ replaced judged.now.judgement.verdict judged.now.covered.items latest.now.extremities.now (length judgements.now) }
+    ensures { result ≡ true → (n : ℕ)
+        → is_in (numbers_at (judgements.now ++ judged.now.judgement ∷ []) judged.now.extremities.items) n
+        ≡ is_in (numbers_at judgements.now latest.now.extremities.now) n }
+{
+    if !judged.judgement.verdict.is_accepted() {
+        return true;
+    }
+    let after = judged.judgement.after;
+    if judged.extremities.len() <= latest.extremities.len() {
+        return same_after(judgements, &judged.covered, after);
+    }
+    match latest.extremities.last() {
+        Some(last) => judgements[last.index()].after == after,
+        None => false,
+    }
+}
+
+// An event that is judged, as its row comes next: the row, the numbers of the events that it cites, what was judged, the
+// current state with it where that is known, and how many states there were before it.
 #[derive(Drop)]
 struct NextRow {
     row: GraphRow,
     cited: Cited,
     judged: JudgedEvent,
+    current: Option<StateNo>,
     states: usize,
 }
 
-// Adds an event that is judged. It gives the forward extremities and the current state with it. At an error states may
-// have been added.
+// Adds an event that is judged. It gives the forward extremities and the current state with it, which is resolved where
+// it is not known. At an error states may have been added.
 fn add(
     alloc: Global,
     graph: &mut Graph,
@@ -225,6 +279,8 @@ fn add(
     requires numbers { AreBelow (length states.old) (judgements.old.items ++ next.judged.judgement ∷ []) }
     requires sorted { AreSorted states.old (judgements.old.items ++ next.judged.judgement ∷ []) }
     requires below { All (λ p. p < length (judgements.old.items ++ next.judged.judgement ∷ [])) next.judged.extremities.items }
+    requires current { IfSome next.current (IsResolution graph.old states.old
+        (numbers_at (judgements.old.items ++ next.judged.judgement ∷ []) next.judged.extremities.items)) }
     ensures rows { OnOk result (graph.new ≡ graph.old ++ next.row ∷ []) }
     ensures judgements { OnOk result (judgements.new.items ≡ judgements.old.items ++ next.judged.judgement ∷ []) }
     ensures extremities { IfOk result (λ prepared. prepared.extremities.items ≡ next.judged.extremities.items) }
@@ -242,6 +298,7 @@ fn add(
         row,
         cited,
         judged,
+        current,
         states: count,
     } = next;
     let JudgedEvent {
@@ -254,6 +311,14 @@ fn add(
     graph.add_checked(row, cited.prev_events, cited.auth_events)?;
     graph_is_sound(graph);
     judgements.push_reserved(judgement);
+    if let Some(current) = current {
+        return Ok(Prepared {
+            extremities,
+            covered,
+            current,
+            states: count,
+        });
+    }
     match resolved_after(alloc, graph, states, resolutions, judgements, &extremities) {
         Ok(current) => Ok(Prepared {
             extremities,
@@ -324,6 +389,7 @@ pub(crate) fn prepare_checked_in(
             cited: &cited,
         },
     )?;
+    let current = current_that_stays(judgements, latest, &judged);
     let verdict = judged.judgement.verdict;
     let row = GraphRow {
         id,
@@ -340,6 +406,7 @@ pub(crate) fn prepare_checked_in(
             row,
             cited,
             judged,
+            current,
             states: count,
         },
     )?;
@@ -398,6 +465,7 @@ pub(crate) fn begin_in(
             row,
             cited,
             judged,
+            current: None,
             states: 0,
         },
     )?;

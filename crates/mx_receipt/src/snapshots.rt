@@ -1,9 +1,10 @@
 // The states before and after the events of a room.
-ghost use Rattle.std.specs.Prelude.{◌≡◌, ◌<◌, ◌++◌, List, slice_index_or, All, IfOk, OnOk, if◌then◌else◌, length, map};
+ghost use Rattle.std.specs.Prelude.{◌≡◌, ◌==◌, ◌<◌, ◌++◌, List, slice_index_or, All, IfOk, OnOk, if◌then◌else◌, length, map};
+ghost use Rattle.std.specs.List.{list_all};
 ghost use Rattle.mx_orders.specs.StateMap.{State, with_event};
 ghost use Rattle.mx_graph.specs.Record.{Row};
 ghost use Rattle.mx_state_res.specs.Numbered.{AreAdded, AreKnown, state_at};
-ghost use Rattle.mx_receipt.specs.Judgements.{AreBelow, AreSorted, afters, judged_in, numbers_after};
+ghost use Rattle.mx_receipt.specs.Judgements.{AreBelow, AreSorted, afters, judged_in, numbers_after, numbers_at};
 ghost use Rattle.mx_receipt.specs.Receipt as definition;
 ghost use Rattle.mx_receipt.specs.Resolutions.{AreRight};
 
@@ -65,6 +66,19 @@ fn states_after(
         numbers.push(judgement.after)?;
     }
     Ok(numbers)
+}
+
+/// Whether the state after each of these events is this one.
+pub(crate) fn same_after(judgements: &[Judgement], events: &[EventNo], state: StateNo) -> bool
+    requires { All (λ event. event < length judgements.now) events.now }
+    ensures { result ≡ list_all (λ number. number == state) (numbers_at judgements.now events.now) }
+{
+    for event in events {
+        if judgements[event.index()].after != state {
+            return false;
+        }
+    }
+    true
 }
 
 /// The state after an event: that before it, with the event at its key where it is a state event and was not rejected.

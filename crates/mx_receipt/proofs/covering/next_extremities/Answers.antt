@@ -9,3 +9,8 @@ returns-clause-next c =
     c.args.number c.push.new.self.items
     (c.in_ok-push.ensures.items ∙ ap (λ xs. xs ++ c.args.number ∷ [])
     (c.remove_events.ensures ∙ (λ i. filter (λ p. not (is_in (c.deref.ensures.value i) p)) (c.in_ok-next.ensures.items i))))
+
+pub returns-clause-replaced : goal.returns-clause-replaced
+returns-clause-replaced c =
+    c.in_ok-push.ensures.items ∙ ap (λ xs. xs ++ c.args.number ∷ [])
+    (c.remove_events.ensures ∙ (λ i. filter (λ p. not (is_in (c.deref.ensures.value i) p)) (c.in_ok-next.ensures.items i)))

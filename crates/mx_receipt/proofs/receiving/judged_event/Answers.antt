@@ -6,7 +6,7 @@ use Rattle.mx_graph.specs.Record.{is_in, events_where, prev_events}
 use Rattle.mx_orders.specs.StateMap.{with_event, view}
 use Rattle.mx_state_res.specs.Numbered.{state_at}
 use Rattle.mx_receipt.specs.Receipt.{resolve_in, version_in}
-use Rattle.mx_receipt.specs.Judgements.{Judged, judged_in, kept_of, afters, verdicts_in, AreAfter, AreCovered, Knows}
+use Rattle.mx_receipt.specs.Judgements.{Judged, judged_in, kept_of, afters, verdicts_in, AreAfter, AreCovered, Knows, replaced}
 use Rattle.mx_receipt.specs.Receipt.{states_at, state_before_next, is_rejected, accept_or, auth_failure}
 use Rattle.mx_receipt.specs.declared.verdicts.Verdict.TheVariants.{Accepted, SoftFailed, Rejected}
 use Rattle.mx_receipt.proofs.ExtremityLemmas.{extremities-rise}
@@ -79,3 +79,7 @@ returns-clause-right c =
 pub returns-clause-covered : goal.returns-clause-covered
 returns-clause-covered c =
     subst (λ xs. AreCovered c.args.graph.now c.args.judgements.now xs c.in_ok-verdict.verdict c.in_ok-next.next.covered.items) (c.deref-3.ensures.value ∙ c.requires.prev) c.in_ok-next.ensures.covered
+
+pub returns-clause-replaced : goal.returns-clause-replaced
+returns-clause-replaced c =
+    c.in_ok-next.ensures.replaced ∙ ap (replaced c.in_ok-verdict.verdict c.in_ok-next.next.covered.items c.args.latest.now.extremities.now) c.next_number-number.ensures

@@ -1,18 +1,20 @@
-use Rattle.std.proofs.Common.{◌≡◌, ◌<◌, ◌||◌, ◌++◌, ◌∷◌, [], List, length, sym, ap, subst, ◌∙◌}
+use Rattle.std.proofs.Common.{◌≡◌, ◌<◌, ◌||◌, ◌++◌, ◌∷◌, [], ℕ, List, length, sym, ap, subst, ◌∙◌}
 use Rattle.std.specs.List.{All}
 use Rattle.mx_graph.specs.Graph.{IsSound}
 use Rattle.mx_graph.specs.Record.{Row, is_in, prev_events}
 use Rattle.mx_graph.proofs.Closure.{or_left}
 use Rattle.mx_state_res.specs.Numbered.{AreAdded}
 use Rattle.mx_receipt.specs.Receipt.{resolve_in}
-use Rattle.mx_receipt.specs.Judgements.{AreAfter, AreCovered, ArePast, IsHeld, IsJudged, is_marked, judged_by, judged_in, kept_of, afters, verdicts_in}
+use Rattle.mx_receipt.specs.Judgements.{AreAfter, AreCovered, ArePast, IsHeld, IsJudged, is_marked, judged_by, judged_in, kept_of, afters, numbers_at, verdicts_in}
 use Rattle.mx_receipt.specs.Receipt.{states_at, verdict, is_rejected}
+use Rattle.mx_receipt.specs.Resolutions.{IsResolution}
 use Rattle.mx_receipt.specs.declared.snapshots.Judgement.{Judgement}
 use Rattle.mx_receipt.proofs.HeldGrowth.{known-mid, numbers-mid, extremities-mid, held-push}
 use Rattle.mx_receipt.proofs.HeldLemmas.{added-twice, grown-by-event, judged-length, one-longer, same-verdicts}
 use Rattle.mx_receipt.proofs.CoverLemmas.{in-all}
 use Rattle.mx_receipt.proofs.PastLemmas.{past-fewer, past-push}
 use Rattle.mx_receipt.proofs.SortedStateLemmas.{held-sorted, judged-sorted, sorted-push}
+use Rattle.mx_receipt.proofs.StayingLemmas.{covered-known, held-stays, known-stays}
 use Rattle.mx_receipt.proofs.TimelineLemmas.{taken-free}
 use Rattle.mx_receipt.proofs.receiving.prepare_checked_in.Goals as goal
 
@@ -115,6 +117,31 @@ returns-in_err-judged-clause-grown c = grown-by-event c.args.graph.now c.args.st
 
 pub returns-clause-grown : goal.returns-clause-grown
 returns-clause-grown c =
+    let row : Row = record { id = c.args.taken.id; event = c.args.taken.event; rejected = c.is_rejected.result } in
+    let more : AreAdded (c.args.graph.now ++ row ∷ []) c.args.states.now c.add.new.states =
+    added-twice (c.args.graph.now ++ row ∷ []) c.args.states.now c.judged_event.new.states c.add.new.states
+    (c.judged_event.ensures.added (c.args.graph.now ++ row ∷ []) (one-longer c.args.graph.now row)) c.add.ensures.added in
+    (more.more, more.are)
+
+pub current_that_stays-current-requires-clause-covered : goal.current_that_stays-current-requires-clause-covered
+current_that_stays-current-requires-clause-covered c =
+    subst (λ n. All (λ p. p < n) c.in_ok-judged.judged.covered.items) (c.requires.held.is_kept.count ∙ judged-length c.args.states.now c.args.judgements.now.items ∙ ap length (sym c.deref-2.ensures.value))
+    (covered-known c.args.graph.now c.deref.result.now (prev_events c.args.graph.now c.args.taken.event) c.in_ok-judged.judged.judgement.verdict c.in_ok-judged.judged.covered.items c.graph_is_sound.ensures
+    (subst (All (λ q. q < length c.args.graph.now)) c.in_ok-cited.ensures.prev c.in_ok-cited.ensures.known_prev) c.in_ok-judged.ensures.covered)
+
+pub add-requires-clause-current : goal.add-requires-clause-current
+add-requires-clause-current c =
+    let js = c.args.judgements.now.items in
+    let grown = grown-by-event c.args.graph.now c.args.states.now c.judged_event.new.states c.judged_event.ensures.added in
+    known-stays (IsResolution c.args.graph.now c.judged_event.new.states (numbers_at (js ++ c.in_ok-judged.judged.judgement ∷ []) c.in_ok-judged.judged.extremities.items))
+    ((n : ℕ) → is_in (numbers_at (c.deref-2.result.now ++ c.in_ok-judged.judged.judgement ∷ []) c.in_ok-judged.judged.extremities.items) n ≡ is_in (numbers_at c.deref-2.result.now c.args.latest.now.extremities.now) n)
+    c.args.latest.now.current c.current_that_stays-current.result c.current_that_stays-current.ensures.current c.current_that_stays-current.ensures.same
+    (λ same. held-stays c.args.graph.now c.args.states.now grown.0 c.judged_event.new.states js (js ++ c.in_ok-judged.judged.judgement ∷ []) c.args.latest.now.extremities.now c.in_ok-judged.judged.extremities.items
+    c.args.latest.now.current c.requires.held grown.1
+    (subst (λ (is : List Judgement). (n : ℕ) → is_in (numbers_at (is ++ c.in_ok-judged.judged.judgement ∷ []) c.in_ok-judged.judged.extremities.items) n ≡ is_in (numbers_at is c.args.latest.now.extremities.now) n) c.deref-2.ensures.value same))
+
+pub returns-in_err-prepared-clause-grown : goal.returns-in_err-prepared-clause-grown
+returns-in_err-prepared-clause-grown c =
     let row : Row = record { id = c.args.taken.id; event = c.args.taken.event; rejected = c.is_rejected.result } in
     let more : AreAdded (c.args.graph.now ++ row ∷ []) c.args.states.now c.add.new.states =
     added-twice (c.args.graph.now ++ row ∷ []) c.args.states.now c.judged_event.new.states c.add.new.states
