@@ -1,5 +1,5 @@
 -- The server after the lines so far, after one line more, and after a whole log.
-use Rattle.std.proofs.Common.{◌≡◌, ℕ, List, [], ◌∷◌, ◌++◌, Option, Some, None}
+use Rattle.std.proofs.Common.{ℕ, List, [], ◌∷◌, ◌++◌, Option, Some, None}
 use Rattle.std.specs.Prelude.{IfSome, flat_map}
 use Rattle.mx_redact.specs.Fields.{Event}
 use Rattle.mx_world.specs.Calls.{Start}

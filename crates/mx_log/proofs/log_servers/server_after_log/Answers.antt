@@ -7,8 +7,8 @@ use Rattle.mx_pdu.specs.Offers.{offer_by}
 use Rattle.mx_log.proofs.LogServerLemmas.{server_after}
 use Rattle.mx_log.proofs.log_servers.server_after_log.Goals as goal
 
-pub returns-clause : goal.returns-clause
-returns-clause g c =
+pub returns : goal.returns
+returns g c =
     let judges = g.V.Verifier.judges c.args.verifier.now in
     let read = g.R.Read.remaining c.args.input.now in
     let named : c.in_ok-server.server.name ≡ c.args.name.now = search rules in

@@ -1,5 +1,5 @@
 use Rattle.mx_log.specs.LinesShown.{answer_output}
 use Rattle.mx_log.proofs.log_servers.take_text.Goals as goal
 
-pub returns-clause : goal.returns-clause
-returns-clause g c = (answer_output c.in_ok-_answer._answer, c.in_ok-_answer.ensures)
+pub returns : goal.returns
+returns g c = (answer_output c.in_ok-_answer._answer, c.in_ok-_answer.ensures)
