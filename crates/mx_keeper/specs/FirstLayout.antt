@@ -11,7 +11,7 @@ use Rattle.mx_auth.specs.declared.versions.RoomVersion.{RoomVersion}
 use Rattle.mx_keeper.specs.Cells.{number_in, caller_in, text_in, room_of_text, event_of_text}
 use Rattle.mx_keeper.specs.Schemas.{plain_column, plain_table}
 use Rattle.mx_keeper.specs.TableRows.{read_rows}
-use Rattle.mx_keeper.specs.declared.first_rows.FirstRow.{FirstRow}
+use Rattle.mx_keeper.specs.declared.tables.first_rows.FirstRow.{FirstRow}
 use Rattle.mx_keeper.specs.declared.rows.ShardRow.{ShardRow}
 use Rattle.mx_pdu.specs.Event.{has_kind}
 

@@ -13,8 +13,8 @@ use Rattle.mx_keeper.specs.Cells.{caller_in, event_of_text, number_in, room_of_t
 use Rattle.mx_keeper.specs.FirstLayout.{first_row, first_shown}
 use Rattle.mx_keeper.specs.ShardTable.{BeforeShard, shard_schema, layout_shown, read_shown, row_of_cells}
 use Rattle.mx_keeper.specs.declared.rows.BookRow.{BookRow}
-use Rattle.mx_keeper.specs.declared.first_rows.FirstRow.{FirstRow}
-use Rattle.mx_keeper.specs.declared.layout_numbers.LayoutNumber.{LayoutNumber}
+use Rattle.mx_keeper.specs.declared.tables.first_rows.FirstRow.{FirstRow}
+use Rattle.mx_keeper.specs.declared.tables.layout_numbers.LayoutNumber.{LayoutNumber}
 use Rattle.mx_keeper.specs.declared.rows.ShardRow.{ShardRow}
 
 is_number : (m n : ℕ) → (m == n) ≡ true → m ≡ n

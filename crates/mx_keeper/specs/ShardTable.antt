@@ -16,8 +16,8 @@ use Rattle.mx_keeper.specs.FirstLayout.{kept, kept_schema, read_first, read_vers
 use Rattle.mx_keeper.specs.Refusals.{IsRefused}
 use Rattle.mx_keeper.specs.Schemas.{no_schema, plain_column, plain_table}
 use Rattle.mx_keeper.specs.TableRows.{read_rows}
-use Rattle.mx_keeper.specs.declared.first_rows.FirstRow.{FirstRow}
-use Rattle.mx_keeper.specs.declared.layout_numbers.LayoutNumber.{LayoutNumber}
+use Rattle.mx_keeper.specs.declared.tables.first_rows.FirstRow.{FirstRow}
+use Rattle.mx_keeper.specs.declared.tables.layout_numbers.LayoutNumber.{LayoutNumber}
 use Rattle.mx_keeper.specs.declared.rows.ShardRow.{ShardRow}
 
 -- the table of the rows, whose tree is this

@@ -9,7 +9,7 @@ use crate::failure_notes::{FailureNote, note_failure};
 use crate::faults::KeeperFault;
 use crate::keepers::Keeper;
 use crate::statements::{Doubts, counted, idle_statement, told};
-use crate::table_rows::TableRow;
+use crate::tables::table_rows::TableRow;
 use sqlite::{Alter, Connection, Statement};
 use std::alloc::Global;
 use std::marker::Model;
