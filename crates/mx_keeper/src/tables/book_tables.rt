@@ -12,7 +12,7 @@ use crate::faults::KeeperFault;
 use crate::replies::Reply;
 use crate::rows::BookRow;
 use crate::statements::{fault_of, place_after};
-use crate::tables::cells::{number_at, text_at};
+use crate::tables::cells::{check_place, text_at};
 use crate::tables::schemas::{has_nothing, has_replies};
 use crate::tables::selected_rows::{SelectedRow, all_rows};
 use crate::tables::table_rows::TableRow;
@@ -45,14 +45,14 @@ impl TableRow for BookRow {
     }
 
     fn make_tables<S: Alter>(
-        _alloc: Global,
+        alloc: Global,
         connection: &mut Connection<S>,
-    ) -> Result<(), KeeperFault> {
+    ) -> Result<Vec<BookRow>, KeeperFault> {
         if !has_nothing(connection.schema()) {
             return Err(KeeperFault::Table);
         }
         match create_replies(connection) {
-            Ok(_) => Ok(()),
+            Ok(_) => Ok(Vec::new(alloc)),
             Err(error) => Err(fault_of(error)),
         }
     }
@@ -111,10 +111,7 @@ impl SelectedRow for BookRow {
     }
 
     fn read(alloc: Global, row: &Row, place: u64) -> Result<BookRow, KeeperFault> {
-        let at = number_at(row, 0)?;
-        if at != place {
-            return Err(KeeperFault::Table);
-        }
+        check_place(row, place)?;
         let origin_text = text_at(row, 1)?;
         let origin = server_of(alloc, origin_text.as_str())?;
         let txn = TransactionId::new(text_at(row, 2)?);

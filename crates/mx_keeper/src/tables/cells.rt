@@ -1,5 +1,5 @@
 // The cells of a row that SQLite showed.
-ghost use Rattle.std.specs.Prelude.{◌≡◌, ◌≢◌, IfOk, None, Some, option_and_then, string_bytes};
+ghost use Rattle.std.specs.Prelude.{◌≡◌, ◌≢◌, IfOk, None, OnOk, Some, option_and_then, string_bytes};
 ghost use Rattle.sqlite.specs.Order.{column};
 ghost use Rattle.mx_keeper.specs.Cells.{caller_in, number_in, text_in, version_of_text};
 
@@ -46,6 +46,21 @@ pub fn number_at(row: &Row, at: usize) -> Result<u64, KeeperFault>
         Ok(number) => Ok(number),
         Err(error) => Err(misread(error)),
     }
+}
+
+/// Finds that a row has this place, which is its first cell.
+///
+/// `Table` where it has another, or none, `Memory` where no memory is left.
+pub fn check_place(row: &Row, place: u64) -> Result<(), KeeperFault>
+    ensures ok { OnOk result (number_in (column row.now 0) ≡ Some place) }
+    ensures table { result ≡ Err KeeperFault.Table → number_in (column row.now 0) ≢ Some place }
+    ensures no_store { ¬ (result ≡ Err KeeperFault.Store) }
+{
+    let at = number_at(row, 0)?;
+    if at != place {
+        return Err(KeeperFault::Table);
+    }
+    Ok(())
 }
 
 /// The version of rooms in a column.

@@ -10,7 +10,7 @@ use crate::caller::Caller;
 use crate::event_texts::{event_of, room_of};
 use crate::faults::KeeperFault;
 use crate::rows::ShardRow;
-use crate::tables::cells::{caller_at, number_at, text_at};
+use crate::tables::cells::{caller_at, check_place, text_at};
 use crate::tables::selected_rows::SelectedRow;
 use mx_auth::RoomVersion;
 use mx_ident::RoomId;
@@ -47,10 +47,7 @@ impl SelectedRow for FirstRow {
     }
 
     fn read(alloc: Global, row: &Row, place: u64) -> Result<FirstRow, KeeperFault> {
-        let at = number_at(row, 0)?;
-        if at != place {
-            return Err(KeeperFault::Table);
-        }
+        check_place(row, place)?;
         let room_text = text_at(row, 1)?;
         let room = room_of(alloc, room_text.as_str())?;
         let event_text = text_at(row, 2)?;

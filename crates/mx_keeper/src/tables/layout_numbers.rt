@@ -3,7 +3,7 @@ ghost use Rattle.std.specs.Prelude.{◌≡◌};
 ghost use Rattle.mx_keeper.specs.ShardTable.{is_second};
 
 use crate::faults::KeeperFault;
-use crate::tables::cells::number_at;
+use crate::tables::cells::{check_place, number_at};
 use crate::tables::selected_rows::SelectedRow;
 use sqlite::Row;
 use std::alloc::Global;
@@ -34,10 +34,7 @@ impl SelectedRow for LayoutNumber {
     }
 
     fn read(_alloc: Global, row: &Row, place: u64) -> Result<LayoutNumber, KeeperFault> {
-        let at = number_at(row, 0)?;
-        if at != place {
-            return Err(KeeperFault::Table);
-        }
+        check_place(row, place)?;
         let number = number_at(row, 1)?;
         Ok(LayoutNumber { number })
     }

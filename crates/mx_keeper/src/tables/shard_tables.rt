@@ -12,7 +12,7 @@ use crate::event_texts::{event_of, room_of, text_of};
 use crate::faults::KeeperFault;
 use crate::rows::ShardRow;
 use crate::statements::{fault_of, place_after};
-use crate::tables::cells::{caller_at, number_at, text_at, version_at};
+use crate::tables::cells::{caller_at, check_place, text_at, version_at};
 use crate::tables::first_rows::{FirstRow, versioned};
 use crate::tables::layout_numbers::{LayoutNumber, state_the_second};
 use crate::tables::schemas::{has_kept, has_nothing, has_shard_tables};
@@ -49,16 +49,18 @@ impl TableRow for ShardRow {
     fn make_tables<S: Alter>(
         alloc: Global,
         connection: &mut Connection<S>,
-    ) -> Result<(), KeeperFault> {
+    ) -> Result<Vec<ShardRow>, KeeperFault> {
         if has_nothing(connection.schema()) {
-            return lay_out(connection, &[]);
+            lay_out(connection, &[])?;
+            return Ok(Vec::new(alloc));
         }
         if !has_kept(connection.schema()) {
             return Err(KeeperFault::Table);
         }
         let first = all_rows::<S, FirstRow>(alloc, connection)?;
         let rows = versioned(alloc, first)?;
-        lay_out(connection, &rows)
+        lay_out(connection, &rows)?;
+        Ok(rows)
     }
 
     fn insert<S: Alter>(
@@ -118,10 +120,7 @@ impl SelectedRow for ShardRow {
     }
 
     fn read(alloc: Global, row: &Row, place: u64) -> Result<ShardRow, KeeperFault> {
-        let at = number_at(row, 0)?;
-        if at != place {
-            return Err(KeeperFault::Table);
-        }
+        check_place(row, place)?;
         let room_text = text_at(row, 1)?;
         let room = room_of(alloc, room_text.as_str())?;
         let version = version_at(row, 2)?;

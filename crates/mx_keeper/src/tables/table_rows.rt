@@ -39,17 +39,19 @@ pub trait TableRow: Storable {
     fn is_earlier(found: &Schema) -> bool
         ensures { IsTrue result → ¬ (found.now ≡ schema) };
 
-    /// Makes the tables in a file with another schema, and puts the rows into them that it has. `Table` where it is none
-    /// of an earlier layout and has something, or its rows do not read. After another error the connection may be shut,
-    /// and a crash may leave the tables, with all these rows.
+    /// Makes the tables in a file with another schema, puts the rows into them that it has, and gives these out. `Table`
+    /// where it is none of an earlier layout and has something, or its rows do not read. After another error the
+    /// connection may be shut, and a crash may leave the tables, with all these rows.
     fn make_tables<S: Alter>(
         alloc: Global,
         connection: &mut Connection<S>,
-    ) -> Result<(), KeeperFault>
+    ) -> Result<Vec<Self>, KeeperFault>
+    where
+        Self: Sized,
         requires idle { IsTrue (state S.Store connection.old).is_open → IsIdle (state S.Store connection.old) }
         requires other { ¬ ((state S.Store connection.old).now.schema ≡ schema) }
-        ensures ok { HasCleanDisk (state S.Store connection.new) → OnOk result ((rows : List Self) × before (state S.Store connection.old).now.schema (state S.Store connection.old).committed.trees rows
-            × Puts schema (λ db. read db ≡ Some rows) (state S.Store connection.old) (state S.Store connection.new)) }
+        ensures ok { HasCleanDisk (state S.Store connection.new) → IfOk result (λ rows. before (state S.Store connection.old).now.schema (state S.Store connection.old).committed.trees rows.items
+            × Puts schema (λ db. read db ≡ Some rows.items) (state S.Store connection.old) (state S.Store connection.new)) }
         ensures table { HasCleanDisk (state S.Store connection.new) → result ≡ Err KeeperFault.Table
             → (rows : List Self) → ¬ before (state S.Store connection.old).now.schema (state S.Store connection.old).committed.trees rows }
         ensures refused { HasCleanDisk (state S.Store connection.new) → result ≡ Err KeeperFault.Store
