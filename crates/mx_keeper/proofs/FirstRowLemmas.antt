@@ -10,7 +10,7 @@ use Rattle.std.proofs.lemmas.Map.Text.{is_eq-slice_cmp}
 use Rattle.std.proofs.lemmas.Slice.Eq.{bytes_eq-Decides}
 use Rattle.mx_auth.specs.declared.versions.RoomVersion.{RoomVersion}
 use Rattle.mx_keeper.specs.FirstLayout.{created_version, flat, version_among, with_version, with_versions}
-use Rattle.mx_keeper.specs.declared.first_rows.FirstRow.{FirstRow}
+use Rattle.mx_keeper.specs.declared.tables.first_rows.FirstRow.{FirstRow}
 use Rattle.mx_keeper.specs.declared.rows.ShardRow.{ShardRow}
 
 -- ---- what a row more names

@@ -10,7 +10,7 @@ use Rattle.sqlite_trees.specs.View.{doubt}
 use Rattle.sqlite_trees.proofs.Doubt.{no_doubt}
 use Rattle.sqlite.specs.Tree.{Trees}
 use Rattle.sqlite.specs.Effect.{IsDatabase}
-use Rattle.mx_keeper.specs.Connections.{HasSchema, IsIdle, Finds, HasRows, HasTable, Stays}
+use Rattle.mx_keeper.specs.Connections.{HasSchema, IsIdle, HasRows, Stays}
 
 module _ (old new : State) where
   pub stays_unchanged : IsIdle old → IsUnchanged old new → Stays old new
@@ -88,16 +88,6 @@ kept_stays schema read count old new kept s = record {
   reads = ap (λ (d : Database). read d.trees) s.committed ∙ kept.reads;
   counted = kept.counted;
 }
-
--- rows that do not read are not found
-module _ {Kept : Type 0} (schema : Schema) (read : Trees → Option (List Kept)) (Before : Schema → Trees → List Kept → Type 0) (is_new : (db : Trees) (rows : List Kept) → ¬ Before schema db rows) (old new : State) where
-  pub never_found : HasTable schema read Before old new → read new.committed.trees ≡ None → (rows : List Kept) → ¬ Finds schema read Before old rows
-  never_found table none rows found = go table.rows found
-    where
-      go : ((old.now.schema ≡ schema) × (new.committed ≡ old.committed)) ⊎ ((all : List Kept) × Before old.now.schema old.committed.trees all × (read new.committed.trees ≡ Some all)) → Finds schema read Before old rows → ⊥
-      go (inl had) (inl finds) = let same = ap (λ (d : Database). read d.trees) had.1 in let both = sym none ∙ same ∙ finds.1 in absurd cc
-      go (inl had) (inr before) = is_new old.committed.trees rows (subst (λ s. Before s old.committed.trees rows) had.0 before)
-      go (inr made) finds = let both = sym none ∙ made.2 in absurd cc
 
 -- what a sound database leaves is a file with its schema
 pub sound_at : (schema : Schema) (d : Database) (db : Trees) → IsDatabase d → d.schema ≡ schema → db ≡ d.trees → HasSchema schema db

@@ -1,5 +1,5 @@
 -- The table of a book's replies, and what its rows read as (our own).
-use Rattle.std.specs.Prelude.{◌≡◌, ℕ, ◌+◌, ℤ, pos, true, false, [], ◌∷◌, ◌==◌, if◌then◌else◌, codes, List, Option, None, option_and_then, option_map}
+use Rattle.std.specs.Prelude.{◌≡◌, ℕ, ◌+◌, ℤ, pos, true, false, [], ◌∷◌, codes, List, Option, option_and_then, option_map}
 use Rattle.sqlite.specs.declared.types.Value.TheVariants.{Null, Int, Text as Words}
 use Rattle.sqlite.specs.Kind.TheVariants.{Integer, Text}
 use Rattle.sqlite.specs.Order.{Row, column}
@@ -9,7 +9,7 @@ use Rattle.sqlite.specs.Table.{Table}
 use Rattle.sqlite.specs.Tree.{Trees}
 use Rattle.sqlite_schema.specs.declared.schema.Index.{Index}
 use Rattle.sqlite_value.specs.Keys.{plain}
-use Rattle.mx_keeper.specs.Cells.{number_in, text_in, server_of_text}
+use Rattle.mx_keeper.specs.Cells.{at_place, text_in, server_of_text}
 use Rattle.mx_keeper.specs.Refusals.{IsRefused}
 use Rattle.mx_keeper.specs.Schemas.{no_schema, plain_column, plain_table}
 use Rattle.mx_keeper.specs.TableRows.{read_rows}
@@ -50,8 +50,7 @@ book_row origin txn reply = option_and_then (λ o. option_and_then (λ t. option
 
 -- a row as it is shown, at this place
 abbrev pub reply_shown : ℕ → Row → Option BookRow
-reply_shown place v =
-    option_and_then (λ n. if n == place then book_row (option_and_then server_of_text (text_in (column v 1))) (text_in (column v 2)) (text_in (column v 3)) else None) (number_in (column v 0))
+reply_shown place v = at_place place v (book_row (option_and_then server_of_text (text_in (column v 1))) (text_in (column v 2)) (text_in (column v 3)))
 
 -- the columns that a row is read from, beside its place
 abbrev pub reply_columns : List ℕ

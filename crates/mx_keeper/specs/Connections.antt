@@ -46,13 +46,6 @@ pub record HasRows {Kept : Type 0} (schema : Schema) (read : Trees → Option (L
   pub reads : read s.committed.trees ≡ Some all
   pub counted : length all ≡ count
 
--- the tables stand: they stood before, with their rows, or the file was of an earlier layout or had nothing, and they have its rows
-pub record HasTable {Kept : Type 0} (schema : Schema) (read : Trees → Option (List Kept)) (Before : Schema → Trees → List Kept → Type 0) (old new : State) : Type 0 where
-  pub idle : IsIdle new
-  pub known : new.now.schema ≡ schema
-  pub sound : HasSchema schema new.committed.trees
-  pub rows : ((old.now.schema ≡ schema) × (new.committed ≡ old.committed)) ⊎ ((rows : List Kept) × Before old.now.schema old.committed.trees rows × (read new.committed.trees ≡ Some rows))
-
 -- a keeper of these tables finds these rows: the file has the tables alone, and they read as the rows, or it is a file of an earlier layout, or has nothing, and these are its rows
 abbrev pub Finds : {Kept : Type 0} → Schema → (Trees → Option (List Kept)) → (Schema → Trees → List Kept → Type 0) → State → List Kept → Type 0
 Finds schema read Before s rows = ((s.now.schema ≡ schema) × (read s.committed.trees ≡ Some rows)) ⊎ Before s.now.schema s.committed.trees rows

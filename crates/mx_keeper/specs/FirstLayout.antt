@@ -1,5 +1,5 @@
 -- The table of a shard's file in the first layout, and what its rows read as (our own).
-use Rattle.std.specs.Prelude.{ℕ, true, false, [], ◌∷◌, ◌++◌, ◌==◌, if◌then◌else◌, bytes_eq, codes, find, List, Option, Some, None, option_and_then, option_map}
+use Rattle.std.specs.Prelude.{ℕ, true, false, [], ◌∷◌, ◌++◌, if◌then◌else◌, bytes_eq, codes, find, List, Option, Some, None, option_and_then, option_map}
 use Rattle.serde_json.specs.Data.{Data}
 use Rattle.sqlite.specs.Kind.TheVariants.{Integer, Text}
 use Rattle.sqlite.specs.Order.{Row, column}
@@ -8,10 +8,10 @@ use Rattle.sqlite.specs.Table.{Table}
 use Rattle.sqlite.specs.Tree.{Trees}
 use Rattle.mx_auth.specs.Versions.{version_of}
 use Rattle.mx_auth.specs.declared.versions.RoomVersion.{RoomVersion}
-use Rattle.mx_keeper.specs.Cells.{number_in, caller_in, text_in, room_of_text, event_of_text}
+use Rattle.mx_keeper.specs.Cells.{at_place, caller_in, text_in, room_of_text, event_of_text}
 use Rattle.mx_keeper.specs.Schemas.{plain_column, plain_table}
 use Rattle.mx_keeper.specs.TableRows.{read_rows}
-use Rattle.mx_keeper.specs.declared.first_rows.FirstRow.{FirstRow}
+use Rattle.mx_keeper.specs.declared.tables.first_rows.FirstRow.{FirstRow}
 use Rattle.mx_keeper.specs.declared.rows.ShardRow.{ShardRow}
 use Rattle.mx_pdu.specs.Event.{has_kind}
 
@@ -26,9 +26,7 @@ first_row room event caller = option_and_then (λ r. option_and_then (λ e. opti
 
 -- a row as it is shown, at this place
 abbrev pub first_shown : ℕ → Row → Option FirstRow
-first_shown place v =
-    option_and_then (λ n. if n == place then first_row (option_and_then room_of_text (text_in (column v 1))) (option_and_then event_of_text (text_in (column v 2))) (caller_in (column v 3)) else None)
-    (number_in (column v 0))
+first_shown place v = at_place place v (first_row (option_and_then room_of_text (text_in (column v 1))) (option_and_then event_of_text (text_in (column v 2))) (caller_in (column v 3)))
 
 -- the columns that a row is read from, beside its place
 abbrev pub first_columns : List ℕ

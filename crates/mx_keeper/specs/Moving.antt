@@ -1,14 +1,17 @@
 -- How a file is brought to the second layout, for private clauses (our own).
-use Rattle.std.specs.Prelude.{◌≡◌, ◌≢◌, ◌⊎◌, ℕ, List, [], length, Some, Ok, Err, IsTrue, false}
+use Rattle.std.specs.Prelude.{◌≡◌, ◌≢◌, ◌⊎◌, ℕ, List, [], length, Some, Result, Ok, Err, IsTrue, false}
 use Rattle.sqlite.specs.Order.{Row}
 use Rattle.sqlite.specs.Schema.{Schema}
-use Rattle.sqlite.specs.State.{State, Executes, ExecutesInside}
+use Rattle.sqlite.specs.State.{State, Executes, ExecutesInside, HasCleanDisk}
 use Rattle.sqlite.specs.Tree.{Trees}
 use Rattle.sqlite.specs.declared.error.Error.{Error}
 use Rattle.sqlite.specs.declared.error.Error.TheVariants.{SqliteFailure}
 use Rattle.sqlite.specs.declared.error.ErrorCode.TheVariants.{OutOfMemory}
+use Rattle.mx_keeper.specs.Connections.{MayRefuse}
 use Rattle.mx_keeper.specs.Keeping.{with_row}
-use Rattle.mx_keeper.specs.ShardTable.{read_table}
+use Rattle.mx_keeper.specs.ShardTable.{RefusesMove, read_table}
+use Rattle.mx_keeper.specs.declared.faults.KeeperFault.{KeeperFault}
+use Rattle.mx_keeper.specs.declared.faults.KeeperFault.TheVariants.{Store}
 use Rattle.mx_keeper.specs.declared.rows.ShardRow.{ShardRow}
 
 -- a transaction is begun, which sees this schema
@@ -36,6 +39,10 @@ pub record HasRun (text : List ℕ) (given : Row) (old new : State) : Type 0 whe
 -- the statement failed within a transaction, for another cause than memory
 abbrev pub IsStopped : List ℕ → Row → State → State → Type 0
 IsStopped text given old new = (old.is_open ≡ false) ⊎ ((e : Error) × (e ≢ SqliteFailure OutOfMemory) × ExecutesInside 0 text given old new (Err e))
+
+-- where a step of the move answers `Store`, SQLite refuses a statement of the move, or any statement
+abbrev pub TellsMove : {A : Type 0} → State → State → Result A KeeperFault → Type 0
+TellsMove old new result = HasCleanDisk new → result ≡ Err Store → MayRefuse old new ⊎ RefusesMove old
 
 -- the three tables have no row
 pub record AreEmpty (db : Trees) : Type 0 where

@@ -11,13 +11,13 @@ use Rattle.sqlite.specs.Table.{Table}
 use Rattle.sqlite.specs.Tree.{Trees}
 use Rattle.mx_auth.specs.Versions.{version_text}
 use Rattle.mx_auth.specs.declared.versions.RoomVersion.{RoomVersion}
-use Rattle.mx_keeper.specs.Cells.{number_in, caller_in, text_in, room_of_text, event_of_text, version_of_text}
+use Rattle.mx_keeper.specs.Cells.{at_place, number_in, caller_in, text_in, room_of_text, event_of_text, version_of_text}
 use Rattle.mx_keeper.specs.FirstLayout.{kept, kept_schema, read_first, read_versioned}
 use Rattle.mx_keeper.specs.Refusals.{IsRefused}
 use Rattle.mx_keeper.specs.Schemas.{no_schema, plain_column, plain_table}
 use Rattle.mx_keeper.specs.TableRows.{read_rows}
-use Rattle.mx_keeper.specs.declared.first_rows.FirstRow.{FirstRow}
-use Rattle.mx_keeper.specs.declared.layout_numbers.LayoutNumber.{LayoutNumber}
+use Rattle.mx_keeper.specs.declared.tables.first_rows.FirstRow.{FirstRow}
+use Rattle.mx_keeper.specs.declared.tables.layout_numbers.LayoutNumber.{LayoutNumber}
 use Rattle.mx_keeper.specs.declared.rows.ShardRow.{ShardRow}
 
 -- the table of the rows, whose tree is this
@@ -80,10 +80,8 @@ row_of_cells room version event caller =
 -- a row as it is shown, at this place
 abbrev pub read_shown : ℕ → Row → Option ShardRow
 read_shown place v =
-    option_and_then
-    (λ n. if n == place then row_of_cells (option_and_then room_of_text (text_in (column v 1))) (option_and_then version_of_text (text_in (column v 2))) (option_and_then event_of_text (text_in (column v 3))) (caller_in (column v 4))
-    else None)
-    (number_in (column v 0))
+    at_place place v
+    (row_of_cells (option_and_then room_of_text (text_in (column v 1))) (option_and_then version_of_text (text_in (column v 2))) (option_and_then event_of_text (text_in (column v 3))) (caller_in (column v 4)))
 
 -- the columns that a row is read from, beside its place
 abbrev pub row_columns : List ℕ
@@ -97,7 +95,7 @@ read_table db = read_rows row_columns read_shown (db 1)
 
 -- the number at this place
 abbrev pub layout_shown : ℕ → Row → Option LayoutNumber
-layout_shown place v = option_and_then (λ n. if n == place then option_map (λ m. record { number = m }) (number_in (column v 1)) else None) (number_in (column v 0))
+layout_shown place v = at_place place v (option_map (λ m. record { number = m }) (number_in (column v 1)))
 
 abbrev pub layout_columns : List ℕ
 layout_columns = 2 ∷ []

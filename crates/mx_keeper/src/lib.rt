@@ -1,29 +1,21 @@
 //! What keeps rows, so that rooms and transactions can be made of them again.
 #![tactic(auto)]
 
-mod book_tables;
 mod caller;
-mod cells;
 mod event_texts;
 mod failure_notes;
 mod fault_keepers;
 mod faults;
-mod first_rows;
 mod keepers;
-mod layout_numbers;
 mod memory;
 mod places;
 mod refusals;
 mod replies;
 mod rows;
-mod schemas;
-mod second_layout;
-mod selected_rows;
-mod shard_tables;
 mod sqlite_keepers;
 mod statements;
 mod storing;
-mod table_rows;
+mod tables;
 mod transaction_ids;
 
 pub use caller::Caller;
@@ -38,5 +30,5 @@ pub use replies::Reply;
 pub use rows::{BookRow, ShardRow};
 pub use sqlite_keepers::{NotAdopted, SqliteKeeper};
 pub use storing::Storable;
-pub use table_rows::TableRow;
+pub use tables::table_rows::TableRow;
 pub use transaction_ids::TransactionId;

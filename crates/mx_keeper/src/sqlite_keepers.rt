@@ -3,13 +3,13 @@ ghost use Rattle.std.specs.Prelude.{◌≡◌, ◌⊎◌, [], Err, IfErr, IfOk, 
 ghost use Rattle.sqlite.specs.Held.{state};
 ghost use Rattle.sqlite.specs.State.{HasCleanDisk, Survives};
 ghost use Rattle.sqlite.specs.Tree.{Trees};
-ghost use Rattle.mx_keeper.specs.Connections.{Finds, HasRows, HasSchema, HasTable, IsIdle, IsMoved, MayRefuse};
+ghost use Rattle.mx_keeper.specs.Connections.{Finds, HasRows, HasSchema, IsMoved, MayRefuse};
 
 use crate::failure_notes::{FailureNote, note_failure};
 use crate::faults::KeeperFault;
 use crate::keepers::Keeper;
 use crate::statements::{Doubts, counted, idle_statement, told};
-use crate::table_rows::TableRow;
+use crate::tables::table_rows::TableRow;
 use sqlite::{Alter, Connection, Statement};
 use std::alloc::Global;
 use std::marker::Model;
@@ -169,7 +169,7 @@ fn found_all<S: Alter, R: TableRow>(
     Ok((rows, probe))
 }
 
-// The rows of the table, which is made where the file has nothing.
+// The rows of the tables, which are made where the file is one of an earlier layout, or has nothing. `Table` where it has something else.
 fn found_rows<S: Alter, R: TableRow>(
     alloc: Global,
     connection: &mut Connection<S>,
@@ -188,24 +188,8 @@ fn found_rows<S: Alter, R: TableRow>(
     if !connection.is_autocommit() {
         return Err(KeeperFault::Store);
     }
-    ensure_tables::<S, R>(alloc, connection)?;
-    R::all(alloc, connection)
-}
-
-// Makes the tables where the file is one of an earlier layout, or has nothing. `Table` where it has something else.
-fn ensure_tables<S: Alter, R: TableRow>(
-    alloc: Global,
-    connection: &mut Connection<S>,
-) -> Result<(), KeeperFault>
-    requires { IsTrue (state S.Store connection.old).is_open → IsIdle (state S.Store connection.old) }
-    ensures ok { HasCleanDisk (state S.Store connection.new) → OnOk result (IsTrue (state S.Store connection.new).is_open → HasTable R.schema R.read R.before (state S.Store connection.old) (state S.Store connection.new)) }
-    ensures table { HasCleanDisk (state S.Store connection.new) → result ≡ Err KeeperFault.Table → (rows : List R) → ¬ Finds R.schema R.read R.before (state S.Store connection.old) rows }
-    ensures store { HasCleanDisk (state S.Store connection.new) → result ≡ Err KeeperFault.Store
-        → ((¬ ((state S.Store connection.old).now.schema ≡ R.schema)) × R.refuses_tables (state S.Store connection.old)) ⊎ MayRefuse (state S.Store connection.old) (state S.Store connection.new) }
-    ensures survives { Survives (state S.Store connection.old) (state S.Store connection.new) (IsMoved R.schema R.read R.before (state S.Store connection.old)) }
-{
     if R::is_known(connection.schema()) {
-        return Ok(());
+        return R::all(alloc, connection);
     }
     R::make_tables(alloc, connection)
 }

@@ -2,7 +2,7 @@ use denote.Exit.{no}
 use denote.Param.Send.{param_send, arg_send}
 use Rattle.mx_keeper.proofs.sqlite_keepers.SqliteKeeper.TheSendSync as keeper
 use Rattle.mx_keeper.specs.contracts.rows.ShardRow as shard_row
-use Rattle.mx_keeper.specs.contracts.shard_tables.ShardRowTableRow.TheImpl as shard_table
+use Rattle.mx_keeper.specs.contracts.tables.shard_tables.ShardRowTableRow.TheImpl as shard_table
 use Rattle.mx_server.specs.contracts.serving.serve_rows as contract
 use Rattle.mx_server.proofs.WorkerSending.{shard_row_send}
 use Rattle.mx_server.proofs.serving.serve_rows.Goals as goal
