@@ -1,5 +1,5 @@
 -- Events that were checked, and one more among them.
-use Rattle.std.proofs.Common.{◌≡◌, ℕ, zero, suc, ◌+◌, ◌≤◌, ◌<◌, Bool, true, false, not, List, [], ◌∷◌, ◌++◌, map, length, take, drop, slice_index_or, Option, Some, None, refl, sym, ap, ap₂, subst, ◌∙◌, arith, ◌==◌, ◌||◌, cond, eq-eqb, eqb-true}
+use Rattle.std.proofs.Common.{◌≡◌, ℕ, zero, suc, ◌+◌, ◌≤◌, ◌<◌, Bool, true, false, not, List, [], ◌∷◌, ◌++◌, map, length, take, drop, slice_index_or, Option, Some, None, inl, inr, refl, sym, ap, ap₂, subst, ◌∙◌, arith, ◌==◌, ◌||◌, cond, eq-eqb, eqb-true}
 use Rattle.std.specs.Prelude.{IfSome, bytes_eq, if◌then◌else◌, fold, is_some, slice_get}
 use Rattle.std.proofs.lemmas.Bool.Decides.{Decides-eqb}
 use Rattle.std.proofs.lemmas.Slice.Eq.{slice_eq-Decides}
@@ -15,6 +15,7 @@ use Rattle.mx_redact.specs.Fields.{is_some_and}
 use Rattle.mx_auth.specs.Rules.{Key, key_of, same_key}
 use Rattle.mx_auth.specs.declared.versions.RoomVersion.{RoomVersion}
 use Rattle.mx_graph.specs.Record.{Row, event, is_in}
+use Rattle.mx_graph.proofs.Members.{In}
 use Rattle.mx_orders.specs.StateMap.{State, entry, key_cmp, with_event}
 use Rattle.mx_orders.specs.Mainline.{mainline_cmp, mainline_order, put_in_order}
 use Rattle.mx_orders.proofs.PlaceLemmas.{mainline_cmp-total}
@@ -172,6 +173,11 @@ other-at (y ∷ ys) (suc i) x l e = other-at ys i x (omega arith) (second (y == 
     second : (a b : Bool) → (a || b) ≡ false → b ≡ false
     second true b k = absurd (cc k)
     second false b k = k
+
+pub in-place : (xs : List ℕ) (i d : ℕ) → i < length xs → In (slice_index_or xs i d) xs
+in-place [] i d l = absurd (omega arith)
+in-place (x ∷ xs) zero d l = inl refl
+in-place (x ∷ xs) (suc i) d l = inr (in-place xs i d (omega arith))
 
 pub first-key : (d : State) (key : Key) (p : ℕ) (e : Key × ℕ) → d ≡ (key, p) ∷ [] → slice_get d 0 ≡ Some e → e.0 ≡ key
 first-key d key p e are first = let h : Some (key, p) ≡ Some e = ap (λ ys. slice_get ys 0) (sym are) ∙ first in let g : (key, p) ≡ e = cc h in ap (λ (q : Key × ℕ). q.0) (sym g)

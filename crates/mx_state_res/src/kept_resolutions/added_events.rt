@@ -5,6 +5,7 @@ ghost use Rattle.std.specs.FinMap.Entries.{put};
 ghost use Rattle.mx_auth.specs.Rules.{Key, key_of};
 ghost use Rattle.mx_graph.specs.Record as record_of;
 ghost use Rattle.mx_graph.specs.Record.{auth_events, is_in};
+ghost use Rattle.mx_orders.specs.Lists.{In};
 ghost use Rattle.mx_orders.specs.StateMap.{State, entry as entry_at, key_cmp};
 ghost use Rattle.mx_state_res.specs.KeptResolutions.{DifferAtOneKey, events_checked, first_of, states_of};
 ghost use Rattle.mx_state_res.specs.LaterResolution.{IsOneMore};
@@ -22,8 +23,10 @@ use mx_auth::is_at;
 use mx_graph::{EventNo, Graph};
 use std::alloc::{AllocError, Global};
 
-// The event by which a state differs from the last one that was resolved: at a key that is in conflict already, with the
-// auth events of what stands there, new among what is in conflict, and no power event.
+// With so many of the states that were resolved, from the last, a new one is compared.
+const MOST_COMPARED: usize = 16;
+
+// The event by which a state differs from one of the last that were resolved, where there is one.
 pub(crate) fn added_event(
     alloc: Global,
     graph: &Graph,
@@ -41,18 +44,48 @@ pub(crate) fn added_event(
     ensures new { IfOk result (λ told. IfSome told (λ event. is_in (events_checked kept.now.order.items) event ≡ false)) }
     ensures known { IfOk result (λ told. IfSome told (λ event. event < length graph.now)) }
 {
+    let mut left = kept.numbers.len();
+    let fewest = left.saturating_sub(MOST_COMPARED);
+    while left > fewest {
+        left -= 1;
+        let event = event_beside(alloc, graph, states, kept, kept.numbers[left], newest)?;
+        if event.is_some() {
+            return Ok(event);
+        }
+    }
+    Ok(None)
+}
+
+// The event by which a state differs from one that was resolved: at a key that is in conflict already, with the auth
+// events of what stands there, new among what is in conflict, and no power event.
+fn event_beside(
+    alloc: Global,
+    graph: &Graph,
+    states: &States,
+    kept: &KeptResolution,
+    number: StateNo,
+    newest: StateNo,
+) -> Result<Option<EventNo>, AllocError>
+    requires among { In number kept.now.numbers.items }
+    requires newest { newest < length states.now }
+    requires known { AreKnown graph.now states.now }
+    requires numbers { All (λ number. number < length states.now) kept.now.numbers.items }
+    requires one_key { DifferAtOneKey graph.now (states_of states.now kept.now) (first_of states.now kept.now) kept.now }
+    ensures event { (key : Key) (there : ℕ) → kept.now.differing ≡ (key, there) ∷ [] → IfOk result (λ told. IfSome told (λ event.
+        (s : State) × IsOneMore graph.now (states_of states.now kept.now) s key event
+        × (state_at states.now newest ≡ put key_cmp key event s))) }
+    ensures new { IfOk result (λ told. IfSome told (λ event. is_in (events_checked kept.now.order.items) event ≡ false)) }
+    ensures known { IfOk result (λ told. IfSome told (λ event. event < length graph.now)) }
+{
     all_are_sorted(states, &kept.numbers);
     states.state_is_sorted(newest);
-    let Some((last, _)) = kept.numbers.split_last() else {
-        return Ok(None);
-    };
     let Some(entry) = kept.differing.entries().first() else {
         return Ok(None);
     };
-    if !differ_there(alloc, states, *last, newest, entry)? {
+    if !differ_there(alloc, states, number, newest, entry)? {
         return Ok(None);
     }
-    Ok(taking_its_place(graph, states, kept, *last, newest, entry))
+    Ok(taking_its_place(graph, states, kept, number, newest, entry))
 }
 
 /// Whether two states differ at the key of an entry, and nowhere else.
@@ -80,11 +113,11 @@ fn taking_its_place(
     graph: &Graph,
     states: &States,
     kept: &KeptResolution,
-    last: StateNo,
+    number: StateNo,
     newest: StateNo,
     entry: &StateEntry,
 ) -> Option<EventNo>
-    requires last { last < length states.now }
+    requires number { number < length states.now }
     requires newest { newest < length states.now }
     requires known { AreKnown graph.now states.now }
     ensures { IfSome result (λ event.
@@ -93,12 +126,12 @@ fn taking_its_place(
         × (key_of (record_of.event graph.now event) ≡ Some entry.now.0)
         × (is_in (events_checked kept.now.order.items) event ≡ false)
         × (definition.is_power_event (record_of.event graph.now event) ≡ false)
-        × ((other : ℕ) × (entry_at (state_at states.now last) entry.now.0 ≡ Some other)
+        × ((other : ℕ) × (entry_at (state_at states.now number) entry.now.0 ≡ Some other)
         × (auth_events graph.now (record_of.event graph.now event) ≡ auth_events graph.now (record_of.event graph.now other)))) }
 {
     let (kind, state_key) = (entry.kind(), entry.state_key());
     let event = states.get(newest, kind, state_key)?;
-    let other = states.get(last, kind, state_key)?;
+    let other = states.get(number, kind, state_key)?;
     let row = &graph.row(event).event;
     if !is_at(row, kind, state_key) || is_power_event(row) {
         return None;
