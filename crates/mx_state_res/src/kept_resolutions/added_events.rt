@@ -1,13 +1,12 @@
 // The event by which a state differs from one that was resolved.
-ghost use Rattle.std.specs.Prelude.{◌≡◌, ◌<◌, ◌∷◌, [], ℕ, All, IfOk, IfSome, IsTrue, Some, false, length};
-ghost use Rattle.std.specs.Ordering.{is_eq};
+ghost use Rattle.std.specs.Prelude.{◌≡◌, ◌<◌, ℕ, All, IfOk, IfSome, Some, false, length};
 ghost use Rattle.std.specs.FinMap.Entries.{put};
 ghost use Rattle.mx_auth.specs.Rules.{Key, key_of};
 ghost use Rattle.mx_graph.specs.Record as record_of;
 ghost use Rattle.mx_graph.specs.Record.{auth_events, is_in};
 ghost use Rattle.mx_orders.specs.Lists.{In};
 ghost use Rattle.mx_orders.specs.StateMap.{State, entry as entry_at, key_cmp};
-ghost use Rattle.mx_state_res.specs.KeptResolutions.{DifferAtOneKey, events_checked, first_of, states_of};
+ghost use Rattle.mx_state_res.specs.KeptResolutions.{DifferAtKeys, events_checked, first_of, states_of};
 ghost use Rattle.mx_state_res.specs.LaterResolution.{IsOneMore};
 ghost use Rattle.mx_state_res.specs.Numbered.{AreKnown, state_at};
 ghost use Rattle.mx_state_res.specs.Resolution as definition;
@@ -37,10 +36,10 @@ pub(crate) fn added_event(
     requires newest { newest < length states.now }
     requires known { AreKnown graph.now states.now }
     requires numbers { All (λ number. number < length states.now) kept.now.numbers.items }
-    requires one_key { DifferAtOneKey graph.now (states_of states.now kept.now) (first_of states.now kept.now) kept.now }
-    ensures event { (key : Key) (there : ℕ) → kept.now.differing ≡ (key, there) ∷ [] → IfOk result (λ told. IfSome told (λ event.
-        (s : State) × IsOneMore graph.now (states_of states.now kept.now) s key event
-        × (state_at states.now newest ≡ put key_cmp key event s))) }
+    requires at_keys { DifferAtKeys graph.now (states_of states.now kept.now) (first_of states.now kept.now) kept.now }
+    ensures event { IfOk result (λ told. IfSome told (λ event.
+        (key : Key) × ((s : State) × (IsOneMore graph.now (states_of states.now kept.now) s key event
+        × (state_at states.now newest ≡ put key_cmp key event s))))) }
     ensures new { IfOk result (λ told. IfSome told (λ event. is_in (events_checked kept.now.order.items) event ≡ false)) }
     ensures known { IfOk result (λ told. IfSome told (λ event. event < length graph.now)) }
 {
@@ -70,42 +69,30 @@ fn event_beside(
     requires newest { newest < length states.now }
     requires known { AreKnown graph.now states.now }
     requires numbers { All (λ number. number < length states.now) kept.now.numbers.items }
-    requires one_key { DifferAtOneKey graph.now (states_of states.now kept.now) (first_of states.now kept.now) kept.now }
-    ensures event { (key : Key) (there : ℕ) → kept.now.differing ≡ (key, there) ∷ [] → IfOk result (λ told. IfSome told (λ event.
-        (s : State) × IsOneMore graph.now (states_of states.now kept.now) s key event
-        × (state_at states.now newest ≡ put key_cmp key event s))) }
+    requires at_keys { DifferAtKeys graph.now (states_of states.now kept.now) (first_of states.now kept.now) kept.now }
+    ensures event { IfOk result (λ told. IfSome told (λ event.
+        (key : Key) × ((s : State) × (IsOneMore graph.now (states_of states.now kept.now) s key event
+        × (state_at states.now newest ≡ put key_cmp key event s))))) }
     ensures new { IfOk result (λ told. IfSome told (λ event. is_in (events_checked kept.now.order.items) event ≡ false)) }
     ensures known { IfOk result (λ told. IfSome told (λ event. event < length graph.now)) }
 {
     all_are_sorted(states, &kept.numbers);
     states.state_is_sorted(newest);
-    let Some(entry) = kept.differing.entries().first() else {
+    let differing = states.differing(alloc, &[number, newest])?;
+    let Some(entry) = differing.entries().first() else {
         return Ok(None);
     };
-    if !differ_there(alloc, states, number, newest, entry)? {
+    if differing.entries().len() != 1 {
+        return Ok(None);
+    }
+    if kept
+        .differing
+        .get(entry.kind(), entry.state_key())
+        .is_none()
+    {
         return Ok(None);
     }
     Ok(taking_its_place(graph, states, kept, number, newest, entry))
-}
-
-/// Whether two states differ at the key of an entry, and nowhere else.
-pub(crate) fn differ_there(
-    alloc: Global,
-    states: &States,
-    one: StateNo,
-    other: StateNo,
-    entry: &StateEntry,
-) -> Result<bool, AllocError>
-    requires one { one < length states.now }
-    requires other { other < length states.now }
-    ensures { IfOk result (λ there. IsTrue there → (key : Key) → is_eq (key_cmp key entry.now.0) ≡ false
-        → entry_at (state_at states.now one) key ≡ entry_at (state_at states.now other) key) }
-{
-    let differing = states.differing(alloc, &[one, other])?;
-    if differing.entries().len() != 1 {
-        return Ok(false);
-    }
-    Ok(differing.get(entry.kind(), entry.state_key()).is_some())
 }
 
 // The event at the key of an entry in the newest state, where it may take the place of the one there.

@@ -1,7 +1,5 @@
 // What is kept of a resolution that was worked out from nothing.
-ghost use Rattle.std.specs.Prelude.{◌≡◌, ◌<◌, All, IfOk, IfSome, IsTrue, Some, length, map};
-ghost use Rattle.mx_auth.specs.Rules.{key_of};
-ghost use Rattle.mx_graph.specs.Record as record_of;
+ghost use Rattle.std.specs.Prelude.{◌≡◌, ◌<◌, All, IfOk, IfSome, length, map};
 ghost use Rattle.mx_orders.specs.Mainline.{mainline, mainline_order as ordered, power_key};
 ghost use Rattle.mx_orders.specs.StateMap.{entry as entry_at};
 ghost use Rattle.mx_state_res.specs.KeptResolutions.{AreChecked, IsKept, events_checked};
@@ -11,19 +9,20 @@ ghost use Rattle.mx_state_res.specs.Resolution as definition;
 use crate::checks::powers::power_events;
 use crate::checks::working_states::WorkingState;
 use crate::conflicts::numbered_conflicts::{all_are_sorted, full_conflicted_at};
-use crate::entries::StateEntry;
 use crate::kept_resolutions::KeptResolution;
 use crate::kept_resolutions::checked_events::{CheckedEvent, checked_each};
 use crate::state_maps::StateMap;
 use crate::states::States;
 use crate::states::state_numbers::StateNo;
-use mx_auth::{RoomVersion, is_at};
+use mx_auth::RoomVersion;
 use mx_graph::{EventNo, Graph};
 use mx_orders::mainline_order;
 use std::alloc::{AllocError, Global};
 
-/// What is kept of a resolution, where states differ at one key, and the events in conflict stand there and are no power
-/// events.
+// Where states differ at more keys nothing is kept.
+const MOST_KEYS: usize = 64;
+
+/// What is kept of a resolution, where states differ at a few keys, and the events in conflict are no power events.
 pub(crate) fn kept_resolution(
     version: RoomVersion,
     alloc: Global,
@@ -44,14 +43,14 @@ pub(crate) fn kept_resolution(
     };
     all_are_sorted(states, numbers);
     let differing = states.differing(alloc, numbers)?;
-    let Some((entry, others)) = differing.entries().split_first() else {
+    let Some(_) = differing.entries().first() else {
         return Ok(None);
     };
-    if !others.is_empty() {
+    if differing.entries().len() > MOST_KEYS {
         return Ok(None);
     }
     let full = full_conflicted_at(alloc, graph, states, numbers, *base, &differing)?;
-    if !power_events(alloc, graph, &full)?.is_empty() || !are_all_at(graph, &full, entry) {
+    if !power_events(alloc, graph, &full)?.is_empty() {
         return Ok(None);
     }
     let order = order_checked(version, alloc, graph, states, *base, &differing, &full)?;
@@ -87,17 +86,4 @@ fn order_checked(
     let order = mainline_order(alloc, graph, power_levels, full)?;
     let order = checked_each(version, alloc, graph, &mut state, &order)?;
     Ok(order)
-}
-
-// Whether each of these events stands at the key of an entry.
-fn are_all_at(graph: &Graph, events: &[EventNo], entry: &StateEntry) -> bool
-    requires { All (λ event. event < length graph.now) events.now }
-    ensures { IsTrue result → All (λ event. key_of (record_of.event graph.now event) ≡ Some entry.now.0) events.now }
-{
-    for event in events {
-        if !is_at(&graph.row(*event).event, entry.kind(), entry.state_key()) {
-            return false;
-        }
-    }
-    true
 }

@@ -1,6 +1,7 @@
-use Rattle.std.proofs.Common.{◌≡◌, ◌<◌, ◌∷◌, [], ℕ, Some, length, map, ap, subst, sym, ◌∙◌}
-use Rattle.std.specs.Prelude.{IfSome, option_copied, slice_get}
+use Rattle.std.proofs.Common.{◌≡◌, ◌<◌, ◌∷◌, [], ℕ, Some, length, map, not, ap, subst, sym, ◌∙◌, true, arith}
+use Rattle.std.specs.Prelude.{is_some, option_copied, slice_get}
 use Rattle.std.specs.List.{All}
+use Rattle.std.proofs.lemmas.List.Elements.{All-cons, All-nil}
 use Rattle.std.specs.Ordering.{is_eq}
 use Rattle.mx_graph.specs.Record.{is_in}
 use Rattle.mx_graph.proofs.Members.{In}
@@ -11,14 +12,16 @@ use Rattle.mx_state_res.specs.LaterResolution.{agreed_line}
 use Rattle.mx_state_res.specs.Numbered.{AllAlike, state_at}
 use Rattle.mx_state_res.specs.Resolution.{full_conflicted}
 use Rattle.mx_state_res.proofs.KeyLemmas.{Sorted}
-use Rattle.mx_state_res.proofs.KeptResolutionLemmas.{first-key, if-some, put-over}
+use Rattle.mx_state_res.proofs.KeptResolutionLemmas.{if-some, only-entry, put-over}
 use Rattle.mx_state_res.proofs.LaterOrderLemmas.{distinct-full, order-members}
 use Rattle.mx_state_res.proofs.NumberedConflictLemmas.{at-sorted}
 use Rattle.mx_state_res.proofs.SetLemmas.{all-at}
 use Rattle.mx_state_res.proofs.kept_resolutions.added_events.event_beside.Goals as goal
 
-pub differ_there-requires-clause-one : goal.differ_there-requires-clause-one
-differ_there-requires-clause-one c = all-at (λ n. n < length c.args.states.now) c.args.kept.now.numbers.items c.requires.numbers c.args.number c.requires.among
+pub differing-requires : goal.differing-requires
+differing-requires c =
+    let P : ℕ → Type 0 = λ n. n < length c.args.states.now in
+    All-cons P c.args.number (c.args.newest ∷ []) (all-at P c.args.kept.now.numbers.items c.requires.numbers c.args.number c.requires.among) (All-cons P c.args.newest [] c.requires.newest (All-nil P))
 
 pub taking_its_place-requires-clause-number : goal.taking_its_place-requires-clause-number
 taking_its_place-requires-clause-number c = all-at (λ n. n < length c.args.states.now) c.args.kept.now.numbers.items c.requires.numbers c.args.number c.requires.among
@@ -30,28 +33,36 @@ returns-clause-event c =
     let kept = c.args.kept.now in
     let numbers = kept.numbers.items in
     let ss = states_of states kept in
-    let one = c.requires.one_key in
+    let at = c.requires.at_keys in
     let s = state_at states c.args.number in
+    let d = c.in_ok-differing.differing in
+    let e = c.in-Some.entry.now in
+    let first : slice_get d 0 ≡ Some e = ap (λ xs. slice_get xs 0) (sym c.entries.ensures.entries) ∙ sym c.first.ensures.value ∙ ap option_copied c.in-Some.is in
+    let one : length d ≡ 1 = let l = ap length c.entries-2.ensures.entries in omega arith in
+    let key_is : (c.kind.result.now, c.state_key.result.now) ≡ e.0 = λ i. (c.kind.ensures i, c.state_key.ensures i) in
+    let among : is_some (entry kept.differing e.0) ≡ true = ap (λ k. is_some (entry kept.differing k)) (sym key_is) ∙ ap is_some (sym c.get.ensures) ∙ c.is_none.ensures ∙ ap not c.if-is_none.false in
     let sorted : (t : State) → In t ss → Sorted t = at-sorted (state_at states) numbers (subst (All (λ n. Sorted (state_at states n))) c.deref.ensures.value c.all_are_sorted.ensures) in
     let member : In s ss = in_map (state_at states) c.args.number numbers c.requires.among in
-    λ key put_there d.
-    let same : c.in-Some.entry.now.0 ≡ key = first-key c.entries.result.now key put_there c.in-Some.entry.now (c.entries.ensures.entries ∙ d) (sym c.first.ensures.value ∙ ap option_copied c.in-Some.is) in
-    let keys : one.key ≡ key = first-key kept.differing key put_there (one.key, one.there) d (ap (λ ys. slice_get ys 0) one.differing) in
     if-some _ _ c.taking_its_place.result (λ x h. (
-      s,
-      record {
-        sorted = sorted;
-        member = member;
-        in_conflict = λ a. one.apart (subst (λ k. AllAlike k ss) (sym keys) a);
-        other = h.5.0;
-        there = ap (entry s) (sym same) ∙ h.5.1;
-        same_auth = h.5.2;
-        at_key = h.2 ∙ ap Some same;
-        known = h.0;
-        new = sym (order-members rows (agreed_line rows ss) (full_conflicted rows ss) (distinct-full rows ss) x) ∙ ap (λ ps. is_in ps x) (sym one.order) ∙ h.3;
-        no_power = h.4;
-        no_powers = one.no_powers;
-      },
-      put-over s (state_at states c.args.newest) key x (sorted s member) c.state_is_sorted.ensures (ap (entry (state_at states c.args.newest)) (sym same) ∙ h.1)
-          (λ q o. c.in_ok-differ_there.ensures c.if-not-branch.false q (ap (λ k. is_eq (key_cmp q k)) same ∙ o)),
+      e.0,
+      (
+        s,
+        (
+          record {
+            sorted = sorted;
+            member = member;
+            in_conflict = at.apart e.0 among;
+            other = h.5.0;
+            there = h.5.1;
+            same_auth = h.5.2;
+            at_key = h.2;
+            known = h.0;
+            new = sym (order-members rows (agreed_line rows ss) (full_conflicted rows ss) (distinct-full rows ss) x) ∙ ap (λ ps. is_in ps x) (sym at.order) ∙ h.3;
+            no_power = h.4;
+            no_powers = at.no_powers;
+          },
+          put-over s (state_at states c.args.newest) e.0 x (sorted s member) c.state_is_sorted.ensures h.1
+              (λ q o. sym ((c.in_ok-differing.ensures q).0 (only-entry d e q first one o) 0 (state_at states c.args.newest) (omega arith))),
+        ),
+      ),
     )) c.taking_its_place.ensures
