@@ -1,6 +1,6 @@
 -- Events that were checked, and one more among them.
-use Rattle.std.proofs.Common.{◌≡◌, ℕ, zero, suc, ◌+◌, ◌≤◌, ◌<◌, Bool, true, false, not, List, [], ◌∷◌, ◌++◌, map, length, take, drop, slice_index_or, Option, Some, None, inl, inr, refl, sym, ap, ap₂, subst, ◌∙◌, arith, ◌==◌, ◌&&◌, ◌||◌, cond, eq-eqb, eqb-true}
-use Rattle.std.specs.Prelude.{IfSome, bytes_eq, if◌then◌else◌, fold, is_some, option_map, slice_get}
+use Rattle.std.proofs.Common.{◌≡◌, ℕ, zero, suc, ◌+◌, ◌≤◌, ◌<◌, Bool, true, false, not, List, [], ◌∷◌, ◌++◌, length, take, drop, slice_index_or, Option, Some, None, inl, inr, refl, sym, ap, subst, ◌∙◌, arith, ◌==◌, ◌&&◌, ◌||◌, cond, eq-eqb, eqb-true}
+use Rattle.std.specs.Prelude.{IfSome, bytes_eq, if◌then◌else◌, is_some, option_map, slice_get}
 use Rattle.std.proofs.Math.Bool.{beq}
 use Rattle.std.proofs.lemmas.Bool.Decides.{Decides-eqb}
 use Rattle.std.proofs.lemmas.Slice.Eq.{bytes_eq-Decides, slice_eq-Decides}
@@ -20,7 +20,6 @@ use Rattle.mx_graph.specs.Record.{Row, event, is_in}
 use Rattle.mx_graph.proofs.Members.{In}
 use Rattle.mx_orders.specs.StateMap.{State, entry, key_cmp, with_event}
 use Rattle.mx_orders.specs.Mainline.{mainline_cmp, mainline_order, put_in_order}
-use Rattle.mx_orders.proofs.PlaceLemmas.{mainline_cmp-total}
 use Rattle.mx_state_res.specs.Numbered.{state_at}
 use Rattle.mx_state_res.specs.Resolution.{after_check, iterative_auth_checks}
 use Rattle.mx_state_res.specs.LaterResolution.{is_put, stays}
@@ -31,7 +30,6 @@ use Rattle.mx_state_res.proofs.KnownLemmas.{find-known}
 use Rattle.mx_state_res.proofs.EntryLemmas.{equal-keys, same-states}
 use Rattle.mx_state_res.proofs.LaterStateLemmas.{put-elsewhere, put-there, sorted-put}
 use Rattle.mx_state_res.proofs.LaterCheckLemmas.{put-beside, sorted-with}
-use Rattle.std.proofs.lemmas.List.Elements.{All-tail}
 use Rattle.mx_state_res.proofs.TestLemmas.{and-first, and-make, and-second}
 
 -- ---- events that were checked

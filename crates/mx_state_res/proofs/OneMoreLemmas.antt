@@ -1,16 +1,15 @@
 -- One state more among those that were resolved.
-use Rattle.std.proofs.Common.{◌≡◌, ℕ, zero, suc, ◌+◌, ◌≤◌, ◌<◌, Bool, true, false, List, [], ◌∷◌, ◌++◌, map, length, take, drop, slice_index_or, Option, Some, None, inl, inr, refl, sym, ap, ap₂, subst, ◌∙◌, arith}
-use Rattle.std.specs.Prelude.{if◌then◌else◌, fold, option_map, unwrap_or, IfSome, get_or, is_some}
+use Rattle.std.proofs.Common.{◌≡◌, ℕ, ◌+◌, ◌<◌, Bool, true, false, List, [], ◌∷◌, ◌++◌, length, take, drop, Option, Some, None, inl, inr, refl, sym, ap, ap₂, subst, ◌∙◌, arith}
+use Rattle.std.specs.Prelude.{if◌then◌else◌, option_map, unwrap_or, IfSome, is_some}
 use Rattle.std.specs.List.{All}
 use Rattle.std.specs.FinMap.Entries.{put}
 use Rattle.std.specs.Ordering.{eq_by_cmp}
 use Rattle.mx_redact.specs.Fields.{is_some_and}
 use Rattle.std.proofs.lemmas.List.{drop-map, get_or_append_left, length-append, map-append, take-append-drop, take-map}
-use Rattle.std.proofs.lemmas.List.Elements.{All-append, All-cons, All-drop, All-take, All-tail}
-use Rattle.std.proofs.lemmas.List.Sums.{fold-append}
+use Rattle.std.proofs.lemmas.List.Elements.{All-append, All-cons, All-drop, All-take}
 use Rattle.mx_auth.specs.Rules.{Key, key_of}
 use Rattle.mx_auth.specs.declared.versions.RoomVersion.{RoomVersion}
-use Rattle.mx_graph.specs.Record.{Row, event, is_in}
+use Rattle.mx_graph.specs.Record.{Row, event}
 use Rattle.mx_graph.specs.Graph.{IsSound}
 use Rattle.mx_graph.proofs.Members.{In}
 use Rattle.mx_orders.specs.StateMap.{State, key_cmp, entry, with_event}
@@ -18,7 +17,7 @@ use Rattle.mx_orders.specs.Mainline.{mainline, mainline_cmp, mainline_order, pow
 use Rattle.mx_state_res.specs.Numbered.{AllAlike, without}
 use Rattle.mx_state_res.specs.Resolution.{after_check, full_conflicted, iterative_auth_checks, power_events, resolve, unconflicted}
 use Rattle.mx_state_res.specs.LaterResolution.{IsOneMore, agreed_line, checking_order, is_put, resolution_with, stays}
-use Rattle.mx_state_res.specs.KeptResolutions.{AreChecked, DifferAtKeys, IsOutcome, events_checked, is_put_by, made_by}
+use Rattle.mx_state_res.specs.KeptResolutions.{AreAtKeys, AreChecked, DifferAtKeys, IsOutcome, events_checked, is_put_by, made_by}
 use Rattle.mx_state_res.specs.declared.kept_resolutions.KeptResolution.{KeptResolution}
 use Rattle.mx_state_res.specs.declared.kept_resolutions.checked_events.CheckedEvent.{CheckedEvent}
 use Rattle.mx_state_res.specs.declared.kept_resolutions.outcomes.Outcome.{Outcome}
@@ -145,7 +144,7 @@ alike-front key (u ∷ ss) t h = λ k d l.
 -- ---- the resolution with one state more
 
 module _ (rows : List Row) (sound : IsSound rows) (v : RoomVersion) (ss : List State) (base : State) (kept : KeptResolution) (at_keys : DifferAtKeys rows ss base kept)
-    (checked : AreChecked v rows (unconflicted ss) kept.order.items) (s : State) (key : Key) (x : ℕ) (one : IsOneMore rows ss s key x) (place : ℕ)
+    (checked : AreChecked v rows (unconflicted ss) kept.order.items) (s : State) (key : Key) (x : ℕ) (there : is_some (entry kept.differing key) ≡ true) (one : IsOneMore rows ss s key x) (place : ℕ)
     (placed : put_in_order (mainline_cmp rows (agreed_line rows ss)) x (events_checked kept.order.items) ≡ take place (events_checked kept.order.items) ++ (x ∷ drop place (events_checked kept.order.items)))
     (o : Outcome) (outcome : IsOutcome v rows key x (iterative_auth_checks v rows (unconflicted ss) (take place (events_checked kept.order.items))) (drop place (events_checked kept.order.items)) o) where
   abbrev order : List CheckedEvent
@@ -214,6 +213,12 @@ module _ (rows : List Row) (sound : IsSound rows) (v : RoomVersion) (ss : List S
         All-append P (take place order) (c ∷ drop place order) (All-take P place order at_keys.known)
         (All-cons P c (drop place order) (subst (λ n. n < length rows) (sym is) one.known) (All-drop P place order at_keys.known))
 
+    at-more : AreAtKeys rows kept.differing order_more
+    at-more =
+        let P : CheckedEvent → Type 0 = λ d. is_some_and (λ k. is_some (entry kept.differing k)) (key_of (event rows d.event)) ≡ true in
+        All-append P (take place order) (c ∷ drop place order) (All-take P place order at_keys.at)
+        (All-cons P c (drop place order) (ap (is_some_and (λ k. is_some (entry kept.differing k))) (ap (λ y. key_of (event rows y)) is ∙ one.at_key) ∙ there) (All-drop P place order at_keys.at))
+
     events-more : events_checked order_more ≡ checking_order rows more
     events-more =
         map-append (λ (d : CheckedEvent). d.event) (take place order) (c ∷ drop place order)
@@ -256,5 +261,6 @@ module _ (rows : List Row) (sound : IsSound rows) (v : RoomVersion) (ss : List S
       agreed = unconflicted-more ∙ at_keys.agreed ∙ ap (λ t. without t base) (sym same);
       order = ap events_checked items ∙ events-more;
       known = subst (All (λ (d : CheckedEvent). d.event < length rows)) (sym items) known-more;
+      at = subst (λ t. AreAtKeys rows t next.order.items) (sym same) (subst (AreAtKeys rows kept.differing) (sym items) at-more);
       no_powers = ap (power_events rows) full-more ∙ no-powers rows sound v ss s key x one;
     }

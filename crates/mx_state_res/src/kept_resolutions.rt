@@ -27,7 +27,7 @@ const FEWEST_STATES: usize = 8;
 
 /// What is kept of the resolution of some of a room's states, so that with one state more it is worked out from there.
 ///
-/// None of the events in conflict is a power event.
+/// None of the events in conflict is a power event, and all of them stand at the keys at which the states differ.
 #[derive(Debug, Drop)]
 pub struct KeptResolution {
     /// The states.

@@ -1,5 +1,5 @@
 // The event by which a state differs from one that was resolved.
-ghost use Rattle.std.specs.Prelude.{◌≡◌, ◌<◌, ℕ, All, IfOk, IfSome, Some, false, length};
+ghost use Rattle.std.specs.Prelude.{◌≡◌, ◌<◌, ℕ, All, IfOk, IfSome, Some, false, is_some, length, true};
 ghost use Rattle.std.specs.FinMap.Entries.{put};
 ghost use Rattle.mx_auth.specs.Rules.{Key, key_of};
 ghost use Rattle.mx_graph.specs.Record as record_of;
@@ -38,8 +38,9 @@ pub(crate) fn added_event(
     requires numbers { All (λ number. number < length states.now) kept.now.numbers.items }
     requires at_keys { DifferAtKeys graph.now (states_of states.now kept.now) (first_of states.now kept.now) kept.now }
     ensures event { IfOk result (λ told. IfSome told (λ event.
-        (key : Key) × ((s : State) × (IsOneMore graph.now (states_of states.now kept.now) s key event
-        × (state_at states.now newest ≡ put key_cmp key event s))))) }
+        (key : Key) × ((is_some (entry_at kept.now.differing key) ≡ true)
+        × ((s : State) × (IsOneMore graph.now (states_of states.now kept.now) s key event
+        × (state_at states.now newest ≡ put key_cmp key event s)))))) }
     ensures new { IfOk result (λ told. IfSome told (λ event. is_in (events_checked kept.now.order.items) event ≡ false)) }
     ensures known { IfOk result (λ told. IfSome told (λ event. event < length graph.now)) }
 {
@@ -71,8 +72,9 @@ fn event_beside(
     requires numbers { All (λ number. number < length states.now) kept.now.numbers.items }
     requires at_keys { DifferAtKeys graph.now (states_of states.now kept.now) (first_of states.now kept.now) kept.now }
     ensures event { IfOk result (λ told. IfSome told (λ event.
-        (key : Key) × ((s : State) × (IsOneMore graph.now (states_of states.now kept.now) s key event
-        × (state_at states.now newest ≡ put key_cmp key event s))))) }
+        (key : Key) × ((is_some (entry_at kept.now.differing key) ≡ true)
+        × ((s : State) × (IsOneMore graph.now (states_of states.now kept.now) s key event
+        × (state_at states.now newest ≡ put key_cmp key event s)))))) }
     ensures new { IfOk result (λ told. IfSome told (λ event. is_in (events_checked kept.now.order.items) event ≡ false)) }
     ensures known { IfOk result (λ told. IfSome told (λ event. event < length graph.now)) }
 {

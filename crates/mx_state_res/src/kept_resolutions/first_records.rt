@@ -1,5 +1,8 @@
 // What is kept of a resolution that was worked out from nothing.
-ghost use Rattle.std.specs.Prelude.{◌≡◌, ◌<◌, All, IfOk, IfSome, length, map};
+ghost use Rattle.std.specs.Prelude.{◌≡◌, ◌<◌, All, IfOk, IfSome, IsTrue, is_some, length, map, true};
+ghost use Rattle.mx_redact.specs.Fields.{is_some_and};
+ghost use Rattle.mx_auth.specs.Rules.{key_of};
+ghost use Rattle.mx_graph.specs.Record as record_of;
 ghost use Rattle.mx_orders.specs.Mainline.{mainline, mainline_order as ordered, power_key};
 ghost use Rattle.mx_orders.specs.StateMap.{entry as entry_at};
 ghost use Rattle.mx_state_res.specs.KeptResolutions.{AreChecked, IsKept, events_checked};
@@ -17,12 +20,14 @@ use crate::states::state_numbers::StateNo;
 use mx_auth::RoomVersion;
 use mx_graph::{EventNo, Graph};
 use mx_orders::mainline_order;
+use mx_pdu::Pdu;
 use std::alloc::{AllocError, Global};
 
 // Where states differ at more keys nothing is kept.
 const MOST_KEYS: usize = 64;
 
-/// What is kept of a resolution, where states differ at a few keys, and the events in conflict are no power events.
+/// What is kept of a resolution, where states differ at a few keys, and the events in conflict stand there and are no power
+/// events.
 pub(crate) fn kept_resolution(
     version: RoomVersion,
     alloc: Global,
@@ -50,7 +55,7 @@ pub(crate) fn kept_resolution(
         return Ok(None);
     }
     let full = full_conflicted_at(alloc, graph, states, numbers, *base, &differing)?;
-    if !power_events(alloc, graph, &full)?.is_empty() {
+    if !power_events(alloc, graph, &full)?.is_empty() || !are_all_at(graph, &full, &differing) {
         return Ok(None);
     }
     let order = order_checked(version, alloc, graph, states, *base, &differing, &full)?;
@@ -86,4 +91,28 @@ fn order_checked(
     let order = mainline_order(alloc, graph, power_levels, full)?;
     let order = checked_each(version, alloc, graph, &mut state, &order)?;
     Ok(order)
+}
+
+// Whether each of these events stands at one of the keys of a map.
+fn are_all_at(graph: &Graph, events: &[EventNo], keys: &StateMap) -> bool
+    requires { All (λ event. event < length graph.now) events.now }
+    ensures { IsTrue result → All (λ event.
+        is_some_and (λ key. is_some (entry_at keys.now key)) (key_of (record_of.event graph.now event)) ≡ true) events.now }
+{
+    for event in events {
+        if !is_at_one_of(&graph.row(*event).event, keys) {
+            return false;
+        }
+    }
+    true
+}
+
+// Whether an event stands at one of the keys of a map.
+fn is_at_one_of(event: &Pdu, keys: &StateMap) -> bool
+    ensures { result ≡ is_some_and (λ key. is_some (entry_at keys.now key)) (key_of event.now) }
+{
+    match event.state_key() {
+        Some(state_key) => keys.get(event.kind(), state_key).is_some(),
+        None => false,
+    }
 }

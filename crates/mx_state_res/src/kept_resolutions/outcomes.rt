@@ -1,20 +1,21 @@
 // What becomes of an event among others that are checked.
-ghost use Rattle.std.specs.Prelude.{◌≡◌, ◌≤◌, ◌<◌, ◌++◌, ◌∷◌, IfOk, IfSome, Some, T, All, drop, false, length, take};
+ghost use Rattle.std.specs.Prelude.{◌≡◌, ◌≤◌, ◌<◌, ◌++◌, ◌∷◌, IfOk, IfSome, Some, T, [], All, drop, false, length, take};
 ghost use Rattle.std.specs.FinMap.Entries.{is_sorted};
 ghost use Rattle.mx_auth.specs.Rules.{Key, key_of};
 ghost use Rattle.mx_graph.specs.Record as record_of;
 ghost use Rattle.mx_graph.specs.Record.{is_in};
 ghost use Rattle.mx_orders.specs.Mainline.{mainline_cmp, put_in_order};
 ghost use Rattle.mx_orders.specs.StateMap.{key_cmp};
-ghost use Rattle.mx_state_res.specs.KeptResolutions.{AreChecked, DifferAtKeys, IsOutcome, events_checked, first_of, states_of};
+ghost use Rattle.mx_state_res.specs.KeptResolutions.{AreChecked, IsKept, IsOutcome, events_checked, states_of};
 ghost use Rattle.mx_state_res.specs.LaterResolution.{agreed_line};
-ghost use Rattle.mx_state_res.specs.Numbered.{AreKnown, shown_by};
+ghost use Rattle.mx_state_res.specs.Numbered.{AreKnown, shown_by, state_at};
 ghost use Rattle.mx_state_res.specs.Resolution.{iterative_auth_checks, unconflicted};
 
 use crate::checks::working_states::WorkingState;
 use crate::kept_resolutions::KeptResolution;
 use crate::kept_resolutions::added_places::place_of;
 use crate::kept_resolutions::checked_events::{CheckedEvent, is_put, put_each, stays};
+use crate::state_maps::StateMap;
 use crate::states::States;
 use mx_auth::RoomVersion;
 use mx_graph::{EventNo, Graph, graph_is_sound};
@@ -58,10 +59,8 @@ pub(crate) fn outcome_of(
 ) -> Result<Option<(usize, Outcome)>, AllocError>
     requires event { event < length graph.now }
     requires known { AreKnown graph.now states.now }
-    requires numbers { All (λ number. number < length states.now) kept.now.numbers.items }
-    requires at_keys { DifferAtKeys graph.now (states_of states.now kept.now) (first_of states.now kept.now) kept.now }
+    requires kept { IsKept version graph.now states.now kept.now }
     requires new { is_in (events_checked kept.now.order.items) event ≡ false }
-    requires checked { AreChecked version graph.now (unconflicted (states_of states.now kept.now)) kept.now.order.items }
     ensures place { IfOk result (λ told. IfSome told (λ found. found.0 ≤ length kept.now.order.items)) }
     ensures placed { IfOk result (λ told. IfSome told (λ found.
         put_in_order (mainline_cmp graph.now (agreed_line graph.now (states_of states.now kept.now))) event (events_checked kept.now.order.items)
@@ -79,11 +78,39 @@ pub(crate) fn outcome_of(
     let mut state = WorkingState::without(alloc, states.state(*base), &kept.differing);
     let power_levels = state.get("m.room.power_levels", "");
     let place = place_of(alloc, graph, &power_levels, &kept.order, event)?;
+    if place == kept.order.len() {
+        let outcome = outcome_at_end(version, alloc, graph, states, kept, event);
+        return Ok(Some((place, outcome)));
+    }
     let (before, after) = kept.order.split_at(place);
     put_each(graph, &mut state, before)?;
     match outcome_in(version, graph, &mut state, event, after)? {
         Some(outcome) => Ok(Some((place, outcome))),
         None => Ok(None),
+    }
+}
+
+// What becomes of an event that is checked after all others, in what was resolved of them.
+fn outcome_at_end(
+    version: RoomVersion,
+    alloc: Global,
+    graph: &Graph,
+    states: &States,
+    kept: &KeptResolution,
+    event: EventNo,
+) -> Outcome
+    requires event { event < length graph.now }
+    requires known { AreKnown graph.now states.now }
+    requires below { kept.now.resolved < length states.now }
+    ensures { (key : Key) → IsOutcome version graph.now key event (state_at states.now kept.now.resolved) [] result }
+{
+    states.state_is_sorted(kept.resolved);
+    let nothing = StateMap::new(alloc);
+    let state = WorkingState::without(alloc, states.state(kept.resolved), &nothing);
+    if is_put(version, graph, &state, event) {
+        Outcome::Stays
+    } else {
+        Outcome::Refused
     }
 }
 

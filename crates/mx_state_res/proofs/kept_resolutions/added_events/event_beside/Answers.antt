@@ -1,15 +1,14 @@
-use Rattle.std.proofs.Common.{◌≡◌, ◌<◌, ◌∷◌, [], ℕ, Some, length, map, not, ap, subst, sym, ◌∙◌, true, arith}
+use Rattle.std.proofs.Common.{◌≡◌, ◌<◌, ◌∷◌, [], ℕ, Some, length, not, ap, subst, sym, ◌∙◌, true, arith}
 use Rattle.std.specs.Prelude.{is_some, option_copied, slice_get}
 use Rattle.std.specs.List.{All}
 use Rattle.std.proofs.lemmas.List.Elements.{All-cons, All-nil}
-use Rattle.std.specs.Ordering.{is_eq}
 use Rattle.mx_graph.specs.Record.{is_in}
 use Rattle.mx_graph.proofs.Members.{In}
-use Rattle.mx_orders.specs.StateMap.{State, entry, key_cmp}
+use Rattle.mx_orders.specs.StateMap.{State, entry}
 use Rattle.mx_orders.proofs.Members.{in_map}
 use Rattle.mx_state_res.specs.KeptResolutions.{states_of}
 use Rattle.mx_state_res.specs.LaterResolution.{agreed_line}
-use Rattle.mx_state_res.specs.Numbered.{AllAlike, state_at}
+use Rattle.mx_state_res.specs.Numbered.{state_at}
 use Rattle.mx_state_res.specs.Resolution.{full_conflicted}
 use Rattle.mx_state_res.proofs.KeyLemmas.{Sorted}
 use Rattle.mx_state_res.proofs.KeptResolutionLemmas.{if-some, only-entry, put-over}
@@ -46,23 +45,26 @@ returns-clause-event c =
     if-some _ _ c.taking_its_place.result (λ x h. (
       e.0,
       (
-        s,
+        among,
         (
-          record {
-            sorted = sorted;
-            member = member;
-            in_conflict = at.apart e.0 among;
-            other = h.5.0;
-            there = h.5.1;
-            same_auth = h.5.2;
-            at_key = h.2;
-            known = h.0;
-            new = sym (order-members rows (agreed_line rows ss) (full_conflicted rows ss) (distinct-full rows ss) x) ∙ ap (λ ps. is_in ps x) (sym at.order) ∙ h.3;
-            no_power = h.4;
-            no_powers = at.no_powers;
-          },
-          put-over s (state_at states c.args.newest) e.0 x (sorted s member) c.state_is_sorted.ensures h.1
-              (λ q o. sym ((c.in_ok-differing.ensures q).0 (only-entry d e q first one o) 0 (state_at states c.args.newest) (omega arith))),
+          s,
+          (
+            record {
+              sorted = sorted;
+              member = member;
+              in_conflict = at.apart e.0 among;
+              other = h.5.0;
+              there = h.5.1;
+              same_auth = h.5.2;
+              at_key = h.2;
+              known = h.0;
+              new = sym (order-members rows (agreed_line rows ss) (full_conflicted rows ss) (distinct-full rows ss) x) ∙ ap (λ ps. is_in ps x) (sym at.order) ∙ h.3;
+              no_power = h.4;
+              no_powers = at.no_powers;
+            },
+            put-over s (state_at states c.args.newest) e.0 x (sorted s member) c.state_is_sorted.ensures h.1
+                (λ q o. sym ((c.in_ok-differing.ensures q).0 (only-entry d e q first one o) 0 (state_at states c.args.newest) (omega arith))),
+          ),
         ),
       ),
     )) c.taking_its_place.ensures

@@ -1,6 +1,6 @@
 use Rattle.std.proofs.Common.{◌≡◌, Some, length, ap, sym, ◌∙◌}
 use Rattle.mx_auth.specs.Rules.{key_of}
-use Rattle.mx_graph.specs.Record.{Row, auth_events, event, is_in}
+use Rattle.mx_graph.specs.Record.{Row, is_in}
 use Rattle.mx_orders.specs.StateMap.{entry}
 use Rattle.mx_state_res.specs.KeptResolutions.{events_checked}
 use Rattle.mx_state_res.specs.Resolution.{is_power_event}

@@ -1,4 +1,4 @@
-use Rattle.std.proofs.Common.{◌≡◌, length, ap, sym, ◌∙◌, arith}
+use Rattle.std.proofs.Common.{length, ap, sym, ◌∙◌, arith}
 use Rattle.std.specs.Prelude.{is_some}
 use Rattle.mx_state_res.specs.Numbered.{state_at}
 use Rattle.mx_state_res.proofs.KeptResolutionLemmas.{one-entry}
