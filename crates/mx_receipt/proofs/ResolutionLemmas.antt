@@ -113,7 +113,7 @@ alike-empty k (s ∷ ss) known = λ i d l. (λ j. entry (no_events (get_or ss i 
 
 last-longer : (rows : List Row) (r : Row) (states : List State) → IsSound rows → IsSound (rows ++ r ∷ []) → (o : Option KeptResolution) → IfSome o (IsKept (version_in rows) rows states) → IfSome o (IsKept (version_in (rows ++ r ∷ [])) (rows ++ r ∷ []) states)
 last-longer rows r states sound after None h = tt
-last-longer [] r states sound after (Some kept) h = absurd (h.one_key.apart (alike-empty h.one_key.key (states_of states kept) h.known))
+last-longer [] r states sound after (Some kept) h = absurd (h.at_keys.apart h.at_keys.key h.at_keys.there (alike-empty h.at_keys.key (states_of states kept) h.known))
 last-longer (q ∷ rows) r states sound after (Some kept) h = kept-longer (created_version q.event) (q ∷ rows) (q ∷ rows ++ r ∷ []) (longer-push (q ∷ rows) r sound after) states kept h
 
 pub right-longer : (rows : List Row) (r : Row) (states : List State) (cache : ResolutionCache) → IsSound rows → IsSound (rows ++ r ∷ []) → AreRight rows states cache → AreRight (rows ++ r ∷ []) states cache

@@ -1,22 +1,23 @@
 -- What is kept of a resolution that was worked out from nothing.
-use Rattle.std.proofs.Common.{◌≡◌, ◌<◌, ℕ, true, cond, List, [], ◌∷◌, map, length, slice_index_or, Option, Some, None, inl, inr, refl, sym, ap, subst, ◌∙◌, arith}
+use Rattle.std.proofs.Common.{◌≡◌, ◌<◌, ℕ, true, List, [], ◌∷◌, map, length, slice_index_or, None, inl, inr, refl, sym, ap, subst, ◌∙◌, arith}
 use Rattle.std.specs.List.{All}
-use Rattle.std.specs.Ordering.{is_eq}
+use Rattle.std.specs.Prelude.{is_some}
 use Rattle.std.proofs.lemmas.List.Elements.{All-cons, All-nil}
+use Rattle.mx_redact.specs.Fields.{is_some_and}
 use Rattle.mx_auth.specs.Rules.{Key, key_of}
 use Rattle.mx_auth.specs.declared.versions.RoomVersion.{RoomVersion}
 use Rattle.mx_graph.specs.Record.{Row, event, is_in}
 use Rattle.mx_graph.proofs.Closure.{is_in-from, is_in-to}
 use Rattle.mx_graph.proofs.Members.{In}
-use Rattle.mx_orders.specs.StateMap.{State, entry, key_cmp}
+use Rattle.mx_orders.specs.StateMap.{State, entry}
 use Rattle.mx_orders.specs.Mainline.{mainline, mainline_order, power_key}
 use Rattle.mx_state_res.specs.Numbered.{AreKnown, IsDiffering, state_at, without}
 use Rattle.mx_state_res.specs.Resolution.{full_conflicted, power_events, resolve, unconflicted}
 use Rattle.mx_state_res.specs.LaterResolution.{agreed_line, checking_order}
-use Rattle.mx_state_res.specs.KeptResolutions.{AreChecked, DifferAtOneKey, IsKept, events_checked, states_of}
+use Rattle.mx_state_res.specs.KeptResolutions.{AreAtKeys, AreChecked, DifferAtKeys, IsKept, events_checked, states_of}
 use Rattle.mx_state_res.specs.declared.kept_resolutions.KeptResolution.{KeptResolution}
 use Rattle.mx_state_res.specs.declared.kept_resolutions.checked_events.CheckedEvent.{CheckedEvent}
-use Rattle.mx_state_res.proofs.KeyLemmas.{Sorted, key_cmp-itself}
+use Rattle.mx_state_res.proofs.KeyLemmas.{Sorted}
 use Rattle.mx_state_res.proofs.KeptGrowthLemmas.{each-known}
 use Rattle.mx_state_res.proofs.LaterOrderLemmas.{distinct-full, order-members}
 use Rattle.mx_state_res.proofs.NumberedConflictLemmas.{at-sorted, unconflicted-is}
@@ -26,16 +27,13 @@ all-events : (P : ℕ → Type 0) (cs : List CheckedEvent) → ((p : ℕ) → In
 all-events P [] h = All-nil (λ (c : CheckedEvent). P c.event)
 all-events P (c ∷ cs) h = All-cons (λ (d : CheckedEvent). P d.event) c cs (h c.event (inl refl)) (all-events P cs (λ p m. h p (inr m)))
 
-one-there : (d : State) (e : Key × ℕ) → d ≡ e ∷ [] → entry d e.0 ≡ None → ⊥
-one-there d e are none = cc (sym (ap (λ s. entry s e.0) are ∙ ap (λ r. cond (is_eq r) (Some e.1) nothing) (key_cmp-itself e.0)) ∙ none)
-  where
-    nothing : Option ℕ
-    nothing = None
+nothing-there : (d : State) (key : Key) → is_some (entry d key) ≡ true → entry d key ≡ None → ⊥
+nothing-there d key e none = cc (sym (ap is_some none) ∙ e)
 
 module _ (v : RoomVersion) (rows : List Row) (states : List State) (base : ℕ) (others numbers : List ℕ) (are : numbers ≡ base ∷ others) (below : All (λ n. n < length states) numbers) (all_known : AreKnown rows states)
-    (sorted : All (λ n. Sorted (state_at states n)) numbers) (d : State) (ordered : Sorted d) (differing : IsDiffering d (map (state_at states) numbers)) (e : Key × ℕ) (only : d ≡ e ∷ [])
+    (sorted : All (λ n. Sorted (state_at states n)) numbers) (d : State) (ordered : Sorted d) (differing : IsDiffering d (map (state_at states) numbers)) (key : Key) (there : is_some (entry d key) ≡ true)
     (full : List ℕ) (is_full : full ≡ full_conflicted rows (map (state_at states) numbers)) (known : All (λ p. p < length rows) full) (no_power : power_events rows full ≡ [])
-    (at : All (λ p. key_of (event rows p) ≡ Some e.0) full) where
+    (at : All (λ p. is_some_and (λ k. is_some (entry d k)) (key_of (event rows p)) ≡ true) full) where
   abbrev ss : List State
   ss = map (state_at states) numbers
 
@@ -56,16 +54,16 @@ module _ (v : RoomVersion) (rows : List Row) (states : List State) (base : ℕ) 
         is_in-to p full (ap (λ ps. is_in ps p) is_full ∙ sym (order-members rows (agreed_line rows ss) (full_conflicted rows ss) (distinct-full rows ss) p)
         ∙ ap (λ ps. is_in ps p) (sym order-is) ∙ is_in-from p (events_checked kept.order.items) m)
 
-    one-key : DifferAtOneKey rows ss (state_at states base) kept
-    one-key = record {
-      key = e.0;
-      there = e.1;
-      differing = same ∙ only;
-      apart = λ a. one-there d e only ((differing e.0).1 a);
+    at-keys : DifferAtKeys rows ss (state_at states base) kept
+    at-keys = record {
+      key = key;
+      there = ap (λ t. is_some (entry t key)) same ∙ there;
+      apart = λ q is a. nothing-there d q (ap (λ t. is_some (entry t q)) (sym same) ∙ is) ((differing q).1 a);
       agreed = agreed-is ∙ ap (λ t. without t (state_at states base)) (sym same);
       order = order-is;
       known = all-events (λ p. p < length rows) kept.order.items (λ p m. all-at (λ p. p < length rows) full known p (within p m));
-      at = all-events (λ p. key_of (event rows p) ≡ Some e.0) kept.order.items (λ p m. all-at (λ p. key_of (event rows p) ≡ Some e.0) full at p (within p m));
+      at = subst (λ t. AreAtKeys rows t kept.order.items) (sym same)
+          (all-events (λ p. is_some_and (λ k. is_some (entry d k)) (key_of (event rows p)) ≡ true) kept.order.items (λ p m. all-at (λ p. is_some_and (λ k. is_some (entry d k)) (key_of (event rows p)) ≡ true) full at p (within p m)));
       no_powers = ap (power_events rows) (sym is_full) ∙ no_power;
     }
 
@@ -80,7 +78,7 @@ module _ (v : RoomVersion) (rows : List Row) (states : List State) (base : ℕ) 
       numbers = subst (All (λ n. n < length states)) (sym items) below;
       some = (let l : length kept.numbers.items ≡ length (base ∷ others) = ap length (items ∙ are) in omega arith);
       known = subst (AreKnown rows) states-are (each-known rows states numbers all_known below);
-      one_key = subst (λ ts. DifferAtOneKey rows ts (state_at states (slice_index_or kept.numbers.items 0 0)) kept) states-are (subst (λ b. DifferAtOneKey rows ss b kept) first-is one-key);
+      at_keys = subst (λ ts. DifferAtKeys rows ts (state_at states (slice_index_or kept.numbers.items 0 0)) kept) states-are (subst (λ b. DifferAtKeys rows ss b kept) first-is at-keys);
       checked = subst (λ ts. AreChecked v rows (unconflicted ts) kept.order.items) states-are (subst (λ t. AreChecked v rows t kept.order.items) (sym agreed-is) checked);
       below = lower;
       resolved = resolved ∙ ap (resolve v rows) states-are;

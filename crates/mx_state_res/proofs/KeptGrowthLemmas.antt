@@ -1,10 +1,11 @@
 -- What is kept of a resolution, as its room grows.
-use Rattle.std.proofs.Common.{◌≡◌, ◌+◌, ◌<◌, ◌&&◌, ℕ, suc, true, false, List, [], ◌∷◌, ◌++◌, map, length, take, drop, slice_index_or, refl, sym, ap, ap₂, subst, ◌∙◌, arith}
-use Rattle.std.specs.Prelude.{IfSome, None, Option, Some, get_or, is_none, if◌then◌else◌}
+use Rattle.std.proofs.Common.{◌≡◌, ◌+◌, ◌<◌, ◌&&◌, ℕ, true, List, [], ◌∷◌, ◌++◌, map, length, take, drop, slice_index_or, refl, sym, ap, ap₂, subst, ◌∙◌, arith}
+use Rattle.std.specs.Prelude.{IfSome, None, Option, Some, get_or, is_none, is_some}
 use Rattle.std.specs.List.{All}
 use Rattle.std.specs.FinMap.Entries.{put}
 use Rattle.std.proofs.lemmas.List.{get_or_append_left, length-append, map-append}
 use Rattle.std.proofs.lemmas.List.Elements.{All-append, All-cons, All-get_or, All-map, All-nil, All-tail}
+use Rattle.mx_redact.specs.Fields.{is_some_and}
 use Rattle.mx_pdu.specs.Event.{is_state}
 use Rattle.mx_auth.specs.Rules.{Key, key_of, rules}
 use Rattle.mx_auth.specs.declared.versions.RoomVersion.{RoomVersion}
@@ -12,12 +13,12 @@ use Rattle.mx_graph.specs.Record.{Row, event}
 use Rattle.mx_graph.specs.Graph.{IsSound}
 use Rattle.mx_graph.proofs.LongerRecordLemmas.{IsLonger, event-longer}
 use Rattle.mx_orders.specs.StateMap.{State, entry, key_cmp}
-use Rattle.mx_orders.specs.Mainline.{mainline, mainline_cmp, mainline_order, power_key, put_in_order}
+use Rattle.mx_orders.specs.Mainline.{mainline_cmp, mainline_order, power_key, put_in_order}
 use Rattle.mx_orders.proofs.LongerRecordLemmas.{mainline-longer, mainline_order-longer}
 use Rattle.mx_state_res.specs.Numbered.{AreKnown, state_at}
 use Rattle.mx_state_res.specs.Resolution.{after_check, full_conflicted, is_allowed, iterative_auth_checks, power_events, resolve, unconflicted}
 use Rattle.mx_state_res.specs.LaterResolution.{IsOneMore, agreed_line, checking_order, is_put}
-use Rattle.mx_state_res.specs.KeptResolutions.{AreChecked, DifferAtOneKey, IsKept, IsOutcome, events_checked, first_of, is_put_by, made_by, states_of}
+use Rattle.mx_state_res.specs.KeptResolutions.{AreChecked, DifferAtKeys, IsKept, IsOutcome, events_checked, first_of, is_put_by, made_by, states_of}
 use Rattle.mx_state_res.specs.declared.kept_resolutions.KeptResolution.{KeptResolution}
 use Rattle.mx_state_res.specs.declared.kept_resolutions.checked_events.CheckedEvent.{CheckedEvent}
 use Rattle.mx_state_res.specs.declared.kept_resolutions.outcomes.Outcome.{Outcome}
@@ -58,7 +59,7 @@ kept-grown v rows old more new kept are h =
       numbers = all-grown old more new are kept.numbers.items h.numbers;
       some = h.some;
       known = subst (AreKnown rows) ss h.known;
-      one_key = subst (λ ts. DifferAtOneKey rows ts (first_of new kept) kept) ss (subst (λ b. DifferAtOneKey rows (states_of old kept) b kept) base h.one_key);
+      at_keys = subst (λ ts. DifferAtKeys rows ts (first_of new kept) kept) ss (subst (λ b. DifferAtKeys rows (states_of old kept) b kept) base h.at_keys);
       checked = subst (λ ts. AreChecked v rows (unconflicted ts) kept.order.items) ss h.checked;
       below = grown-below old more new kept.resolved are h.below;
       resolved = grown-at old more new kept.resolved are h.below ∙ h.resolved ∙ ap (resolve v rows) ss;
@@ -70,25 +71,25 @@ option-grown v rows old more new are (Some kept) h = kept-grown v rows old more 
 
 -- ---- one state more
 
-pub kept-one-more : (v : RoomVersion) (rows : List Row) → IsSound rows → (old more new : List State) (kept next : KeptResolution) (h : IsKept v rows old kept) (newest x : ℕ) (s : State) → AreKnown rows old → newest < length old
-    → IsOneMore rows (states_of old kept) s h.one_key.key x → state_at old newest ≡ put key_cmp h.one_key.key x s → (place : ℕ)
+pub kept-one-more : (v : RoomVersion) (rows : List Row) → IsSound rows → (old more new : List State) (kept next : KeptResolution) (h : IsKept v rows old kept) (newest : ℕ) (key : Key) (x : ℕ) (s : State) → AreKnown rows old → newest < length old → is_some (entry kept.differing key) ≡ true
+    → IsOneMore rows (states_of old kept) s key x → state_at old newest ≡ put key_cmp key x s → (place : ℕ)
     → put_in_order (mainline_cmp rows (agreed_line rows (states_of old kept))) x (events_checked kept.order.items) ≡ take place (events_checked kept.order.items) ++ (x ∷ drop place (events_checked kept.order.items))
-    → (o : Outcome) → IsOutcome v rows h.one_key.key x (iterative_auth_checks v rows (unconflicted (states_of old kept)) (take place (events_checked kept.order.items))) (drop place (events_checked kept.order.items)) o
+    → (o : Outcome) → IsOutcome v rows key x (iterative_auth_checks v rows (unconflicted (states_of old kept)) (take place (events_checked kept.order.items))) (drop place (events_checked kept.order.items)) o
     → (c : CheckedEvent) → c.event ≡ x → c.is_put ≡ is_put_by o → next.numbers.items ≡ kept.numbers.items ++ newest ∷ [] → next.differing ≡ kept.differing → next.order.items ≡ take place kept.order.items ++ c ∷ drop place kept.order.items
-    → new ≡ old ++ more → next.resolved < length new → state_at new next.resolved ≡ made_by o h.one_key.key x (state_at old kept.resolved)
+    → new ≡ old ++ more → next.resolved < length new → state_at new next.resolved ≡ made_by o key x (state_at old kept.resolved)
     → IsKept v rows new next
-kept-one-more v rows sound old more new kept next h newest x s known below one is place placed o outcome c event flag numbers same items are l resolved =
+kept-one-more v rows sound old more new kept next h newest key x s known below there one is place placed o outcome c event flag numbers same items are l resolved =
     record {
       numbers = subst (All (λ n. n < length new)) (sym numbers) (all-grown old more new are (kept.numbers.items ++ newest ∷ []) all_below);
       some = (let e : length next.numbers.items ≡ length (kept.numbers.items ++ newest ∷ []) = ap length numbers in let f : length (kept.numbers.items ++ newest ∷ []) ≡ length kept.numbers.items + 1 = length-append kept.numbers.items (newest ∷ []) in omega arith);
       known = subst (AreKnown rows) (sym together) (each-known rows old (kept.numbers.items ++ newest ∷ []) known all_below);
-      one_key = subst (λ ts. DifferAtOneKey rows ts (first_of new next) next) (sym ss) (subst (λ b. DifferAtOneKey rows (states_of old kept ++ put key_cmp h.one_key.key x s ∷ []) b next) (sym base)
-          (differ-more rows sound v (states_of old kept) (first_of old kept) kept h.one_key h.checked s x one place placed o outcome c event flag next same items));
-      checked = subst (λ ts. AreChecked v rows (unconflicted ts) next.order.items) (sym ss) (subst (AreChecked v rows (unconflicted (states_of old kept ++ put key_cmp h.one_key.key x s ∷ []))) (sym items)
-          (checked-more rows sound v (states_of old kept) (first_of old kept) kept h.one_key h.checked s x one place placed o outcome c event flag));
+      at_keys = subst (λ ts. DifferAtKeys rows ts (first_of new next) next) (sym ss) (subst (λ b. DifferAtKeys rows (states_of old kept ++ put key_cmp key x s ∷ []) b next) (sym base)
+          (differ-more rows sound v (states_of old kept) (first_of old kept) kept h.at_keys h.checked s key x there one place placed o outcome c event flag next same items));
+      checked = subst (λ ts. AreChecked v rows (unconflicted ts) next.order.items) (sym ss) (subst (AreChecked v rows (unconflicted (states_of old kept ++ put key_cmp key x s ∷ []))) (sym items)
+          (checked-more rows sound v (states_of old kept) (first_of old kept) kept h.at_keys h.checked s key x there one place placed o outcome c event flag));
       below = l;
-      resolved = resolved ∙ ap (made_by o h.one_key.key x) h.resolved
-          ∙ sym (resolved-more rows sound v (states_of old kept) (first_of old kept) kept h.one_key h.checked s x one place placed o outcome) ∙ ap (resolve v rows) (sym ss);
+      resolved = resolved ∙ ap (made_by o key x) h.resolved
+          ∙ sym (resolved-more rows sound v (states_of old kept) (first_of old kept) kept h.at_keys h.checked s key x there one place placed o outcome) ∙ ap (resolve v rows) (sym ss);
     }
   where
     all_below : All (λ n. n < length old) (kept.numbers.items ++ newest ∷ [])
@@ -97,7 +98,7 @@ kept-one-more v rows sound old more new kept next h newest x s known below one i
     together : states_of new next ≡ map (state_at old) (kept.numbers.items ++ newest ∷ [])
     together = ap (map (state_at new)) numbers ∙ grown-states old more new are (kept.numbers.items ++ newest ∷ []) all_below
 
-    ss : states_of new next ≡ states_of old kept ++ put key_cmp h.one_key.key x s ∷ []
+    ss : states_of new next ≡ states_of old kept ++ put key_cmp key x s ∷ []
     ss =
         together
         ∙ map-append (state_at old) kept.numbers.items (newest ∷ []) ∙ ap (λ t. states_of old kept ++ t ∷ []) is
@@ -137,18 +138,17 @@ module _ (v : RoomVersion) (rows longer : List Row) (l : IsLonger rows longer) w
         numbers = h.numbers;
         some = h.some;
         known = λ k d m i e n. (let a : (get_or (get_or ss k d) i e).1 < length rows = h.known k d m i e n in let b = l.more in omega arith);
-        one_key = record {
-          key = h.one_key.key;
-          there = h.one_key.there;
-          differing = h.one_key.differing;
-          apart = h.one_key.apart;
-          agreed = h.one_key.agreed;
-          order = h.one_key.order ∙ sym (order-longer ss known);
-          known = λ k d m. (let a : (get_or kept.order.items k d).event < length rows = h.one_key.known k d m in let b = l.more in omega arith);
-          at = λ k d m. ap key_of (event-longer rows longer l (get_or kept.order.items k d).event (h.one_key.known k d m)) ∙ h.one_key.at k d m;
-          no_powers = ap (power_events longer) (full-longer rows longer l ss known) ∙ power_events-longer rows longer l (full_conflicted rows ss) (full-events rows ss) ∙ h.one_key.no_powers;
+        at_keys = record {
+          key = h.at_keys.key;
+          there = h.at_keys.there;
+          apart = h.at_keys.apart;
+          agreed = h.at_keys.agreed;
+          order = h.at_keys.order ∙ sym (order-longer ss known);
+          known = λ k d m. (let a : (get_or kept.order.items k d).event < length rows = h.at_keys.known k d m in let b = l.more in omega arith);
+          at = λ k d m. ap (λ e. is_some_and (λ key. is_some (entry kept.differing key)) (key_of e)) (event-longer rows longer l (get_or kept.order.items k d).event (h.at_keys.known k d m)) ∙ h.at_keys.at k d m;
+          no_powers = ap (power_events longer) (full-longer rows longer l ss known) ∙ power_events-longer rows longer l (full_conflicted rows ss) (full-events rows ss) ∙ h.at_keys.no_powers;
         };
-        checked = checked-longer kept.order.items (unconflicted ss) (unconflicted-known rows ss known) h.one_key.known h.checked;
+        checked = checked-longer kept.order.items (unconflicted ss) (unconflicted-known rows ss known) h.at_keys.known h.checked;
         below = h.below;
         resolved = h.resolved ∙ sym (resolve-in_longer rows longer l v ss known);
       }

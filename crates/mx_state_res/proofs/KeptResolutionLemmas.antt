@@ -1,8 +1,9 @@
 -- Events that were checked, and one more among them.
-use Rattle.std.proofs.Common.{◌≡◌, ℕ, zero, suc, ◌+◌, ◌≤◌, ◌<◌, Bool, true, false, not, List, [], ◌∷◌, ◌++◌, map, length, take, drop, slice_index_or, Option, Some, None, refl, sym, ap, ap₂, subst, ◌∙◌, arith, ◌==◌, ◌||◌, cond, eq-eqb, eqb-true}
-use Rattle.std.specs.Prelude.{IfSome, bytes_eq, if◌then◌else◌, fold, is_some, slice_get}
+use Rattle.std.proofs.Common.{◌≡◌, ℕ, zero, suc, ◌+◌, ◌≤◌, ◌<◌, Bool, true, false, not, List, [], ◌∷◌, ◌++◌, length, take, drop, slice_index_or, Option, Some, None, inl, inr, refl, sym, ap, subst, ◌∙◌, arith, ◌==◌, ◌&&◌, ◌||◌, cond, eq-eqb, eqb-true}
+use Rattle.std.specs.Prelude.{IfSome, bytes_eq, if◌then◌else◌, is_some, option_map, slice_get}
+use Rattle.std.proofs.Math.Bool.{beq}
 use Rattle.std.proofs.lemmas.Bool.Decides.{Decides-eqb}
-use Rattle.std.proofs.lemmas.Slice.Eq.{slice_eq-Decides}
+use Rattle.std.proofs.lemmas.Slice.Eq.{bytes_eq-Decides, slice_eq-Decides}
 use Rattle.std.specs.List.{All}
 use Rattle.std.specs.declared.cmp.Ordering.{Ordering}
 use Rattle.std.specs.declared.cmp.Ordering.TheVariants.{Less, Equal, Greater}
@@ -11,23 +12,25 @@ use Rattle.std.specs.Cmp.{IsTotalOrder, upto}
 use Rattle.std.specs.FinMap.Entries.{by_order, put}
 use Rattle.std.proofs.lemmas.List.{map-append}
 use Rattle.std.proofs.lemmas.List.Sums.{fold-append}
-use Rattle.mx_redact.specs.Fields.{is_some_and}
+use Rattle.mx_redact.specs.Fields.{Event, is_some_and, kind}
+use Rattle.mx_pdu.specs.Event.{state_key_of}
 use Rattle.mx_auth.specs.Rules.{Key, key_of, same_key}
 use Rattle.mx_auth.specs.declared.versions.RoomVersion.{RoomVersion}
 use Rattle.mx_graph.specs.Record.{Row, event, is_in}
+use Rattle.mx_graph.proofs.Members.{In}
 use Rattle.mx_orders.specs.StateMap.{State, entry, key_cmp, with_event}
 use Rattle.mx_orders.specs.Mainline.{mainline_cmp, mainline_order, put_in_order}
-use Rattle.mx_orders.proofs.PlaceLemmas.{mainline_cmp-total}
+use Rattle.mx_state_res.specs.Numbered.{state_at}
 use Rattle.mx_state_res.specs.Resolution.{after_check, iterative_auth_checks}
 use Rattle.mx_state_res.specs.LaterResolution.{is_put, stays}
-use Rattle.mx_state_res.specs.KeptResolutions.{AreAt, AreChecked, IsInOrder, events_checked, last_put}
+use Rattle.mx_state_res.specs.KeptResolutions.{AreChecked, IsInOrder, events_checked}
 use Rattle.mx_state_res.specs.declared.kept_resolutions.checked_events.CheckedEvent.{CheckedEvent}
 use Rattle.mx_state_res.proofs.KeyLemmas.{Sorted, key_cmp-itself}
 use Rattle.mx_state_res.proofs.KnownLemmas.{find-known}
 use Rattle.mx_state_res.proofs.EntryLemmas.{equal-keys, same-states}
 use Rattle.mx_state_res.proofs.LaterStateLemmas.{put-elsewhere, put-there, sorted-put}
-use Rattle.std.proofs.lemmas.List.Elements.{All-tail}
-use Rattle.mx_state_res.proofs.TestLemmas.{and-first, and-second}
+use Rattle.mx_state_res.proofs.LaterCheckLemmas.{put-beside, sorted-with}
+use Rattle.mx_state_res.proofs.TestLemmas.{and-first, and-make, and-second}
 
 -- ---- events that were checked
 
@@ -68,6 +71,68 @@ replaced v rows key x s c cs all d e f k h =
 
     at : is_some_and (eq_by_cmp key_cmp key) (key_of (event rows c.event)) ≡ true
     at = ap (is_some_and (eq_by_cmp key_cmp key)) k ∙ ap is_eq (key_cmp-itself key)
+
+-- an event that stands at no such key
+pub other-key : (k : Key) (o : Option Key) → is_some_and (same_key k) o ≡ false → is_some_and (eq_by_cmp key_cmp k) o ≡ false
+other-key k None e = refl
+other-key k (Some q) e = by (eq_by_cmp key_cmp k q) refl
+  where
+    by : (b : Bool) → eq_by_cmp key_cmp k q ≡ b → eq_by_cmp key_cmp k q ≡ false
+    by false h = h
+    by true h =
+        let itself : same_key k k ≡ true = and-make (bytes_eq k.0 k.0) (bytes_eq k.1 k.1) ((bytes_eq-Decides k.0 k.0).1 refl) ((bytes_eq-Decides k.1 k.1).1 refl) in
+        absurd (cc (sym itself ∙ ap (same_key k) (equal-keys k q h) ∙ e))
+
+-- an event that is judged as it was, and is not put at the key, is passed
+pub goes-on : (v : RoomVersion) (rows : List Row) (key : Key) (x : ℕ) (s after : State) (c : CheckedEvent) (cs all : List CheckedEvent) → all ≡ c ∷ cs → Sorted s → is_put v rows (put key_cmp key x s) c.event ≡ c.is_put
+    → (c.is_put && is_some_and (same_key key) (key_of (event rows c.event))) ≡ false
+    → after ≡ (if c.is_put then with_event (put key_cmp key x s) (event rows c.event) c.event else put key_cmp key x s) → AreChecked v rows s all
+    → (t : State) × ((after ≡ put key_cmp key x t) × (Sorted t × (AreChecked v rows t cs × (stays v rows key x s (events_checked all) ≡ stays v rows key x t (events_checked cs)))))
+unfolding after_check
+goes-on v rows key x s after c cs all are sorted judged other is h = by c.is_put refl
+  where
+    here : AreChecked v rows s (c ∷ cs)
+    here = subst (AreChecked v rows s) are h
+
+    elsewhere : c.is_put ≡ true → is_some_and (eq_by_cmp key_cmp key) (key_of (event rows c.event)) ≡ false
+    elsewhere m = other-key key (key_of (event rows c.event)) (ap (λ b. b && is_some_and (same_key key) (key_of (event rows c.event))) (sym m) ∙ other)
+
+    by : (b : Bool) → c.is_put ≡ b → (t : State) × ((after ≡ put key_cmp key x t) × (Sorted t × (AreChecked v rows t cs × (stays v rows key x s (events_checked all) ≡ stays v rows key x t (events_checked cs)))))
+    by true m =
+        let was : is_put v rows s c.event ≡ true = sym here.0 ∙ m in
+        let with_it : is_put v rows (put key_cmp key x s) c.event ≡ true = judged ∙ m in
+        let apart : is_some_and (eq_by_cmp key_cmp key) (key_of (event rows c.event)) ≡ false = elsewhere m in (
+          with_event s (event rows c.event) c.event,
+          (
+            is ∙ ap (λ b. if b then with_event (put key_cmp key x s) (event rows c.event) c.event else put key_cmp key x s) m ∙ put-beside key x c.event s (key_of (event rows c.event)) sorted apart,
+            (
+              sorted-with (key_of (event rows c.event)) c.event s sorted,
+              (
+                subst (λ t. AreChecked v rows t cs) (ap (λ b. if b then with_event s (event rows c.event) c.event else s) was) here.1,
+                ap (λ ds. stays v rows key x s (events_checked ds)) are
+                    ∙ (λ i. if was i then (if with_it i then (if apart i then Some false else stays v rows key x (with_event s (event rows c.event) c.event) (events_checked cs)) else None)
+                    else (if is_put v rows (put key_cmp key x s) c.event then None else stays v rows key x s (events_checked cs))),
+              ),
+            ),
+          ),
+        )
+    by false m =
+        let r = passed v rows key x s c cs all are m (judged ∙ m) h in (
+          s,
+          (is ∙ ap (λ b. if b then with_event (put key_cmp key x s) (event rows c.event) c.event else put key_cmp key x s) m, (sorted, (r.0, r.1))),
+        )
+
+-- ---- events that are put again
+
+pub again : (v : RoomVersion) (rows : List Row) (s after : State) (c : CheckedEvent) (cs all : List CheckedEvent) → all ≡ c ∷ cs → after ≡ (if c.is_put then with_event s (event rows c.event) c.event else s) → AreChecked v rows s all
+    → AreChecked v rows after cs × (iterative_auth_checks v rows after (events_checked cs) ≡ iterative_auth_checks v rows s (events_checked all))
+unfolding after_check
+again v rows s after c cs all are is h =
+    let here : AreChecked v rows s (c ∷ cs) = subst (AreChecked v rows s) are h in
+    let next : after_check v rows s c.event ≡ after = ap (λ b. if b then with_event s (event rows c.event) c.event else s) (sym here.0) ∙ sym is in (
+      subst (λ t. AreChecked v rows t cs) next here.1,
+      ap (λ t. iterative_auth_checks v rows t (events_checked cs)) (sym next) ∙ ap (λ ds. iterative_auth_checks v rows s (events_checked ds)) (sym are),
+    )
 
 -- ---- the place of an event
 
@@ -110,6 +175,13 @@ at-key k (Some q) e = λ i. Some (sym (bytes-same k.0 q.0 (and-first (bytes_eq k
 pub entry-known : (n : ℕ) (s : State) (k : Key) (p : ℕ) → All (λ e. e.1 < n) s → entry s k ≡ Some p → p < n
 entry-known n s k p h e = subst (λ o. IfSome o (λ q. q < n)) e (find-known key_cmp (λ q. q < n) k s h)
 
+-- a map that is not empty has an entry
+pub has-first : (d : State) (e : Key × ℕ) → slice_get d 0 ≡ Some e → is_some (entry d e.0) ≡ true
+has-first [] e h = absurd (cc h)
+has-first (a ∷ d) e h =
+    let same : a ≡ e = cc h in
+    ap (λ (q : Key × ℕ). is_some (entry (a ∷ d) q.0)) (sym same) ∙ ap (λ r. is_some (cond (is_eq r) (Some a.1) (entry d a.0))) (key_cmp-itself a.0)
+
 -- a map of one entry has no other
 pub one-entry : (d : State) (k q : Key) → length d ≡ 1 → is_some (entry d k) ≡ true → is_eq (key_cmp q k) ≡ false → entry d q ≡ None
 one-entry [] k q l e other = absurd (cc l)
@@ -126,6 +198,14 @@ one-entry (a ∷ []) k q l e other = none (is_eq (key_cmp q a.0)) refl (there (i
     none : (b : Bool) → is_eq (key_cmp q a.0) ≡ b → is_eq (key_cmp k a.0) ≡ true → entry (a ∷ []) q ≡ None
     none true c h = absurd (cc (sym (ap (λ z. is_eq (key_cmp q z)) (equal-keys k a.0 h) ∙ c) ∙ other))
     none false c h = ap (λ b. cond b (Some a.1) nothing) c
+
+-- nor at another key than its first
+pub only-entry : (d : State) (e : Key × ℕ) (q : Key) → slice_get d 0 ≡ Some e → length d ≡ 1 → is_eq (key_cmp q e.0) ≡ false → entry d q ≡ None
+only-entry d e q h l other = one-entry d e.0 q l (has-first d e h) other
+
+-- the key of a row
+pub row-key : (e : Event) (kind_is state_key : List ℕ) → kind_is ≡ kind e → Some state_key ≡ state_key_of e → key_of e ≡ Some (kind_is, state_key)
+row-key e kind_is state_key k s = ap (option_map (λ (q : List ℕ). (kind e, q))) (sym s) ∙ (λ i. Some (sym k i, state_key))
 
 -- ---- the order of two events
 
@@ -153,6 +233,17 @@ pub not-false : (b : Bool) → not b ≡ false → b ≡ true
 not-false true e = refl
 not-false false e = absurd (cc e)
 
+pub same-truth : (a b : Bool) → not (beq a b) ≡ false → a ≡ b
+same-truth true true e = refl
+same-truth false false e = refl
+same-truth true false e = absurd (cc e)
+same-truth false true e = absurd (cc e)
+
+-- the state that was added last
+pub last-added : (states : List State) (t : State) → state_at (states ++ t ∷ []) (length states) ≡ t
+last-added [] t = refl
+last-added (s ∷ states) t = last-added states t
+
 -- ---- events by their places
 
 pub event-at : (cs : List CheckedEvent) (i : ℕ) (d : CheckedEvent) → i < length cs → slice_index_or (events_checked cs) i 0 ≡ (slice_index_or cs i d).event
@@ -173,8 +264,10 @@ other-at (y ∷ ys) (suc i) x l e = other-at ys i x (omega arith) (second (y == 
     second true b k = absurd (cc k)
     second false b k = k
 
-pub first-key : (d : State) (key : Key) (p : ℕ) (e : Key × ℕ) → d ≡ (key, p) ∷ [] → slice_get d 0 ≡ Some e → e.0 ≡ key
-first-key d key p e are first = let h : Some (key, p) ≡ Some e = ap (λ ys. slice_get ys 0) (sym are) ∙ first in let g : (key, p) ≡ e = cc h in ap (λ (q : Key × ℕ). q.0) (sym g)
+pub in-place : (xs : List ℕ) (i d : ℕ) → i < length xs → In (slice_index_or xs i d) xs
+in-place [] i d l = absurd (omega arith)
+in-place (x ∷ xs) zero d l = inl refl
+in-place (x ∷ xs) (suc i) d l = inr (in-place xs i d (omega arith))
 
 -- a state that differs at one key alone is the other one with its event put there
 pub put-over : (s t : State) (key : Key) (x : ℕ) → Sorted s → Sorted t → entry t key ≡ Some x → ((q : Key) → is_eq (key_cmp q key) ≡ false → entry s q ≡ entry t q) → t ≡ put key_cmp key x s
@@ -183,15 +276,6 @@ put-over s t key x g h there same = same-states t (put key_cmp key x s) h (sorte
     by : (q : Key) (b : Bool) → is_eq (key_cmp q key) ≡ b → entry t q ≡ entry (put key_cmp key x s) q
     by q true e = ap (entry t) (equal-keys q key e) ∙ there ∙ sym (put-there key x s) ∙ ap (entry (put key_cmp key x s)) (sym (equal-keys q key e))
     by q false e = sym (same q e) ∙ sym (put-elsewhere key x s q e)
-
--- the last event that was put is one of them
-pub last-known : (n : ℕ) (cs : List CheckedEvent) (o : Option ℕ) → IfSome o (λ p. p < n) → All (λ (c : CheckedEvent). c.event < n) cs → IfSome (last_put o cs) (λ p. p < n)
-last-known n [] o h k = h
-last-known n (c ∷ cs) o h k = last-known n cs (if c.is_put then Some c.event else o) (by c.is_put) (All-tail (λ (d : CheckedEvent). d.event < n) c cs k)
-  where
-    by : (b : Bool) → IfSome (if b then Some c.event else o) (λ p. p < n)
-    by true = k 0 c (omega arith)
-    by false = h
 
 pub if-some : {A : Type 0} (P Q : A → Type 0) (o : Option A) → ((x : A) → P x → Q x) → IfSome o P → IfSome o Q
 if-some P Q None f h = tt

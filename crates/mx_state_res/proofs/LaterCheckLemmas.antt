@@ -43,6 +43,12 @@ put-swapped j k x p s h other =
     by q true a false b o = refl
     by q false a c b o = refl
 
+-- an event that is put elsewhere goes past it
+pub put-beside : (k : Key) (x p : ℕ) (s : State) (o : Option Key) → Sorted s → is_some_and (eq_by_cmp key_cmp k) o ≡ false
+    → unwrap_or (option_map (λ key. put key_cmp key p (put key_cmp k x s)) o) (put key_cmp k x s) ≡ put key_cmp k x (unwrap_or (option_map (λ key. put key_cmp key p s) o) s)
+put-beside k x p s None h e = refl
+put-beside k x p s (Some j) h e = put-swapped j k x p s h e
+
 -- ---- the checks
 
 -- what an event that was put makes of checks
@@ -51,7 +57,7 @@ IsEnd k x None with_it without_it = Unit {0}
 IsEnd k x (Some true) with_it without_it = with_it ≡ put key_cmp k x without_it
 IsEnd k x (Some false) with_it without_it = with_it ≡ without_it
 
-sorted-with : (o : Option Key) (p : ℕ) (s : State) → Sorted s → Sorted (unwrap_or (option_map (λ key. put key_cmp key p s) o) s)
+pub sorted-with : (o : Option Key) (p : ℕ) (s : State) → Sorted s → Sorted (unwrap_or (option_map (λ key. put key_cmp key p s) o) s)
 sorted-with None p s h = h
 sorted-with (Some k) p s h = sorted-put k p s h
 

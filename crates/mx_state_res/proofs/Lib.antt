@@ -46,5 +46,6 @@ pub mod KeyOrderLemmas
 pub mod KeyEventLemmas
 pub mod KeptResolutionLemmas
 pub mod OneMoreLemmas
+pub mod KeptStateLemmas
 pub mod KeptGrowthLemmas
 pub mod FirstRecordLemmas

@@ -1,16 +1,15 @@
 -- One state more among those that were resolved.
-use Rattle.std.proofs.Common.{◌≡◌, ℕ, zero, suc, ◌+◌, ◌≤◌, ◌<◌, Bool, true, false, List, [], ◌∷◌, ◌++◌, map, length, take, drop, slice_index_or, Option, Some, None, inl, inr, refl, sym, ap, ap₂, subst, ◌∙◌, arith}
-use Rattle.std.specs.Prelude.{if◌then◌else◌, fold, option_map, unwrap_or, IfSome, get_or}
+use Rattle.std.proofs.Common.{◌≡◌, ℕ, ◌+◌, ◌<◌, Bool, true, false, List, [], ◌∷◌, ◌++◌, length, take, drop, Option, Some, None, inl, inr, refl, sym, ap, ap₂, subst, ◌∙◌, arith}
+use Rattle.std.specs.Prelude.{if◌then◌else◌, option_map, unwrap_or, IfSome, is_some}
 use Rattle.std.specs.List.{All}
 use Rattle.std.specs.FinMap.Entries.{put}
 use Rattle.std.specs.Ordering.{eq_by_cmp}
 use Rattle.mx_redact.specs.Fields.{is_some_and}
 use Rattle.std.proofs.lemmas.List.{drop-map, get_or_append_left, length-append, map-append, take-append-drop, take-map}
-use Rattle.std.proofs.lemmas.List.Elements.{All-append, All-cons, All-drop, All-take, All-tail}
-use Rattle.std.proofs.lemmas.List.Sums.{fold-append}
+use Rattle.std.proofs.lemmas.List.Elements.{All-append, All-cons, All-drop, All-take}
 use Rattle.mx_auth.specs.Rules.{Key, key_of}
 use Rattle.mx_auth.specs.declared.versions.RoomVersion.{RoomVersion}
-use Rattle.mx_graph.specs.Record.{Row, event, is_in}
+use Rattle.mx_graph.specs.Record.{Row, event}
 use Rattle.mx_graph.specs.Graph.{IsSound}
 use Rattle.mx_graph.proofs.Members.{In}
 use Rattle.mx_orders.specs.StateMap.{State, key_cmp, entry, with_event}
@@ -18,19 +17,24 @@ use Rattle.mx_orders.specs.Mainline.{mainline, mainline_cmp, mainline_order, pow
 use Rattle.mx_state_res.specs.Numbered.{AllAlike, without}
 use Rattle.mx_state_res.specs.Resolution.{after_check, full_conflicted, iterative_auth_checks, power_events, resolve, unconflicted}
 use Rattle.mx_state_res.specs.LaterResolution.{IsOneMore, agreed_line, checking_order, is_put, resolution_with, stays}
-use Rattle.mx_state_res.specs.KeptResolutions.{AreAt, AreChecked, DifferAtOneKey, IsOutcome, events_checked, is_put_by, last_put, made_by, with_last}
+use Rattle.mx_state_res.specs.KeptResolutions.{AreAtKeys, AreChecked, DifferAtKeys, IsOutcome, events_checked, is_put_by, made_by}
 use Rattle.mx_state_res.specs.declared.kept_resolutions.KeptResolution.{KeptResolution}
 use Rattle.mx_state_res.specs.declared.kept_resolutions.checked_events.CheckedEvent.{CheckedEvent}
 use Rattle.mx_state_res.specs.declared.kept_resolutions.outcomes.Outcome.{Outcome}
 use Rattle.mx_state_res.specs.declared.kept_resolutions.outcomes.Outcome.TheVariants.{Refused, Replaced, Stays}
 use Rattle.mx_state_res.proofs.KeyLemmas.{Sorted}
-use Rattle.mx_state_res.proofs.LaterCheckLemmas.{put-twice, sorted-checks}
+use Rattle.mx_state_res.proofs.LaterCheckLemmas.{put-beside, put-twice, sorted-checks, sorted-with}
+use Rattle.mx_state_res.proofs.EntryLemmas.{equal-keys}
 use Rattle.mx_state_res.proofs.LaterStateLemmas.{all-sorted, unconflicted-later}
 use Rattle.mx_state_res.proofs.LaterResolutionLemmas.{from-one-before, no-powers, order-is}
 use Rattle.mx_state_res.proofs.SameMembersLemmas.{Within, full-same, resolve-members, sorted-unconflicted, unconflicted-same}
 use Rattle.mx_state_res.proofs.KeptResolutionLemmas.{passed}
 
--- ---- events at one key, as they were checked
+equal-key : (key : Key) (o : Option Key) → is_some_and (eq_by_cmp key_cmp key) o ≡ true → o ≡ Some key
+equal-key key None e = absurd (cc e)
+equal-key key (Some q) e = ap Some (sym (equal-keys key q e))
+
+-- ---- events as they were checked
 
 module _ (v : RoomVersion) (rows : List Row) (key : Key) where
   after-event : (p : ℕ) (b : Bool) (s : State) → is_put v rows s p ≡ b → key_of (event rows p) ≡ Some key → after_check v rows s p ≡ (if b then put key_cmp key p s else s)
@@ -39,52 +43,36 @@ module _ (v : RoomVersion) (rows : List Row) (key : Key) where
       ap (λ c. if c then with_event s (event rows p) p else s) flag
       ∙ ap (λ t. if b then t else s) (ap (λ o. unwrap_or (option_map (λ k. put key_cmp k p s) o) s) at)
 
-  last-one : (p : ℕ) (b : Bool) (s : State) (o : Option ℕ) → Sorted s → (if b then put key_cmp key p (with_last key s o) else with_last key s o) ≡ with_last key s (if b then Some p else o)
-  last-one p true s None h = refl
-  last-one p true s (Some q) h = put-twice key q p s h
-  last-one p false s o h = refl
-
-  -- the last event that was put is the one that stands there
-  pub checks-last : (cs : List CheckedEvent) (s : State) (o : Option ℕ) → Sorted s → AreChecked v rows (with_last key s o) cs → AreAt rows key cs
-      → iterative_auth_checks v rows (with_last key s o) (events_checked cs) ≡ with_last key s (last_put o cs)
-  checks-last [] s o h f a = refl
-  checks-last (c ∷ cs) s o h f a =
-      let next : after_check v rows (with_last key s o) c.event ≡ with_last key s (if c.is_put then Some c.event else o) =
-      after-event c.event c.is_put (with_last key s o) (sym f.0) (a 0 c (omega arith)) ∙ last-one c.event c.is_put s o h in
-      ap (λ t. iterative_auth_checks v rows t (events_checked cs)) next
-      ∙ checks-last cs s (if c.is_put then Some c.event else o) h (subst (λ t. AreChecked v rows t cs) next f.1) (All-tail (λ (d : CheckedEvent). key_of (event rows d.event) ≡ Some key) c cs a)
-
-  -- ---- some of them
-
-  pub checked-front : (fs bs : List CheckedEvent) (s : State) → AreChecked v rows s (fs ++ bs) → AreChecked v rows s fs
-  checked-front [] bs s f = tt
-  checked-front (c ∷ fs) bs s f = (f.0, checked-front fs bs (after_check v rows s c.event) f.1)
-
-  pub checked-back : (fs bs : List CheckedEvent) (s : State) → AreChecked v rows s (fs ++ bs) → AreChecked v rows (iterative_auth_checks v rows s (events_checked fs)) bs
-  checked-back [] bs s f = f
-  checked-back (c ∷ fs) bs s f = checked-back fs bs (after_check v rows s c.event) f.1
-
-  checked-join : (fs bs : List CheckedEvent) (s : State) → AreChecked v rows s fs → AreChecked v rows (iterative_auth_checks v rows s (events_checked fs)) bs → AreChecked v rows s (fs ++ bs)
-  checked-join [] bs s f g = g
-  checked-join (c ∷ fs) bs s f g = (f.0, checked-join fs bs (after_check v rows s c.event) f.1 g)
-
   -- ---- with an event before them
 
-  checked-after : (x : ℕ) (cs : List CheckedEvent) (s : State) (b : Bool) → Sorted s → AreChecked v rows s cs → AreAt rows key cs → stays v rows key x s (events_checked cs) ≡ Some b
-      → AreChecked v rows (put key_cmp key x s) cs
-  checked-after x [] s b h f a e = tt
-  checked-after x (c ∷ cs) s b h f a e =
-      by (λ g i k. checked-after x cs s b h g i k) (is_put v rows s c.event) refl (is_put v rows (put key_cmp key x s) c.event) refl
+  checked-after : (x : ℕ) (cs : List CheckedEvent) (s : State) (b : Bool) → Sorted s → AreChecked v rows s cs → stays v rows key x s (events_checked cs) ≡ Some b → AreChecked v rows (put key_cmp key x s) cs
+  unfolding after_check
+  checked-after x [] s b h f e = tt
+  checked-after x (c ∷ cs) s b h f e =
+      by (λ t g i k. checked-after x cs t b g i k) (is_put v rows s c.event) refl (is_put v rows (put key_cmp key x s) c.event) refl
     where
-      at : key_of (event rows c.event) ≡ Some key
-      at = a 0 c (omega arith)
+      o : Option Key
+      o = key_of (event rows c.event)
 
-      by : (AreChecked v rows s cs → AreAt rows key cs → stays v rows key x s (events_checked cs) ≡ Some b → AreChecked v rows (put key_cmp key x s) cs)
+      both : ((t : State) → Sorted t → AreChecked v rows t cs → stays v rows key x t (events_checked cs) ≡ Some b → AreChecked v rows (put key_cmp key x t) cs)
+          → is_put v rows s c.event ≡ true → is_put v rows (put key_cmp key x s) c.event ≡ true → (here : Bool) → is_some_and (eq_by_cmp key_cmp key) o ≡ here
+          → AreChecked v rows (after_check v rows (put key_cmp key x s) c.event) cs
+      both later p q true at =
+          let there : o ≡ Some key = equal-key key o at in
+          subst (λ t. AreChecked v rows t cs) (after-event c.event true s p there ∙ sym (put-twice key x c.event s h) ∙ sym (after-event c.event true (put key_cmp key x s) q there)) f.1
+      both later p q false at =
+          let without_it : after_check v rows s c.event ≡ with_event s (event rows c.event) c.event = ap (λ d. if d then with_event s (event rows c.event) c.event else s) p in
+          let with_it : after_check v rows (put key_cmp key x s) c.event ≡ put key_cmp key x (with_event s (event rows c.event) c.event) =
+          ap (λ d. if d then with_event (put key_cmp key x s) (event rows c.event) c.event else put key_cmp key x s) q ∙ put-beside key x c.event s o h at in
+          let onward : stays v rows key x s (events_checked (c ∷ cs)) ≡ stays v rows key x (with_event s (event rows c.event) c.event) (events_checked cs) = (λ k. if p k then
+          (if q k then (if at k then Some false else stays v rows key x (with_event s (event rows c.event) c.event) (events_checked cs)) else None)
+          else (if q k then None else stays v rows key x s (events_checked cs))) in
+          subst (λ t. AreChecked v rows t cs) (sym with_it)
+          (later (with_event s (event rows c.event) c.event) (sorted-with o c.event s h) (subst (λ t. AreChecked v rows t cs) without_it f.1) (sym onward ∙ e))
+
+      by : ((t : State) → Sorted t → AreChecked v rows t cs → stays v rows key x t (events_checked cs) ≡ Some b → AreChecked v rows (put key_cmp key x t) cs)
           → (i : Bool) → is_put v rows s c.event ≡ i → (j : Bool) → is_put v rows (put key_cmp key x s) c.event ≡ j → AreChecked v rows (put key_cmp key x s) (c ∷ cs)
-      by later true p true q = (
-        f.0 ∙ p ∙ sym q,
-        subst (λ t. AreChecked v rows t cs) (after-event c.event true s p at ∙ sym (put-twice key x c.event s h) ∙ sym (after-event c.event true (put key_cmp key x s) q at)) f.1,
-      )
+      by later true p true q = (f.0 ∙ p ∙ sym q, both later p q (is_some_and (eq_by_cmp key_cmp key) o) refl)
       by later true p false q =
           let gone : stays v rows key x s (events_checked (c ∷ cs)) ≡ None = (λ k. if p k then
           (if q k then (if is_some_and (eq_by_cmp key_cmp key) (key_of (event rows c.event)) then Some false else stays v rows key x (with_event s (event rows c.event) c.event) (events_checked cs)) else None)
@@ -98,26 +86,38 @@ module _ (v : RoomVersion) (rows : List Row) (key : Key) where
       by later false p false q =
           let r = passed v rows key x s c cs (c ∷ cs) refl (f.0 ∙ p) q f in (
             f.0 ∙ p ∙ sym q,
-            subst (λ t. AreChecked v rows t cs) (sym (after-event c.event false (put key_cmp key x s) q at))
-                (later r.0 (All-tail (λ (d : CheckedEvent). key_of (event rows d.event) ≡ Some key) c cs a) (sym r.1 ∙ e)),
+            subst (λ t. AreChecked v rows t cs) (sym (ap (λ d. if d then with_event (put key_cmp key x s) (event rows c.event) c.event else put key_cmp key x s) q))
+                (later s h r.0 (sym r.1 ∙ e)),
           )
 
--- ---- the state between two of them
+-- ---- some of them
 
-module _ (v : RoomVersion) (rows : List Row) (key : Key) (order : List CheckedEvent) (place : ℕ) (agreed : State) (h : Sorted agreed) (checked : AreChecked v rows agreed order) (at : AreAt rows key order) where
+module _ (v : RoomVersion) (rows : List Row) where
+  checked-front : (fs bs : List CheckedEvent) (s : State) → AreChecked v rows s (fs ++ bs) → AreChecked v rows s fs
+  checked-front [] bs s f = tt
+  checked-front (c ∷ fs) bs s f = (f.0, checked-front fs bs (after_check v rows s c.event) f.1)
+
+  checked-back : (fs bs : List CheckedEvent) (s : State) → AreChecked v rows s (fs ++ bs) → AreChecked v rows (iterative_auth_checks v rows s (events_checked fs)) bs
+  checked-back [] bs s f = f
+  checked-back (c ∷ fs) bs s f = checked-back fs bs (after_check v rows s c.event) f.1
+
+  checked-join : (fs bs : List CheckedEvent) (s : State) → AreChecked v rows s fs → AreChecked v rows (iterative_auth_checks v rows s (events_checked fs)) bs → AreChecked v rows s (fs ++ bs)
+  checked-join [] bs s f g = g
+  checked-join (c ∷ fs) bs s f g = (f.0, checked-join fs bs (after_check v rows s c.event) f.1 g)
+
+-- ---- between two of them
+
+module _ (v : RoomVersion) (rows : List Row) (order : List CheckedEvent) (place : ℕ) (agreed : State) (checked : AreChecked v rows agreed order) where
   parts : AreChecked v rows agreed (take place order ++ drop place order)
   parts = subst (AreChecked v rows agreed) (sym (take-append-drop place order)) checked
 
-  last-is : iterative_auth_checks v rows agreed (events_checked (take place order)) ≡ with_last key agreed (last_put None (take place order))
-  last-is =
-      checks-last v rows key (take place order) agreed None h (checked-front v rows key (take place order) (drop place order) agreed parts)
-      (All-take (λ (d : CheckedEvent). key_of (event rows d.event) ≡ Some key) place order at)
+  pub checked-before : AreChecked v rows agreed (take place order)
+  checked-before = checked-front v rows (take place order) (drop place order) agreed parts
 
-  pub state-between : with_last key agreed (last_put None (take place order)) ≡ iterative_auth_checks v rows agreed (take place (events_checked order))
-  state-between = sym last-is ∙ ap (iterative_auth_checks v rows agreed) (sym (take-map (λ (d : CheckedEvent). d.event) place order))
-
-  pub checked-between : AreChecked v rows (with_last key agreed (last_put None (take place order))) (drop place order)
-  checked-between = subst (λ t. AreChecked v rows t (drop place order)) last-is (checked-back v rows key (take place order) (drop place order) agreed parts)
+  pub checked-behind : AreChecked v rows (iterative_auth_checks v rows agreed (take place (events_checked order))) (drop place order)
+  checked-behind =
+      subst (λ ps. AreChecked v rows (iterative_auth_checks v rows agreed ps) (drop place order)) (sym (take-map (λ (d : CheckedEvent). d.event) place order))
+      (checked-back v rows (take place order) (drop place order) agreed parts)
 
 -- ---- lists
 
@@ -143,13 +143,10 @@ alike-front key (u ∷ ss) t h = λ k d l.
 
 -- ---- the resolution with one state more
 
-module _ (rows : List Row) (sound : IsSound rows) (v : RoomVersion) (ss : List State) (base : State) (kept : KeptResolution) (one_key : DifferAtOneKey rows ss base kept)
-    (checked : AreChecked v rows (unconflicted ss) kept.order.items) (s : State) (x : ℕ) (one : IsOneMore rows ss s one_key.key x) (place : ℕ)
+module _ (rows : List Row) (sound : IsSound rows) (v : RoomVersion) (ss : List State) (base : State) (kept : KeptResolution) (at_keys : DifferAtKeys rows ss base kept)
+    (checked : AreChecked v rows (unconflicted ss) kept.order.items) (s : State) (key : Key) (x : ℕ) (there : is_some (entry kept.differing key) ≡ true) (one : IsOneMore rows ss s key x) (place : ℕ)
     (placed : put_in_order (mainline_cmp rows (agreed_line rows ss)) x (events_checked kept.order.items) ≡ take place (events_checked kept.order.items) ++ (x ∷ drop place (events_checked kept.order.items)))
-    (o : Outcome) (outcome : IsOutcome v rows one_key.key x (iterative_auth_checks v rows (unconflicted ss) (take place (events_checked kept.order.items))) (drop place (events_checked kept.order.items)) o) where
-  abbrev key : Key
-  key = one_key.key
-
+    (o : Outcome) (outcome : IsOutcome v rows key x (iterative_auth_checks v rows (unconflicted ss) (take place (events_checked kept.order.items))) (drop place (events_checked kept.order.items)) o) where
   abbrev order : List CheckedEvent
   order = kept.order.items
 
@@ -192,7 +189,7 @@ module _ (rows : List Row) (sound : IsSound rows) (v : RoomVersion) (ss : List S
       ∙ order-is rows sound v ss s key x one
 
   in-turn : checking_order rows ss ≡ before ++ after
-  in-turn = sym one_key.order ∙ sym (take-append-drop place (events_checked order))
+  in-turn = sym at_keys.order ∙ sym (take-append-drop place (events_checked order))
 
   resolution-is : (p : Outcome) → IsOutcome v rows key x before_it after p → resolution_with v rows ss key x before after ≡ Some (made_by p key x (resolve v rows ss))
   resolution-is Refused h = λ i. if h i then option_map (λ here. if here then put key_cmp key x (resolve v rows ss) else resolve v rows ss) (stays v rows key x before_it after) else Some (resolve v rows ss)
@@ -210,31 +207,26 @@ module _ (rows : List Row) (sound : IsSound rows) (v : RoomVersion) (ss : List S
     abbrev order_more : List CheckedEvent
     order_more = take place order ++ c ∷ drop place order
 
-    at-more : AreAt rows key order_more
-    at-more =
-        let P : CheckedEvent → Type 0 = λ d. key_of (event rows d.event) ≡ Some key in
-        All-append P (take place order) (c ∷ drop place order) (All-take P place order one_key.at)
-        (All-cons P c (drop place order) (ap (λ y. key_of (event rows y)) is ∙ one.at_key) (All-drop P place order one_key.at))
-
     known-more : All (λ (d : CheckedEvent). d.event < length rows) order_more
     known-more =
         let P : CheckedEvent → Type 0 = λ d. d.event < length rows in
-        All-append P (take place order) (c ∷ drop place order) (All-take P place order one_key.known)
-        (All-cons P c (drop place order) (subst (λ n. n < length rows) (sym is) one.known) (All-drop P place order one_key.known))
+        All-append P (take place order) (c ∷ drop place order) (All-take P place order at_keys.known)
+        (All-cons P c (drop place order) (subst (λ n. n < length rows) (sym is) one.known) (All-drop P place order at_keys.known))
+
+    at-more : AreAtKeys rows kept.differing order_more
+    at-more =
+        let P : CheckedEvent → Type 0 = λ d. is_some_and (λ k. is_some (entry kept.differing k)) (key_of (event rows d.event)) ≡ true in
+        All-append P (take place order) (c ∷ drop place order) (All-take P place order at_keys.at)
+        (All-cons P c (drop place order) (ap (is_some_and (λ k. is_some (entry kept.differing k))) (ap (λ y. key_of (event rows y)) is ∙ one.at_key) ∙ there) (All-drop P place order at_keys.at))
 
     events-more : events_checked order_more ≡ checking_order rows more
     events-more =
         map-append (λ (d : CheckedEvent). d.event) (take place order) (c ∷ drop place order)
         ∙ (λ i. sym (take-map (λ (d : CheckedEvent). d.event) place order) i ++ is i ∷ sym (drop-map (λ (d : CheckedEvent). d.event) place order) i)
-        ∙ sym placed ∙ ap (put_in_order (mainline_cmp rows (agreed_line rows ss)) x) one_key.order ∙ sym order-more
-
-    whole : AreChecked v rows agreed (take place order ++ drop place order)
-    whole = subst (AreChecked v rows agreed) (sym (take-append-drop place order)) checked
+        ∙ sym placed ∙ ap (put_in_order (mainline_cmp rows (agreed_line rows ss)) x) at_keys.order ∙ sym order-more
 
     behind : AreChecked v rows before_it (drop place order)
-    behind =
-        subst (λ ps. AreChecked v rows (iterative_auth_checks v rows agreed ps) (drop place order)) (sym (take-map (λ (d : CheckedEvent). d.event) place order))
-        (checked-back v rows key (take place order) (drop place order) agreed whole)
+    behind = checked-behind v rows order place agreed checked
 
     sorted_before : Sorted before_it
     sorted_before = sorted-checks v rows before agreed (sorted-unconflicted ss one.sorted)
@@ -242,7 +234,7 @@ module _ (rows : List Row) (sound : IsSound rows) (v : RoomVersion) (ss : List S
     put-in : (b : Bool) → is_put v rows before_it x ≡ true → stays v rows key x before_it after ≡ Some b → AreChecked v rows (after_check v rows before_it x) (drop place order)
     put-in b h g =
         subst (λ t. AreChecked v rows t (drop place order)) (sym (after-event v rows key x true before_it h one.at_key))
-        (checked-after v rows key x (drop place order) before_it b sorted_before behind (All-drop (λ (d : CheckedEvent). key_of (event rows d.event) ≡ Some key) place order one_key.at)
+        (checked-after v rows key x (drop place order) before_it b sorted_before behind
         (ap (stays v rows key x before_it) (sym (drop-map (λ (d : CheckedEvent). d.event) place order)) ∙ g))
 
     with-it : (p : Outcome) → IsOutcome v rows key x before_it after p → (is_put_by p ≡ is_put v rows before_it x) × AreChecked v rows (after_check v rows before_it x) (drop place order)
@@ -258,18 +250,17 @@ module _ (rows : List Row) (sound : IsSound rows) (v : RoomVersion) (ss : List S
     pub checked-more : AreChecked v rows (unconflicted more) order_more
     checked-more =
         subst (λ t. AreChecked v rows t order_more) (sym unconflicted-more)
-        (checked-join v rows key (take place order) (c ∷ drop place order) agreed (checked-front v rows key (take place order) (drop place order) agreed whole)
+        (checked-join v rows (take place order) (c ∷ drop place order) agreed (checked-before v rows order place agreed checked)
         (subst (λ ps. AreChecked v rows (iterative_auth_checks v rows agreed ps) (c ∷ drop place order)) (take-map (λ (d : CheckedEvent). d.event) place order) tail))
 
-    pub differ-more : (next : KeptResolution) → next.differing ≡ kept.differing → next.order.items ≡ order_more → DifferAtOneKey rows more base next
+    pub differ-more : (next : KeptResolution) → next.differing ≡ kept.differing → next.order.items ≡ order_more → DifferAtKeys rows more base next
     differ-more next same items = record {
-      key = key;
-      there = one_key.there;
-      differing = same ∙ one_key.differing;
-      apart = λ h. one_key.apart (alike-front key ss (put key_cmp key x s) h);
-      agreed = unconflicted-more ∙ one_key.agreed ∙ ap (λ t. without t base) (sym same);
+      key = at_keys.key;
+      there = ap (λ t. is_some (entry t at_keys.key)) same ∙ at_keys.there;
+      apart = λ q there h. at_keys.apart q (ap (λ t. is_some (entry t q)) (sym same) ∙ there) (alike-front q ss (put key_cmp key x s) h);
+      agreed = unconflicted-more ∙ at_keys.agreed ∙ ap (λ t. without t base) (sym same);
       order = ap events_checked items ∙ events-more;
       known = subst (All (λ (d : CheckedEvent). d.event < length rows)) (sym items) known-more;
-      at = subst (AreAt rows key) (sym items) at-more;
+      at = subst (λ t. AreAtKeys rows t next.order.items) (sym same) (subst (AreAtKeys rows kept.differing) (sym items) at-more);
       no_powers = ap (power_events rows) full-more ∙ no-powers rows sound v ss s key x one;
     }

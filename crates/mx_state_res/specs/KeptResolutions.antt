@@ -1,12 +1,13 @@
 -- For proofs, and for the clauses of what is kept of a resolution.
-use Rattle.std.specs.Prelude.{◌≡◌, ◌≤◌, ◌<◌, ℕ, Bool, true, false, if◌then◌else◌, List, [], ◌∷◌, Option, None, Some, All, length, map, slice_index_or}
+use Rattle.std.specs.Prelude.{◌≡◌, ◌≤◌, ◌<◌, ℕ, Bool, true, false, List, [], ◌∷◌, Some, All, is_some, length, map, slice_index_or}
 use Rattle.std.specs.declared.cmp.Ordering.{Ordering}
 use Rattle.std.specs.Ordering.{is_gt}
 use Rattle.std.specs.FinMap.Entries.{put}
+use Rattle.mx_redact.specs.Fields.{is_some_and}
 use Rattle.mx_auth.specs.Rules.{Key, key_of}
 use Rattle.mx_auth.specs.declared.versions.RoomVersion.{RoomVersion}
 use Rattle.mx_graph.specs.Record.{Row, event}
-use Rattle.mx_orders.specs.StateMap.{State, key_cmp}
+use Rattle.mx_orders.specs.StateMap.{State, entry, key_cmp}
 use Rattle.mx_state_res.specs.LaterResolution.{checking_order, is_put, stays}
 use Rattle.mx_state_res.specs.Numbered.{AllAlike, AreKnown, state_at, without}
 use Rattle.mx_state_res.specs.Resolution.{after_check, full_conflicted, power_events, resolve, unconflicted}
@@ -23,19 +24,9 @@ AreChecked v rows s (c ∷ cs) = (c.is_put ≡ is_put v rows s c.event) × AreCh
 abbrev pub events_checked : List CheckedEvent → List ℕ
 events_checked = map (λ c. c.event)
 
--- they all stand at a key
-abbrev pub AreAt : List Row → Key → List CheckedEvent → Type 0
-AreAt rows key = All (λ c. key_of (event rows c.event) ≡ Some key)
-
--- the last event that was put, or else one from before
-abbrev pub last_put : Option ℕ → List CheckedEvent → Option ℕ
-last_put before [] = before
-last_put before (c ∷ cs) = last_put (if c.is_put then Some c.event else before) cs
-
--- a state with an event at a key, if there is one
-abbrev pub with_last : Key → State → Option ℕ → State
-with_last key s None = s
-with_last key s (Some p) = put key_cmp key p s
+-- each of them stands at one of the keys of a state
+abbrev pub AreAtKeys : List Row → State → List CheckedEvent → Type 0
+AreAtKeys rows keys = All (λ c. is_some_and (λ key. is_some (entry keys key)) (key_of (event rows c.event)) ≡ true)
 
 -- none of them comes after one behind it
 abbrev pub IsInOrder : (ℕ → ℕ → Ordering) → List ℕ → Type 0
@@ -66,16 +57,15 @@ states_of states kept = map (state_at states) kept.numbers.items
 abbrev pub first_of : List State → KeptResolution → State
 first_of states kept = state_at states (slice_index_or kept.numbers.items 0 0)
 
--- states, of which `base` is the first, differ at one key, their events in conflict stand there, and none of them is a power event
-pub record DifferAtOneKey (rows : List Row) (ss : List State) (base : State) (kept : KeptResolution) : Type 0 where
+-- states, of which `base` is the first, differ at some keys, of which `key` is one, their events in conflict stand there, and none of them is a power event
+pub record DifferAtKeys (rows : List Row) (ss : List State) (base : State) (kept : KeptResolution) : Type 0 where
   pub key : Key
-  pub there : ℕ
-  pub differing : kept.differing ≡ (key, there) ∷ []
-  pub apart : AllAlike key ss → ⊥
+  pub there : is_some (entry kept.differing key) ≡ true
+  pub apart : (key : Key) → is_some (entry kept.differing key) ≡ true → AllAlike key ss → ⊥
   pub agreed : unconflicted ss ≡ without kept.differing base
   pub order : events_checked kept.order.items ≡ checking_order rows ss
   pub known : All (λ c. c.event < length rows) kept.order.items
-  pub at : AreAt rows key kept.order.items
+  pub at : AreAtKeys rows kept.differing kept.order.items
   pub no_powers : power_events rows (full_conflicted rows ss) ≡ []
 
 -- what is kept of the resolution of some states
@@ -83,7 +73,7 @@ pub record IsKept (v : RoomVersion) (rows : List Row) (states : List State) (kep
   pub numbers : All (λ n. n < length states) kept.numbers.items
   pub some : 0 < length kept.numbers.items
   pub known : AreKnown rows (states_of states kept)
-  pub one_key : DifferAtOneKey rows (states_of states kept) (first_of states kept) kept
+  pub at_keys : DifferAtKeys rows (states_of states kept) (first_of states kept) kept
   pub checked : AreChecked v rows (unconflicted (states_of states kept)) kept.order.items
   pub below : kept.resolved < length states
   pub resolved : state_at states kept.resolved ≡ resolve v rows (states_of states kept)

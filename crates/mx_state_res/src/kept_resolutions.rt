@@ -27,12 +27,12 @@ const FEWEST_STATES: usize = 8;
 
 /// What is kept of the resolution of some of a room's states, so that with one state more it is worked out from there.
 ///
-/// None of the events in conflict is a power event, and all of them stand at the one key at which the states differ.
+/// None of the events in conflict is a power event, and all of them stand at the keys at which the states differ.
 #[derive(Debug, Drop)]
 pub struct KeptResolution {
     /// The states.
     pub numbers: Vec<StateNo>,
-    /// The one key at which they differ, with an event there.
+    /// The keys at which they differ, with an event at each.
     pub differing: StateMap,
     /// The events in conflict, in the order in which they were checked.
     pub order: Vec<CheckedEvent>,

@@ -1,12 +1,12 @@
 // The event by which a state differs from one that was resolved.
-ghost use Rattle.std.specs.Prelude.{◌≡◌, ◌<◌, ◌∷◌, [], ℕ, All, IfOk, IfSome, IsTrue, Some, false, length};
-ghost use Rattle.std.specs.Ordering.{is_eq};
+ghost use Rattle.std.specs.Prelude.{◌≡◌, ◌<◌, ℕ, All, IfOk, IfSome, Some, false, is_some, length, true};
 ghost use Rattle.std.specs.FinMap.Entries.{put};
 ghost use Rattle.mx_auth.specs.Rules.{Key, key_of};
 ghost use Rattle.mx_graph.specs.Record as record_of;
 ghost use Rattle.mx_graph.specs.Record.{auth_events, is_in};
+ghost use Rattle.mx_orders.specs.Lists.{In};
 ghost use Rattle.mx_orders.specs.StateMap.{State, entry as entry_at, key_cmp};
-ghost use Rattle.mx_state_res.specs.KeptResolutions.{DifferAtOneKey, events_checked, first_of, states_of};
+ghost use Rattle.mx_state_res.specs.KeptResolutions.{DifferAtKeys, events_checked, first_of, states_of};
 ghost use Rattle.mx_state_res.specs.LaterResolution.{IsOneMore};
 ghost use Rattle.mx_state_res.specs.Numbered.{AreKnown, state_at};
 ghost use Rattle.mx_state_res.specs.Resolution as definition;
@@ -22,8 +22,10 @@ use mx_auth::is_at;
 use mx_graph::{EventNo, Graph};
 use std::alloc::{AllocError, Global};
 
-// The event by which a state differs from the last one that was resolved: at a key that is in conflict already, with the
-// auth events of what stands there, new among what is in conflict, and no power event.
+// With so many of the states that were resolved, from the last, a new one is compared.
+const MOST_COMPARED: usize = 16;
+
+// The event by which a state differs from one of the last that were resolved, where there is one.
 pub(crate) fn added_event(
     alloc: Global,
     graph: &Graph,
@@ -34,45 +36,65 @@ pub(crate) fn added_event(
     requires newest { newest < length states.now }
     requires known { AreKnown graph.now states.now }
     requires numbers { All (λ number. number < length states.now) kept.now.numbers.items }
-    requires one_key { DifferAtOneKey graph.now (states_of states.now kept.now) (first_of states.now kept.now) kept.now }
-    ensures event { (key : Key) (there : ℕ) → kept.now.differing ≡ (key, there) ∷ [] → IfOk result (λ told. IfSome told (λ event.
-        (s : State) × IsOneMore graph.now (states_of states.now kept.now) s key event
-        × (state_at states.now newest ≡ put key_cmp key event s))) }
+    requires at_keys { DifferAtKeys graph.now (states_of states.now kept.now) (first_of states.now kept.now) kept.now }
+    ensures event { IfOk result (λ told. IfSome told (λ event.
+        (key : Key) × ((is_some (entry_at kept.now.differing key) ≡ true)
+        × ((s : State) × (IsOneMore graph.now (states_of states.now kept.now) s key event
+        × (state_at states.now newest ≡ put key_cmp key event s)))))) }
+    ensures new { IfOk result (λ told. IfSome told (λ event. is_in (events_checked kept.now.order.items) event ≡ false)) }
+    ensures known { IfOk result (λ told. IfSome told (λ event. event < length graph.now)) }
+{
+    let mut left = kept.numbers.len();
+    let fewest = left.saturating_sub(MOST_COMPARED);
+    while left > fewest {
+        left -= 1;
+        let event = event_beside(alloc, graph, states, kept, kept.numbers[left], newest)?;
+        if event.is_some() {
+            return Ok(event);
+        }
+    }
+    Ok(None)
+}
+
+// The event by which a state differs from one that was resolved: at a key that is in conflict already, with the auth
+// events of what stands there, new among what is in conflict, and no power event.
+fn event_beside(
+    alloc: Global,
+    graph: &Graph,
+    states: &States,
+    kept: &KeptResolution,
+    number: StateNo,
+    newest: StateNo,
+) -> Result<Option<EventNo>, AllocError>
+    requires among { In number kept.now.numbers.items }
+    requires newest { newest < length states.now }
+    requires known { AreKnown graph.now states.now }
+    requires numbers { All (λ number. number < length states.now) kept.now.numbers.items }
+    requires at_keys { DifferAtKeys graph.now (states_of states.now kept.now) (first_of states.now kept.now) kept.now }
+    ensures event { IfOk result (λ told. IfSome told (λ event.
+        (key : Key) × ((is_some (entry_at kept.now.differing key) ≡ true)
+        × ((s : State) × (IsOneMore graph.now (states_of states.now kept.now) s key event
+        × (state_at states.now newest ≡ put key_cmp key event s)))))) }
     ensures new { IfOk result (λ told. IfSome told (λ event. is_in (events_checked kept.now.order.items) event ≡ false)) }
     ensures known { IfOk result (λ told. IfSome told (λ event. event < length graph.now)) }
 {
     all_are_sorted(states, &kept.numbers);
     states.state_is_sorted(newest);
-    let Some((last, _)) = kept.numbers.split_last() else {
+    let differing = states.differing(alloc, &[number, newest])?;
+    let Some(entry) = differing.entries().first() else {
         return Ok(None);
     };
-    let Some(entry) = kept.differing.entries().first() else {
-        return Ok(None);
-    };
-    if !differ_there(alloc, states, *last, newest, entry)? {
-        return Ok(None);
-    }
-    Ok(taking_its_place(graph, states, kept, *last, newest, entry))
-}
-
-/// Whether two states differ at the key of an entry, and nowhere else.
-pub(crate) fn differ_there(
-    alloc: Global,
-    states: &States,
-    one: StateNo,
-    other: StateNo,
-    entry: &StateEntry,
-) -> Result<bool, AllocError>
-    requires one { one < length states.now }
-    requires other { other < length states.now }
-    ensures { IfOk result (λ there. IsTrue there → (key : Key) → is_eq (key_cmp key entry.now.0) ≡ false
-        → entry_at (state_at states.now one) key ≡ entry_at (state_at states.now other) key) }
-{
-    let differing = states.differing(alloc, &[one, other])?;
     if differing.entries().len() != 1 {
-        return Ok(false);
+        return Ok(None);
     }
-    Ok(differing.get(entry.kind(), entry.state_key()).is_some())
+    if kept
+        .differing
+        .get(entry.kind(), entry.state_key())
+        .is_none()
+    {
+        return Ok(None);
+    }
+    Ok(taking_its_place(graph, states, kept, number, newest, entry))
 }
 
 // The event at the key of an entry in the newest state, where it may take the place of the one there.
@@ -80,11 +102,11 @@ fn taking_its_place(
     graph: &Graph,
     states: &States,
     kept: &KeptResolution,
-    last: StateNo,
+    number: StateNo,
     newest: StateNo,
     entry: &StateEntry,
 ) -> Option<EventNo>
-    requires last { last < length states.now }
+    requires number { number < length states.now }
     requires newest { newest < length states.now }
     requires known { AreKnown graph.now states.now }
     ensures { IfSome result (λ event.
@@ -93,12 +115,12 @@ fn taking_its_place(
         × (key_of (record_of.event graph.now event) ≡ Some entry.now.0)
         × (is_in (events_checked kept.now.order.items) event ≡ false)
         × (definition.is_power_event (record_of.event graph.now event) ≡ false)
-        × ((other : ℕ) × (entry_at (state_at states.now last) entry.now.0 ≡ Some other)
+        × ((other : ℕ) × (entry_at (state_at states.now number) entry.now.0 ≡ Some other)
         × (auth_events graph.now (record_of.event graph.now event) ≡ auth_events graph.now (record_of.event graph.now other)))) }
 {
     let (kind, state_key) = (entry.kind(), entry.state_key());
     let event = states.get(newest, kind, state_key)?;
-    let other = states.get(last, kind, state_key)?;
+    let other = states.get(number, kind, state_key)?;
     let row = &graph.row(event).event;
     if !is_at(row, kind, state_key) || is_power_event(row) {
         return None;

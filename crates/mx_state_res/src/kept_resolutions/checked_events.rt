@@ -1,7 +1,9 @@
 // Events that were checked, and one more among them.
-ghost use Rattle.std.specs.Prelude.{◌≡◌, ◌<◌, ℕ, All, IfOk, IfSome, None, OnOk, Option, Some, if◌then◌else◌, length, map};
-ghost use Rattle.std.specs.FinMap.Entries.{put};
-ghost use Rattle.mx_auth.specs.Rules.{Key};
+ghost use Rattle.std.specs.Prelude.{◌≡◌, ◌<◌, ◌&&◌, ℕ, All, IfOk, IfSome, OnOk, Some, T, if◌then◌else◌, length};
+ghost use Rattle.std.specs.FinMap.Entries.{is_sorted, put};
+ghost use Rattle.mx_redact.specs.Fields.{is_some_and};
+ghost use Rattle.mx_auth.specs.Rules.{key_of, same_key};
+ghost use Rattle.mx_graph.specs.Record as record_of;
 ghost use Rattle.mx_orders.specs.StateMap.{State, key_cmp, with_event};
 ghost use Rattle.mx_state_res.specs.KeptResolutions as kept;
 ghost use Rattle.mx_state_res.specs.LaterResolution as later;
@@ -10,7 +12,7 @@ ghost use Rattle.mx_state_res.specs.Resolution as definition;
 
 use crate::checks::judged_states::is_allowed;
 use crate::checks::working_states::WorkingState;
-use mx_auth::RoomVersion;
+use mx_auth::{RoomVersion, is_at};
 use mx_graph::{EventNo, Graph};
 use mx_pdu::Pdu;
 use std::alloc::{AllocError, Global};
@@ -102,48 +104,76 @@ pub(crate) fn is_put(
     graph.row(number).event.state_key().is_some() && is_allowed(version, graph, state, number)
 }
 
-/// The last of these events that was put.
-pub(crate) fn last_put(order: &[CheckedEvent]) -> Option<EventNo>
-    ensures { result ≡ kept.last_put None order.now }
+/// Puts each of these events that was put when they were checked from this state. At an error some of them are put.
+pub(crate) fn put_each(
+    graph: &Graph,
+    state: &mut WorkingState<'_>,
+    order: &[CheckedEvent],
+) -> Result<(), AllocError>
+    requires order { All (λ checked. checked.event < length graph.now) order.now }
+    requires known { All (λ e. e.1 < length graph.now) (shown_by state.old) }
+    ensures ok { (version : RoomVersion) → kept.AreChecked version graph.now (shown_by state.old) order.now → OnOk result
+        (shown_by state.new ≡ definition.iterative_auth_checks version graph.now (shown_by state.old) (kept.events_checked order.now)) }
+    ensures known { OnOk result (All (λ e. e.1 < length graph.now) (shown_by state.new)) }
 {
-    let mut last = None;
     for checked in order {
-        last = later_put(last, *checked);
+        put_again(graph, state, *checked)?;
     }
-    last
+    Ok(())
 }
 
-fn later_put(last: Option<EventNo>, checked: CheckedEvent) -> Option<EventNo>
-    ensures { result ≡ (if checked.is_put then Some checked.event else last) }
+// Puts an event, if it was put when it was checked. At an error the state stays.
+fn put_again(
+    graph: &Graph,
+    state: &mut WorkingState<'_>,
+    checked: CheckedEvent,
+) -> Result<(), AllocError>
+    requires event { checked.event < length graph.now }
+    requires known { All (λ e. e.1 < length graph.now) (shown_by state.old) }
+    ensures ok { OnOk result (shown_by state.new
+        ≡ (if checked.is_put then with_event (shown_by state.old) (record_of.event graph.now checked.event) checked.event else shown_by state.old)) }
+    ensures known { OnOk result (All (λ e. e.1 < length graph.now) (shown_by state.new)) }
 {
-    if checked.is_put {
-        Some(checked.event)
-    } else {
-        last
+    if !checked.is_put {
+        return Ok(());
     }
+    put(graph, state, &graph.row(checked.event).event, checked.event)?;
+    Ok(())
 }
 
-/// Whether an event that was put at a key stays while these are checked, all of which stand at that key and were checked
-/// without it; `None` where one of them would be judged otherwise. It takes no memory.
+/// Whether an event that was put at a key stays while these are checked, which were checked without it; `None` where one of
+/// them would be judged otherwise. Those that stand at other keys are put into the state.
 pub(crate) fn stays(
     version: RoomVersion,
     graph: &Graph,
-    state: &WorkingState<'_>,
+    state: &mut WorkingState<'_>,
+    kind: &str,
+    state_key: &str,
     after: &[CheckedEvent],
-) -> Option<bool>
+) -> Result<Option<bool>, AllocError>
     requires after { All (λ checked. checked.event < length graph.now) after.now }
-    requires known { All (λ e. e.1 < length graph.now) (shown_by state.now) }
-    ensures { (key : Key) (x : ℕ) (s : State) → shown_by state.now ≡ put key_cmp key x s
-        → kept.AreChecked version graph.now s after.now → kept.AreAt graph.now key after.now
-        → IfSome result (λ here. later.stays version graph.now key x s (kept.events_checked after.now) ≡ Some here) }
+    requires known { All (λ e. e.1 < length graph.now) (shown_by state.old) }
+    ensures { (x : ℕ) (s : State) → T (is_sorted key_cmp s) → shown_by state.old ≡ put key_cmp (kind.now, state_key.now) x s
+        → kept.AreChecked version graph.now s after.now → IfOk result (λ told. IfSome told (λ here.
+        later.stays version graph.now (kind.now, state_key.now) x s (kept.events_checked after.now) ≡ Some here)) }
 {
     for checked in after {
-        if is_put(version, graph, state, checked.event) {
-            return if checked.is_put { Some(false) } else { None };
+        if is_put(version, graph, state, checked.event) != checked.is_put {
+            return Ok(None);
         }
-        if checked.is_put {
-            return None;
+        if is_put_at(graph, *checked, kind, state_key) {
+            return Ok(Some(false));
         }
+        put_again(graph, state, *checked)?;
     }
-    Some(true)
+    Ok(Some(true))
+}
+
+// Whether an event that was checked was put at a type and a state key.
+fn is_put_at(graph: &Graph, checked: CheckedEvent, kind: &str, state_key: &str) -> bool
+    requires { checked.event < length graph.now }
+    ensures { result ≡ (checked.is_put
+        && is_some_and (same_key (kind.now, state_key.now)) (key_of (record_of.event graph.now checked.event))) }
+{
+    checked.is_put && is_at(&graph.row(checked.event).event, kind, state_key)
 }

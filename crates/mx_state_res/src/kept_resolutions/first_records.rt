@@ -1,5 +1,6 @@
 // What is kept of a resolution that was worked out from nothing.
-ghost use Rattle.std.specs.Prelude.{◌≡◌, ◌<◌, All, IfOk, IfSome, IsTrue, Some, length, map};
+ghost use Rattle.std.specs.Prelude.{◌≡◌, ◌<◌, All, IfOk, IfSome, IsTrue, is_some, length, map, true};
+ghost use Rattle.mx_redact.specs.Fields.{is_some_and};
 ghost use Rattle.mx_auth.specs.Rules.{key_of};
 ghost use Rattle.mx_graph.specs.Record as record_of;
 ghost use Rattle.mx_orders.specs.Mainline.{mainline, mainline_order as ordered, power_key};
@@ -11,18 +12,21 @@ ghost use Rattle.mx_state_res.specs.Resolution as definition;
 use crate::checks::powers::power_events;
 use crate::checks::working_states::WorkingState;
 use crate::conflicts::numbered_conflicts::{all_are_sorted, full_conflicted_at};
-use crate::entries::StateEntry;
 use crate::kept_resolutions::KeptResolution;
 use crate::kept_resolutions::checked_events::{CheckedEvent, checked_each};
 use crate::state_maps::StateMap;
 use crate::states::States;
 use crate::states::state_numbers::StateNo;
-use mx_auth::{RoomVersion, is_at};
+use mx_auth::RoomVersion;
 use mx_graph::{EventNo, Graph};
 use mx_orders::mainline_order;
+use mx_pdu::Pdu;
 use std::alloc::{AllocError, Global};
 
-/// What is kept of a resolution, where states differ at one key, and the events in conflict stand there and are no power
+// Where states differ at more keys nothing is kept.
+const MOST_KEYS: usize = 64;
+
+/// What is kept of a resolution, where states differ at a few keys, and the events in conflict stand there and are no power
 /// events.
 pub(crate) fn kept_resolution(
     version: RoomVersion,
@@ -44,14 +48,14 @@ pub(crate) fn kept_resolution(
     };
     all_are_sorted(states, numbers);
     let differing = states.differing(alloc, numbers)?;
-    let Some((entry, others)) = differing.entries().split_first() else {
+    let Some(_) = differing.entries().first() else {
         return Ok(None);
     };
-    if !others.is_empty() {
+    if differing.entries().len() > MOST_KEYS {
         return Ok(None);
     }
     let full = full_conflicted_at(alloc, graph, states, numbers, *base, &differing)?;
-    if !power_events(alloc, graph, &full)?.is_empty() || !are_all_at(graph, &full, entry) {
+    if !power_events(alloc, graph, &full)?.is_empty() || !are_all_at(graph, &full, &differing) {
         return Ok(None);
     }
     let order = order_checked(version, alloc, graph, states, *base, &differing, &full)?;
@@ -89,15 +93,26 @@ fn order_checked(
     Ok(order)
 }
 
-// Whether each of these events stands at the key of an entry.
-fn are_all_at(graph: &Graph, events: &[EventNo], entry: &StateEntry) -> bool
+// Whether each of these events stands at one of the keys of a map.
+fn are_all_at(graph: &Graph, events: &[EventNo], keys: &StateMap) -> bool
     requires { All (λ event. event < length graph.now) events.now }
-    ensures { IsTrue result → All (λ event. key_of (record_of.event graph.now event) ≡ Some entry.now.0) events.now }
+    ensures { IsTrue result → All (λ event.
+        is_some_and (λ key. is_some (entry_at keys.now key)) (key_of (record_of.event graph.now event)) ≡ true) events.now }
 {
     for event in events {
-        if !is_at(&graph.row(*event).event, entry.kind(), entry.state_key()) {
+        if !is_at_one_of(&graph.row(*event).event, keys) {
             return false;
         }
     }
     true
+}
+
+// Whether an event stands at one of the keys of a map.
+fn is_at_one_of(event: &Pdu, keys: &StateMap) -> bool
+    ensures { result ≡ is_some_and (λ key. is_some (entry_at keys.now key)) (key_of event.now) }
+{
+    match event.state_key() {
+        Some(state_key) => keys.get(event.kind(), state_key).is_some(),
+        None => false,
+    }
 }

@@ -1,14 +1,16 @@
 // One state more among those that were resolved.
-ghost use Rattle.std.specs.Prelude.{◌≡◌, ◌<◌, ◌∷◌, [], ℕ, All, IfOk, IfSome, List, None, Some, length};
+ghost use Rattle.std.specs.Prelude.{◌≡◌, ◌<◌, All, IfOk, IfSome, IsTrue, List, None, Some, false, length};
+ghost use Rattle.std.specs.Ordering.{is_eq};
 ghost use Rattle.std.specs.FinMap.Entries.{put};
-ghost use Rattle.mx_auth.specs.Rules.{Key};
+ghost use Rattle.mx_auth.specs.Rules.{Key, key_of};
+ghost use Rattle.mx_graph.specs.Record as record_of;
 ghost use Rattle.mx_graph.specs.Record.{Row};
 ghost use Rattle.mx_orders.specs.StateMap.{entry as entry_at, key_cmp};
 ghost use Rattle.mx_state_res.specs.KeptResolutions.{IsKept, made_by};
 ghost use Rattle.mx_state_res.specs.Numbered.{AreAdded, AreKnown, state_at};
 
 use crate::kept_resolutions::KeptResolution;
-use crate::kept_resolutions::added_events::{added_event, differ_there};
+use crate::kept_resolutions::added_events::added_event;
 use crate::kept_resolutions::checked_events::CheckedEvent;
 use crate::kept_resolutions::outcomes::{Outcome, outcome_of};
 use crate::states::States;
@@ -18,7 +20,7 @@ use mx_graph::{EventNo, Graph, graph_is_sound};
 use std::alloc::{AllocError, Global};
 
 /// What is kept of the resolution of all states but the last, with the last one; `None` where that one is more than an
-/// event at their key, or another event would be judged otherwise because of it.
+/// event at one of their keys, or another event would be judged otherwise because of it.
 pub(crate) fn resolve_one_more(
     version: RoomVersion,
     alloc: Global,
@@ -48,7 +50,7 @@ pub(crate) fn resolve_one_more(
     let Some((place, outcome)) = outcome_of(version, alloc, graph, states, &kept, event)? else {
         return Ok(None);
     };
-    let resolved = resolved_by(alloc, states, &kept, *newest, event, outcome)?;
+    let resolved = resolved_by(alloc, graph, states, &kept, *newest, event, outcome)?;
     let is_put = outcome.is_put();
     kept.order.insert(place, CheckedEvent { event, is_put })?;
     kept.numbers.push(*newest)?;
@@ -59,54 +61,81 @@ pub(crate) fn resolve_one_more(
 // What was resolved, with an event of which this becomes.
 fn resolved_by(
     alloc: Global,
+    graph: &Graph,
     states: &mut States,
     kept: &KeptResolution,
     newest: StateNo,
     event: EventNo,
     outcome: Outcome,
 ) -> Result<StateNo, AllocError>
+    requires event { event < length graph.now }
     requires newest { newest < length states.old }
     requires below { kept.now.resolved < length states.old }
-    requires there { (key : Key) (there : ℕ) → kept.now.differing ≡ (key, there) ∷ []
+    requires there { (key : Key) → key_of (record_of.event graph.now event) ≡ Some key
         → entry_at (state_at states.old newest) key ≡ Some event }
     ensures number { IfOk result (λ number. number < length states.new) }
-    ensures resolved { (key : Key) (there : ℕ) → kept.now.differing ≡ (key, there) ∷ [] → IfOk result (λ number.
+    ensures resolved { (key : Key) → key_of (record_of.event graph.now event) ≡ Some key → IfOk result (λ number.
         state_at states.new number ≡ made_by outcome key event (state_at states.old kept.now.resolved)) }
     ensures added { (rows : List Row) → event < length rows → AreKnown rows states.old
         → AreAdded rows states.old states.new }
 {
     match outcome {
-        Outcome::Stays => resolved_with(alloc, states, kept, newest, event),
+        Outcome::Stays => resolved_with(alloc, graph, states, kept, newest, event),
         Outcome::Refused | Outcome::Replaced => Ok(kept.resolved),
     }
 }
 
-// What was resolved, with an event at the key. Where the newest state is that one, it is that.
+// What was resolved, with an event at its key. Where the newest state is that one, it is that.
 fn resolved_with(
     alloc: Global,
+    graph: &Graph,
     states: &mut States,
     kept: &KeptResolution,
     newest: StateNo,
     event: EventNo,
 ) -> Result<StateNo, AllocError>
+    requires event { event < length graph.now }
     requires newest { newest < length states.old }
     requires below { kept.now.resolved < length states.old }
-    requires there { (key : Key) (there : ℕ) → kept.now.differing ≡ (key, there) ∷ []
+    requires there { (key : Key) → key_of (record_of.event graph.now event) ≡ Some key
         → entry_at (state_at states.old newest) key ≡ Some event }
     ensures number { IfOk result (λ number. number < length states.new) }
-    ensures resolved { (key : Key) (there : ℕ) → kept.now.differing ≡ (key, there) ∷ [] → IfOk result (λ number.
+    ensures resolved { (key : Key) → key_of (record_of.event graph.now event) ≡ Some key → IfOk result (λ number.
         state_at states.new number ≡ put key_cmp key event (state_at states.old kept.now.resolved)) }
     ensures added { (rows : List Row) → event < length rows → AreKnown rows states.old
         → AreAdded rows states.old states.new }
 {
-    let Some(entry) = kept.differing.entries().first() else {
+    let row = &graph.row(event).event;
+    let kind = row.kind();
+    let Some(state_key) = row.state_key() else {
         return Ok(kept.resolved);
     };
     states.state_is_sorted(kept.resolved);
     states.state_is_sorted(newest);
-    if differ_there(alloc, states, kept.resolved, newest, entry)? {
+    if differ_there(alloc, states, kept.resolved, newest, kind, state_key)? {
         return Ok(newest);
     }
-    let number = states.with(kept.resolved, entry.kind(), entry.state_key(), event)?;
+    let number = states.with(kept.resolved, kind, state_key, event)?;
     Ok(number)
+}
+
+// Whether two states differ at a key, and nowhere else.
+fn differ_there(
+    alloc: Global,
+    states: &States,
+    one: StateNo,
+    other: StateNo,
+    kind: &str,
+    state_key: &str,
+) -> Result<bool, AllocError>
+    requires one { one < length states.now }
+    requires other { other < length states.now }
+    ensures { IfOk result (λ there. IsTrue there → (key : Key) → is_eq (key_cmp key (kind.now, state_key.now)) ≡ false
+        → entry_at (state_at states.now one) key ≡ entry_at (state_at states.now other) key) }
+{
+    let differing = states.differing(alloc, &[one, other])?;
+    if differing.entries().len() != 1 {
+        return Ok(false);
+    }
+    Ok(differing.get(kind, state_key).is_some())
 }

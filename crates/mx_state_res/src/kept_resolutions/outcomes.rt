@@ -1,18 +1,21 @@
 // What becomes of an event among others that are checked.
-ghost use Rattle.std.specs.Prelude.{◌≡◌, ◌≤◌, ◌<◌, ◌++◌, ◌∷◌, ℕ, IfOk, IfSome, None, OnOk, [], All, drop, false, length, take};
-ghost use Rattle.mx_auth.specs.Rules.{Key};
+ghost use Rattle.std.specs.Prelude.{◌≡◌, ◌≤◌, ◌<◌, ◌++◌, ◌∷◌, IfOk, IfSome, Some, T, [], All, drop, false, length, take};
+ghost use Rattle.std.specs.FinMap.Entries.{is_sorted};
+ghost use Rattle.mx_auth.specs.Rules.{Key, key_of};
+ghost use Rattle.mx_graph.specs.Record as record_of;
 ghost use Rattle.mx_graph.specs.Record.{is_in};
 ghost use Rattle.mx_orders.specs.Mainline.{mainline_cmp, put_in_order};
-ghost use Rattle.mx_state_res.specs.KeptResolutions.{AreAt, AreChecked, DifferAtOneKey, IsOutcome, events_checked, first_of, last_put as last, states_of, with_last};
+ghost use Rattle.mx_orders.specs.StateMap.{key_cmp};
+ghost use Rattle.mx_state_res.specs.KeptResolutions.{AreChecked, IsKept, IsOutcome, events_checked, states_of};
 ghost use Rattle.mx_state_res.specs.LaterResolution.{agreed_line};
-ghost use Rattle.mx_state_res.specs.Numbered.{AreKnown, shown_by};
+ghost use Rattle.mx_state_res.specs.Numbered.{AreKnown, shown_by, state_at};
 ghost use Rattle.mx_state_res.specs.Resolution.{iterative_auth_checks, unconflicted};
 
 use crate::checks::working_states::WorkingState;
-use crate::entries::StateEntry;
 use crate::kept_resolutions::KeptResolution;
 use crate::kept_resolutions::added_places::place_of;
-use crate::kept_resolutions::checked_events::{CheckedEvent, is_put, last_put, stays};
+use crate::kept_resolutions::checked_events::{CheckedEvent, is_put, put_each, stays};
+use crate::state_maps::StateMap;
 use crate::states::States;
 use mx_auth::RoomVersion;
 use mx_graph::{EventNo, Graph, graph_is_sound};
@@ -56,15 +59,13 @@ pub(crate) fn outcome_of(
 ) -> Result<Option<(usize, Outcome)>, AllocError>
     requires event { event < length graph.now }
     requires known { AreKnown graph.now states.now }
-    requires numbers { All (λ number. number < length states.now) kept.now.numbers.items }
-    requires one_key { DifferAtOneKey graph.now (states_of states.now kept.now) (first_of states.now kept.now) kept.now }
+    requires kept { IsKept version graph.now states.now kept.now }
     requires new { is_in (events_checked kept.now.order.items) event ≡ false }
-    requires checked { AreChecked version graph.now (unconflicted (states_of states.now kept.now)) kept.now.order.items }
     ensures place { IfOk result (λ told. IfSome told (λ found. found.0 ≤ length kept.now.order.items)) }
     ensures placed { IfOk result (λ told. IfSome told (λ found.
         put_in_order (mainline_cmp graph.now (agreed_line graph.now (states_of states.now kept.now))) event (events_checked kept.now.order.items)
         ≡ take found.0 (events_checked kept.now.order.items) ++ (event ∷ drop found.0 (events_checked kept.now.order.items)))) }
-    ensures outcome { (key : Key) (there : ℕ) → kept.now.differing ≡ (key, there) ∷ [] → IfOk result (λ told. IfSome told (λ found.
+    ensures outcome { (key : Key) → key_of (record_of.event graph.now event) ≡ Some key → IfOk result (λ told. IfSome told (λ found.
         IsOutcome version graph.now key event
         (iterative_auth_checks version graph.now (unconflicted (states_of states.now kept.now)) (take found.0 (events_checked kept.now.order.items)))
         (drop found.0 (events_checked kept.now.order.items)) found.1)) }
@@ -77,58 +78,68 @@ pub(crate) fn outcome_of(
     let mut state = WorkingState::without(alloc, states.state(*base), &kept.differing);
     let power_levels = state.get("m.room.power_levels", "");
     let place = place_of(alloc, graph, &power_levels, &kept.order, event)?;
+    if place == kept.order.len() {
+        let outcome = outcome_at_end(version, alloc, graph, states, kept, event);
+        return Ok(Some((place, outcome)));
+    }
     let (before, after) = kept.order.split_at(place);
-    let Some(entry) = kept.differing.entries().first() else {
-        return Ok(None);
-    };
-    put_last(graph, &mut state, entry, before)?;
-    match outcome_in(version, graph, &mut state, entry, event, after)? {
+    put_each(graph, &mut state, before)?;
+    match outcome_in(version, graph, &mut state, event, after)? {
         Some(outcome) => Ok(Some((place, outcome))),
         None => Ok(None),
     }
 }
 
-// Puts the last of these events that was put, which stand at the key of an entry. At an error the state stays.
-fn put_last(
+// What becomes of an event that is checked after all others, in what was resolved of them.
+fn outcome_at_end(
+    version: RoomVersion,
+    alloc: Global,
     graph: &Graph,
-    state: &mut WorkingState<'_>,
-    entry: &StateEntry,
-    before: &[CheckedEvent],
-) -> Result<(), AllocError>
-    requires before { All (λ checked. checked.event < length graph.now) before.now }
-    requires known { All (λ e. e.1 < length graph.now) (shown_by state.old) }
-    ensures ok { OnOk result (shown_by state.new ≡ with_last entry.now.0 (shown_by state.old) (last None before.now)) }
-    ensures known { OnOk result (All (λ e. e.1 < length graph.now) (shown_by state.new)) }
+    states: &States,
+    kept: &KeptResolution,
+    event: EventNo,
+) -> Outcome
+    requires event { event < length graph.now }
+    requires known { AreKnown graph.now states.now }
+    requires below { kept.now.resolved < length states.now }
+    ensures { (key : Key) → IsOutcome version graph.now key event (state_at states.now kept.now.resolved) [] result }
 {
-    let Some(last) = last_put(before) else {
-        return Ok(());
-    };
-    state.insert(entry.kind(), entry.state_key(), last)?;
-    Ok(())
+    states.state_is_sorted(kept.resolved);
+    let nothing = StateMap::new(alloc);
+    let state = WorkingState::without(alloc, states.state(kept.resolved), &nothing);
+    if is_put(version, graph, &state, event) {
+        Outcome::Stays
+    } else {
+        Outcome::Refused
+    }
 }
 
-// What becomes of an event that is checked in a state, and followed by others at its key.
+// What becomes of an event that is checked in a state, and followed by others.
 fn outcome_in(
     version: RoomVersion,
     graph: &Graph,
     state: &mut WorkingState<'_>,
-    entry: &StateEntry,
     event: EventNo,
     after: &[CheckedEvent],
 ) -> Result<Option<Outcome>, AllocError>
     requires event { event < length graph.now }
     requires after { All (λ checked. checked.event < length graph.now) after.now }
     requires known { All (λ e. e.1 < length graph.now) (shown_by state.old) }
+    requires sorted { T (is_sorted key_cmp (shown_by state.old)) }
     requires checked { AreChecked version graph.now (shown_by state.old) after.now }
-    requires at { AreAt graph.now entry.now.0 after.now }
-    ensures { IfOk result (λ told. IfSome told
-        (IsOutcome version graph.now entry.now.0 event (shown_by state.old) (events_checked after.now))) }
+    ensures { (key : Key) → key_of (record_of.event graph.now event) ≡ Some key → IfOk result (λ told. IfSome told
+        (IsOutcome version graph.now key event (shown_by state.old) (events_checked after.now))) }
 {
     if !is_put(version, graph, state, event) {
         return Ok(Some(Outcome::Refused));
     }
-    state.insert(entry.kind(), entry.state_key(), event)?;
-    let Some(is_last) = stays(version, graph, state, after) else {
+    let row = &graph.row(event).event;
+    let kind = row.kind();
+    let Some(state_key) = row.state_key() else {
+        return Ok(None);
+    };
+    state.insert(kind, state_key, event)?;
+    let Some(is_last) = stays(version, graph, state, kind, state_key, after)? else {
         return Ok(None);
     };
     if is_last {

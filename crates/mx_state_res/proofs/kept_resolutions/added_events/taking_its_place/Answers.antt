@@ -1,6 +1,6 @@
 use Rattle.std.proofs.Common.{◌≡◌, Some, length, ap, sym, ◌∙◌}
 use Rattle.mx_auth.specs.Rules.{key_of}
-use Rattle.mx_graph.specs.Record.{Row, auth_events, event, is_in}
+use Rattle.mx_graph.specs.Record.{Row, is_in}
 use Rattle.mx_orders.specs.StateMap.{entry}
 use Rattle.mx_state_res.specs.KeptResolutions.{events_checked}
 use Rattle.mx_state_res.specs.Resolution.{is_power_event}
@@ -16,8 +16,8 @@ row-requires c =
 
 pub auth_events-requires-2 : goal.auth_events-requires-2
 auth_events-requires-2 c =
-    entry-known (length c.args.graph.now) (state_at c.args.states.now c.args.last) (c.kind-kind.result.now, c.state_key-state_key.result.now) c.in_ok-other.other
-    (known-one c.args.graph.now c.args.states.now c.args.last c.requires.known c.requires.last) (sym c.in_ok-other.ensures)
+    entry-known (length c.args.graph.now) (state_at c.args.states.now c.args.number) (c.kind-kind.result.now, c.state_key-state_key.result.now) c.in_ok-other.other
+    (known-one c.args.graph.now c.args.states.now c.args.number c.requires.known c.requires.number) (sym c.in_ok-other.ensures)
 
 pub returns : goal.returns
 returns c =
@@ -32,7 +32,7 @@ returns c =
       ap (λ (r : Row). is_power_event r.event) (sym c.row.ensures) ∙ sym c.is_power_event.ensures ∙ c.if-is_power_event.false,
       (
         c.in_ok-other.other,
-        ap (entry (state_at c.args.states.now c.args.last)) (sym key_is) ∙ sym c.in_ok-other.ensures,
+        ap (entry (state_at c.args.states.now c.args.number)) (sym key_is) ∙ sym c.in_ok-other.ensures,
         sym c.auth_events.ensures.cited ∙ bytes-same c.auth_events.result.now c.auth_events-2.result.now (not-false _ (sym c.ne.ensures ∙ c.if-ne.false)) ∙ c.auth_events-2.ensures.cited,
       ),
     )

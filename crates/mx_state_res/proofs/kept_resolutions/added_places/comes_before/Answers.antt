@@ -1,4 +1,4 @@
-use Rattle.std.proofs.Common.{◌≡◌, [], ◌∷◌, ap, sym, ◌∙◌}
+use Rattle.std.proofs.Common.{[], ◌∷◌, ap, sym, ◌∙◌}
 use Rattle.std.specs.Prelude.{option_copied}
 use Rattle.mx_orders.specs.Mainline.{mainline, mainline_cmp, mainline_order as ordered}
 use Rattle.mx_state_res.proofs.KeptResolutionLemmas.{first-of-two, none-of-two, order-of-two}

@@ -1,6 +1,7 @@
-use Rattle.std.proofs.Common.{◌≡◌, ◌∷◌, [], ℕ, Some, length, refl, ap, subst, sym, ◌∙◌, eqb-true}
-use Rattle.std.proofs.lemmas.List.{nil_from_length}
+use Rattle.std.proofs.Common.{true, ◌≡◌, [], ℕ, refl, ap, subst, sym, ◌∙◌}
+use Rattle.std.specs.Prelude.{is_some, option_copied, slice_get}
 use Rattle.std.specs.List.{All}
+use Rattle.mx_redact.specs.Fields.{is_some_and}
 use Rattle.mx_auth.specs.Rules.{key_of}
 use Rattle.mx_graph.specs.Record.{event}
 use Rattle.mx_orders.specs.Mainline.{mainline, mainline_order, power_key}
@@ -8,7 +9,7 @@ use Rattle.mx_orders.specs.StateMap.{entry}
 use Rattle.mx_state_res.specs.Numbered.{state_at, without}
 use Rattle.mx_state_res.specs.Resolution.{power_events}
 use Rattle.mx_state_res.proofs.FirstRecordLemmas.{first-record}
-use Rattle.mx_state_res.proofs.KeptResolutionLemmas.{none-left}
+use Rattle.mx_state_res.proofs.KeptResolutionLemmas.{has-first, none-left}
 use Rattle.mx_state_res.proofs.kept_resolutions.first_records.kept_resolution.Goals as goal
 
 pub returns : goal.returns
@@ -19,16 +20,15 @@ returns c =
     let numbers = c.args.numbers.now in
     let base = c.in-Some.base.now in
     let d = c.in_ok-differing.differing in
-    let e = c.in-Some-split_first.entry.now in
-    let others = c.in-Some-split_first.others.now in
-    let only : d ≡ e ∷ [] = sym c.entries.ensures.entries ∙ c.in-Some-split_first.ensures.cases.0 ∙ ap (λ xs. e ∷ xs) (nil_from_length others (eqb-true (length others) 0 (sym c.is_empty.ensures ∙ c.if-not-is_empty.false))) in
+    let e = c.in-Some-first.field-0.now in
+    let there : is_some (entry d e.0) ≡ true = has-first d e (ap (λ xs. slice_get xs 0) (sym c.entries.ensures.entries) ∙ sym c.first.ensures.value ∙ ap option_copied c.in-Some-first.is) in
     let full = c.in_ok-full.full.items in
     let powers = c.in_ok-power_events.field-0.items in
     let no_power : power_events rows full ≡ [] =
-    ap (power_events rows) (sym c.deref.ensures.value) ∙ sym c.in_ok-power_events.ensures.set ∙ none-left powers c.in_ok-power_events.field-0.len c.in_ok-power_events.field-0.ok.0 (sym c.is_empty-2.ensures ∙ c.if-not-is_empty-2.false) in
-    let at : All (λ (p : ℕ). key_of (event rows p) ≡ Some e.0) full =
-    subst (All (λ (p : ℕ). key_of (event rows p) ≡ Some e.0)) c.deref-else-not-is_empty-2.ensures.value (c.are_all_at.ensures (c.if-not-are_all_at.false)) in
-    first-record v rows states base c.in-Some.field-0-1.now numbers c.in-Some.ensures.cases.0 c.requires.numbers c.requires.known c.all_are_sorted.ensures d c.entries.ensures.sorted c.in_ok-differing.ensures e only
+    ap (power_events rows) (sym c.deref.ensures.value) ∙ sym c.in_ok-power_events.ensures.set ∙ none-left powers c.in_ok-power_events.field-0.len c.in_ok-power_events.field-0.ok.0 (sym c.is_empty.ensures ∙ c.if-not-is_empty.false) in
+    let at : All (λ (p : ℕ). is_some_and (λ k. is_some (entry d k)) (key_of (event rows p)) ≡ true) full =
+    subst (All (λ (p : ℕ). is_some_and (λ k. is_some (entry d k)) (key_of (event rows p)) ≡ true)) c.deref-else-not-is_empty.ensures.value (c.are_all_at.ensures (c.if-not-are_all_at.false)) in
+    first-record v rows states base c.in-Some.field-0-1.now numbers c.in-Some.ensures.cases.0 c.requires.numbers c.requires.known c.all_are_sorted.ensures d c.entries.ensures.sorted c.in_ok-differing.ensures e.0 there
     full c.in_ok-full.ensures.set c.in_ok-full.ensures.known no_power at _ c.in_ok-numbers.ensures.items refl
     (c.in_ok-order.ensures.order ∙ ap (mainline_order rows (mainline rows (entry (without d (state_at states base)) power_key))) c.deref-2.ensures.value)
     c.in_ok-order.ensures.checked c.requires.below c.requires.resolved

@@ -1,6 +1,5 @@
-use Rattle.std.proofs.Common.{◌≡◌, ◌<◌, ◌++◌, ◌∷◌, [], ℕ, Some, drop, inl, length, refl, take, ap, subst, sym, ◌∙◌}
-use Rattle.std.specs.Prelude.{IfSome, if◌then◌else◌}
-use Rattle.std.specs.List.{All}
+use Rattle.std.proofs.Common.{◌≡◌, ◌<◌, ◌++◌, ◌∷◌, [], ℕ, drop, inl, length, refl, take, ap, subst, sym, ◌∙◌}
+use Rattle.std.specs.Prelude.{IfSome, is_some, true}
 use Rattle.std.specs.FinMap.Entries.{put}
 use Rattle.mx_auth.specs.Rules.{Key}
 use Rattle.mx_graph.proofs.Members.{In}
@@ -22,10 +21,12 @@ pub resolved_by-requires-clause-there : goal.resolved_by-requires-clause-there
 resolved_by-requires-clause-there c =
     let rows = c.args.graph.now in
     let states = c.args.states.now in
-    λ key there d.
-    let told : (s : State) × IsOneMore rows (states_of states c.args.kept) s key c.in-Some-2.event × (state_at states c.in-Some.newest.now ≡ put key_cmp key c.in-Some-2.event s) =
-    subst (λ o. IfSome o (λ (event : ℕ). (s : State) × IsOneMore rows (states_of states c.args.kept) s key event × (state_at states c.in-Some.newest.now ≡ put key_cmp key event s))) c.in-Some-2.is (c.in_ok-event.ensures.event key there d) in
-    ap (λ t. entry t key) told.2 ∙ put-there key c.in-Some-2.event told.0
+    let x = c.in-Some-2.event in
+    λ key at.
+    let told : (k : Key) × ((is_some (entry c.args.kept.differing k) ≡ true) × ((s : State) × (IsOneMore rows (states_of states c.args.kept) s k x × (state_at states c.in-Some.newest.now ≡ put key_cmp k x s)))) =
+    subst (λ o. IfSome o (λ (event : ℕ). (k : Key) × ((is_some (entry c.args.kept.differing k) ≡ true) × ((s : State) × (IsOneMore rows (states_of states c.args.kept) s k event × (state_at states c.in-Some.newest.now ≡ put key_cmp k event s)))))) c.in-Some-2.is c.in_ok-event.ensures.event in
+    let same : told.0 ≡ key = cc (sym told.1.1.1.0.at_key ∙ at) in
+    ap (entry (state_at states c.in-Some.newest.now)) (sym same) ∙ ap (λ t. entry t told.0) told.1.1.1.1 ∙ put-there told.0 x told.1.1.0
 
 pub returns-clause-numbers : goal.returns-clause-numbers
 returns-clause-numbers c =
@@ -39,17 +40,18 @@ returns-clause-kept c =
     let states = c.args.states.now in
     let kept = c.args.kept in
     let ss = states_of states kept in
-    let one = c.requires.kept.one_key in
     let x = c.in-Some-2.event in
     let newest = c.in-Some.newest.now in
     let events = events_checked kept.order.items in
     let below : newest < length states = all-at (λ n. n < length states) c.args.numbers.now c.requires.numbers newest (subst (In newest) (sym c.in-Some.ensures.cases.0) (to-back c.in-Some.before.now newest newest (inl refl))) in
-    let told : (s : State) × IsOneMore rows ss s one.key x × (state_at states newest ≡ put key_cmp one.key x s) =
-    subst (λ o. IfSome o (λ (event : ℕ). (s : State) × IsOneMore rows ss s one.key event × (state_at states newest ≡ put key_cmp one.key event s))) c.in-Some-2.is (c.in_ok-event.ensures.event one.key one.there one.differing) in
+    let told : (k : Key) × ((is_some (entry kept.differing k) ≡ true) × ((s : State) × (IsOneMore rows ss s k x × (state_at states newest ≡ put key_cmp k x s)))) =
+    subst (λ o. IfSome o (λ (event : ℕ). (k : Key) × ((is_some (entry kept.differing k) ≡ true) × ((s : State) × (IsOneMore rows ss s k event × (state_at states newest ≡ put key_cmp k event s)))))) c.in-Some-2.is c.in_ok-event.ensures.event in
+    let key = told.0 in
+    let one = told.1.1.1.0 in
     let placed : put_in_order (mainline_cmp rows (agreed_line rows ss)) x events ≡ take c.in-Some-3.place events ++ (x ∷ drop c.in-Some-3.place events) =
     subst (λ o. IfSome o (λ (found : ℕ × Outcome). put_in_order (mainline_cmp rows (agreed_line rows ss)) x events ≡ take found.0 events ++ (x ∷ drop found.0 events))) c.in-Some-3.is c.in_ok-place.ensures.placed in
-    let outcome : IsOutcome v rows one.key x (iterative_auth_checks v rows (unconflicted ss) (take c.in-Some-3.place events)) (drop c.in-Some-3.place events) c.in-Some-3.outcome =
-    subst (λ o. IfSome o (λ (found : ℕ × Outcome). IsOutcome v rows one.key x (iterative_auth_checks v rows (unconflicted ss) (take found.0 events)) (drop found.0 events) found.1)) c.in-Some-3.is (c.in_ok-place.ensures.outcome one.key one.there one.differing) in
-    let added = c.in_ok-resolved.ensures.added rows told.1.known c.requires.known in
-    kept-one-more v rows c.graph_is_sound.ensures states added.more c.resolved_by.new.states kept _ c.requires.kept newest x told.0 c.requires.known below told.1 told.2 c.in-Some-3.place placed c.in-Some-3.outcome outcome
-    (record { event = x; is_put = c.is_put-is_put.result }) refl c.is_put-is_put.ensures c.in_ok-push.ensures.items refl c.in_ok-insert.ensures.items added.are c.in_ok-resolved.ensures.number (c.in_ok-resolved.ensures.resolved one.key one.there one.differing)
+    let outcome : IsOutcome v rows key x (iterative_auth_checks v rows (unconflicted ss) (take c.in-Some-3.place events)) (drop c.in-Some-3.place events) c.in-Some-3.outcome =
+    subst (λ o. IfSome o (λ (found : ℕ × Outcome). IsOutcome v rows key x (iterative_auth_checks v rows (unconflicted ss) (take found.0 events)) (drop found.0 events) found.1)) c.in-Some-3.is (c.in_ok-place.ensures.outcome key one.at_key) in
+    let added = c.in_ok-resolved.ensures.added rows one.known c.requires.known in
+    kept-one-more v rows c.graph_is_sound.ensures states added.more c.resolved_by.new.states kept _ c.requires.kept newest key x told.1.1.0 c.requires.known below told.1.0 one told.1.1.1.1 c.in-Some-3.place placed c.in-Some-3.outcome outcome
+    (record { event = x; is_put = c.is_put-is_put.result }) refl c.is_put-is_put.ensures c.in_ok-push.ensures.items refl c.in_ok-insert.ensures.items added.are c.in_ok-resolved.ensures.number (c.in_ok-resolved.ensures.resolved key one.at_key)

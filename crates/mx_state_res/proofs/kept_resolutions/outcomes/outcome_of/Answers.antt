@@ -1,22 +1,22 @@
-use Rattle.std.proofs.Common.{◌≡◌, ◌<◌, ◌++◌, ◌∷◌, ℕ, None, drop, length, slice_index_or, take, ap, subst, sym, ◌∙◌, arith}
+use Rattle.std.proofs.Common.{[], ◌≡◌, ◌<◌, ◌++◌, ◌∷◌, drop, length, slice_index_or, take, ap, subst, sym, ◌∙◌, arith}
 use Rattle.std.specs.Prelude.{IfSome, is_none, option_copied, slice_get}
 use Rattle.std.specs.List.{All}
-use Rattle.std.specs.Ordering.{is_gt}
-use Rattle.std.proofs.lemmas.List.{drop-map}
-use Rattle.mx_auth.specs.Rules.{Key}
-use Rattle.mx_orders.specs.StateMap.{State, entry}
-use Rattle.mx_orders.specs.Mainline.{mainline, mainline_cmp, mainline_order, power_key, put_in_order}
-use Rattle.mx_state_res.specs.KeptResolutions.{AreAt, AreChecked, IsInOrder, IsOutcome, events_checked, first_of, last_put, states_of, with_last}
+use Rattle.std.proofs.lemmas.List.{drop-map, drop_all, length-map, take-map, take_all}
+use Rattle.mx_orders.specs.StateMap.{entry}
+use Rattle.mx_orders.specs.Mainline.{mainline, mainline_cmp, power_key, put_in_order}
+use Rattle.mx_state_res.specs.KeptResolutions.{AreChecked, IsInOrder, IsOutcome, events_checked, first_of, states_of}
 use Rattle.mx_state_res.specs.LaterResolution.{agreed_line, checking_order}
 use Rattle.mx_state_res.specs.Numbered.{shown_by, state_at, without}
 use Rattle.mx_state_res.specs.Resolution.{full_conflicted, iterative_auth_checks, unconflicted}
 use Rattle.mx_state_res.specs.declared.kept_resolutions.checked_events.CheckedEvent.{CheckedEvent}
 use Rattle.mx_state_res.proofs.ChangeLemmas.{without-known}
 use Rattle.mx_state_res.proofs.KeyLemmas.{Sorted, sorted-filter}
-use Rattle.mx_state_res.proofs.KeptResolutionLemmas.{first-below, first-is, first-key}
+use Rattle.mx_state_res.proofs.KeptResolutionLemmas.{first-below, first-is}
+use Rattle.mx_state_res.proofs.KeptStateLemmas.{resolved-is}
+use Rattle.mx_state_res.proofs.LaterCheckLemmas.{sorted-checks}
 use Rattle.mx_state_res.proofs.LaterOrderLemmas.{order-in-order}
 use Rattle.mx_state_res.proofs.NumberedConflictLemmas.{known-one}
-use Rattle.mx_state_res.proofs.OneMoreLemmas.{checked-between, state-between}
+use Rattle.mx_state_res.proofs.OneMoreLemmas.{checked-before, checked-behind}
 use Rattle.mx_state_res.proofs.kept_resolutions.outcomes.outcome_of.Goals as goal
 
 pub place_of-requires-clause-order : goal.place_of-requires-clause-order
@@ -25,18 +25,38 @@ place_of-requires-clause-order c =
     let ss = states_of c.args.states.now c.args.kept.now in
     let base : c.in-Some.base.now ≡ slice_index_or c.args.kept.now.numbers.items 0 0 = first-is c.args.kept.now.numbers.items c.in-Some.base.now (ap (λ xs. slice_get xs 0) (sym c.deref.ensures.value) ∙ sym c.first.ensures.value ∙ ap option_copied c.in-Some.is) in
     let shown : shown_by c.without-state.result ≡ unconflicted ss =
-    ap shown_by c.without-state.ensures ∙ ap (without c.args.kept.now.differing) (c.state.ensures ∙ ap (state_at c.args.states.now) base) ∙ sym c.requires.one_key.agreed in
+    ap shown_by c.without-state.ensures ∙ ap (without c.args.kept.now.differing) (c.state.ensures ∙ ap (state_at c.args.states.now) base) ∙ sym c.requires.kept.at_keys.agreed in
     let line : mainline rows c.get-power_levels.result ≡ agreed_line rows ss = ap (mainline rows) (c.get-power_levels.ensures ∙ ap (λ s. entry s power_key) shown) in
-    let events : events_checked c.deref-2.result.now ≡ checking_order rows ss = ap events_checked c.deref-2.ensures.value ∙ c.requires.one_key.order in
+    let events : events_checked c.deref-2.result.now ≡ checking_order rows ss = ap events_checked c.deref-2.ensures.value ∙ c.requires.kept.at_keys.order in
     subst (λ l. IsInOrder (mainline_cmp rows l) (events_checked c.deref-2.result.now)) (sym line)
     (subst (IsInOrder (mainline_cmp rows (agreed_line rows ss))) (sym events) (order-in-order rows (agreed_line rows ss) (full_conflicted rows ss)))
 
-pub put_last-requires-clause-known : goal.put_last-requires-clause-known
-put_last-requires-clause-known c =
+pub put_each-requires-clause-known : goal.put_each-requires-clause-known
+put_each-requires-clause-known c =
     let n = length c.args.graph.now in
-    let below : c.in-Some.base.now < length c.args.states.now = first-below (length c.args.states.now) c.args.kept.now.numbers.items c.in-Some.base.now (ap (λ xs. slice_get xs 0) (sym c.deref.ensures.value) ∙ sym c.first.ensures.value ∙ ap option_copied c.in-Some.is) c.requires.numbers in
+    let below : c.in-Some.base.now < length c.args.states.now = first-below (length c.args.states.now) c.args.kept.now.numbers.items c.in-Some.base.now (ap (λ xs. slice_get xs 0) (sym c.deref.ensures.value) ∙ sym c.first.ensures.value ∙ ap option_copied c.in-Some.is) c.requires.kept.numbers in
     subst (All (λ e. e.1 < n)) (sym (ap shown_by c.without-state.ensures ∙ ap (without c.args.kept.now.differing) c.state.ensures))
     (without-known n c.args.kept.now.differing (state_at c.args.states.now c.in-Some.base.now) (known-one c.args.graph.now c.args.states.now c.in-Some.base.now c.requires.known below))
+
+pub outcome_in-requires-clause-sorted : goal.outcome_in-requires-clause-sorted
+outcome_in-requires-clause-sorted c =
+    let v = c.args.version in
+    let rows = c.args.graph.now in
+    let kept = c.args.kept.now in
+    let ss = states_of c.args.states.now kept in
+    let at = c.requires.kept.at_keys in
+    let place = c.in_ok-place.place in
+    let base : c.in-Some.base.now ≡ slice_index_or kept.numbers.items 0 0 = first-is kept.numbers.items c.in-Some.base.now (ap (λ xs. slice_get xs 0) (sym c.deref.ensures.value) ∙ sym c.first.ensures.value ∙ ap option_copied c.in-Some.is) in
+    let shown : shown_by c.without-state.result ≡ unconflicted ss =
+    ap shown_by c.without-state.ensures ∙ ap (without kept.differing) (c.state.ensures ∙ ap (state_at c.args.states.now) base) ∙ sym at.agreed in
+    let front : c.split_at.result.0.now ≡ take place kept.order.items = c.split_at.ensures.front ∙ ap (take place) c.deref-3.ensures.value in
+    let back : c.split_at.result.1.now ≡ drop place kept.order.items = c.split_at.ensures.back ∙ ap (drop place) c.deref-3.ensures.value in
+    let before : AreChecked v rows (shown_by c.without-state.result) c.split_at.result.0.now =
+    subst (λ t. AreChecked v rows t c.split_at.result.0.now) (sym shown) (subst (AreChecked v rows (unconflicted ss)) (sym front) (checked-before v rows kept.order.items place (unconflicted ss) c.requires.kept.checked)) in
+    let state : shown_by c.put_each.new.state ≡ iterative_auth_checks v rows (unconflicted ss) (take place (events_checked kept.order.items)) =
+    c.in_ok-put_each.ensures.ok v before ∙ (λ i. iterative_auth_checks v rows (shown i) (events_checked (front i))) ∙ ap (iterative_auth_checks v rows (unconflicted ss)) (sym (take-map (λ (q : CheckedEvent). q.event) place kept.order.items)) in
+    let agreed_sorted : Sorted (unconflicted ss) = subst Sorted (sym at.agreed) (sorted-filter (λ e. is_none (entry kept.differing e.0)) (first_of c.args.states.now kept) (subst (λ n. Sorted (state_at c.args.states.now n)) base c.state_is_sorted.ensures)) in
+    subst Sorted (sym state) (sorted-checks v rows (take place (events_checked kept.order.items)) (unconflicted ss) agreed_sorted)
 
 pub outcome_in-requires-clause-checked : goal.outcome_in-requires-clause-checked
 outcome_in-requires-clause-checked c =
@@ -44,19 +64,20 @@ outcome_in-requires-clause-checked c =
     let rows = c.args.graph.now in
     let kept = c.args.kept.now in
     let ss = states_of c.args.states.now kept in
-    let one = c.requires.one_key in
+    let at = c.requires.kept.at_keys in
     let place = c.in_ok-place.place in
     let base : c.in-Some.base.now ≡ slice_index_or kept.numbers.items 0 0 = first-is kept.numbers.items c.in-Some.base.now (ap (λ xs. slice_get xs 0) (sym c.deref.ensures.value) ∙ sym c.first.ensures.value ∙ ap option_copied c.in-Some.is) in
     let shown : shown_by c.without-state.result ≡ unconflicted ss =
-    ap shown_by c.without-state.ensures ∙ ap (without kept.differing) (c.state.ensures ∙ ap (state_at c.args.states.now) base) ∙ sym one.agreed in
-    let key_is : c.in-Some-first.entry.now.0 ≡ one.key = first-key c.entries.result.now one.key one.there c.in-Some-first.entry.now (c.entries.ensures.entries ∙ one.differing) (sym c.first-2.ensures.value ∙ ap option_copied c.in-Some-first.is) in
-    let agreed_sorted : Sorted (unconflicted ss) = subst Sorted (sym one.agreed) (sorted-filter (λ e. is_none (entry kept.differing e.0)) (first_of c.args.states.now kept) (subst (λ n. Sorted (state_at c.args.states.now n)) base c.state_is_sorted.ensures)) in
-    let after_last : shown_by c.put_last.new.state ≡ with_last one.key (unconflicted ss) (last_put None (take place kept.order.items)) =
-    c.in_ok-put_last.ensures.ok ∙ (λ i. with_last (key_is i) (shown i) (last_put None ((c.split_at.ensures.front ∙ ap (take place) c.deref-3.ensures.value) i))) in
+    ap shown_by c.without-state.ensures ∙ ap (without kept.differing) (c.state.ensures ∙ ap (state_at c.args.states.now) base) ∙ sym at.agreed in
+    let front : c.split_at.result.0.now ≡ take place kept.order.items = c.split_at.ensures.front ∙ ap (take place) c.deref-3.ensures.value in
     let back : c.split_at.result.1.now ≡ drop place kept.order.items = c.split_at.ensures.back ∙ ap (drop place) c.deref-3.ensures.value in
-    subst (λ t. AreChecked v rows t c.split_at.result.1.now) (sym after_last)
-    (subst (AreChecked v rows (with_last one.key (unconflicted ss) (last_put None (take place kept.order.items)))) (sym back)
-    (checked-between v rows one.key kept.order.items place (unconflicted ss) agreed_sorted c.requires.checked one.at))
+    let before : AreChecked v rows (shown_by c.without-state.result) c.split_at.result.0.now =
+    subst (λ t. AreChecked v rows t c.split_at.result.0.now) (sym shown) (subst (AreChecked v rows (unconflicted ss)) (sym front) (checked-before v rows kept.order.items place (unconflicted ss) c.requires.kept.checked)) in
+    let state : shown_by c.put_each.new.state ≡ iterative_auth_checks v rows (unconflicted ss) (take place (events_checked kept.order.items)) =
+    c.in_ok-put_each.ensures.ok v before ∙ (λ i. iterative_auth_checks v rows (shown i) (events_checked (front i))) ∙ ap (iterative_auth_checks v rows (unconflicted ss)) (sym (take-map (λ (q : CheckedEvent). q.event) place kept.order.items)) in
+    subst (λ t. AreChecked v rows t c.split_at.result.1.now) (sym state)
+    (subst (AreChecked v rows (iterative_auth_checks v rows (unconflicted ss) (take place (events_checked kept.order.items)))) (sym back)
+    (checked-behind v rows kept.order.items place (unconflicted ss) c.requires.kept.checked))
 
 pub returns-in-Some-2-clause-placed : goal.returns-in-Some-2-clause-placed
 returns-in-Some-2-clause-placed c =
@@ -64,7 +85,7 @@ returns-in-Some-2-clause-placed c =
     let rows = c.args.graph.now in
     let kept = c.args.kept.now in
     let ss = states_of c.args.states.now kept in
-    let one = c.requires.one_key in
+    let one = c.requires.kept.at_keys in
     let place = c.in_ok-place.place in
     let base : c.in-Some.base.now ≡ slice_index_or kept.numbers.items 0 0 = first-is kept.numbers.items c.in-Some.base.now (ap (λ xs. slice_get xs 0) (sym c.deref.ensures.value) ∙ sym c.first.ensures.value ∙ ap option_copied c.in-Some.is) in
     let shown : shown_by c.without-state.result ≡ unconflicted ss =
@@ -80,22 +101,56 @@ returns-in-Some-2-clause-outcome c =
     let rows = c.args.graph.now in
     let kept = c.args.kept.now in
     let ss = states_of c.args.states.now kept in
-    let one = c.requires.one_key in
+    let at = c.requires.kept.at_keys in
+    let place = c.in_ok-place.place in
+    let base : c.in-Some.base.now ≡ slice_index_or kept.numbers.items 0 0 = first-is kept.numbers.items c.in-Some.base.now (ap (λ xs. slice_get xs 0) (sym c.deref.ensures.value) ∙ sym c.first.ensures.value ∙ ap option_copied c.in-Some.is) in
+    let shown : shown_by c.without-state.result ≡ unconflicted ss =
+    ap shown_by c.without-state.ensures ∙ ap (without kept.differing) (c.state.ensures ∙ ap (state_at c.args.states.now) base) ∙ sym at.agreed in
+    let front : c.split_at.result.0.now ≡ take place kept.order.items = c.split_at.ensures.front ∙ ap (take place) c.deref-3.ensures.value in
+    let back : c.split_at.result.1.now ≡ drop place kept.order.items = c.split_at.ensures.back ∙ ap (drop place) c.deref-3.ensures.value in
+    let before : AreChecked v rows (shown_by c.without-state.result) c.split_at.result.0.now =
+    subst (λ t. AreChecked v rows t c.split_at.result.0.now) (sym shown) (subst (AreChecked v rows (unconflicted ss)) (sym front) (checked-before v rows kept.order.items place (unconflicted ss) c.requires.kept.checked)) in
+    let state : shown_by c.put_each.new.state ≡ iterative_auth_checks v rows (unconflicted ss) (take place (events_checked kept.order.items)) =
+    c.in_ok-put_each.ensures.ok v before ∙ (λ i. iterative_auth_checks v rows (shown i) (events_checked (front i))) ∙ ap (iterative_auth_checks v rows (unconflicted ss)) (sym (take-map (λ (q : CheckedEvent). q.event) place kept.order.items)) in
+    let rest : events_checked c.split_at.result.1.now ≡ drop place (events_checked kept.order.items) = ap events_checked back ∙ sym (drop-map (λ (q : CheckedEvent). q.event) place kept.order.items) in
+    λ key at_key.
+    subst (λ t. IsOutcome v rows key c.args.event t (drop place (events_checked kept.order.items)) c.in-Some-2.outcome) state
+    (subst (λ ps. IsOutcome v rows key c.args.event (shown_by c.put_each.new.state) ps c.in-Some-2.outcome) rest
+    (subst (λ o. IfSome o (IsOutcome v rows key c.args.event (shown_by c.put_each.new.state) (events_checked c.split_at.result.1.now))) c.in-Some-2.is (c.in_ok-outcome.ensures key at_key)))
+
+pub returns-then-place-len-clause-placed : goal.returns-then-place-len-clause-placed
+returns-then-place-len-clause-placed c =
+    let v = c.args.version in
+    let rows = c.args.graph.now in
+    let kept = c.args.kept.now in
+    let ss = states_of c.args.states.now kept in
+    let one = c.requires.kept.at_keys in
     let place = c.in_ok-place.place in
     let base : c.in-Some.base.now ≡ slice_index_or kept.numbers.items 0 0 = first-is kept.numbers.items c.in-Some.base.now (ap (λ xs. slice_get xs 0) (sym c.deref.ensures.value) ∙ sym c.first.ensures.value ∙ ap option_copied c.in-Some.is) in
     let shown : shown_by c.without-state.result ≡ unconflicted ss =
     ap shown_by c.without-state.ensures ∙ ap (without kept.differing) (c.state.ensures ∙ ap (state_at c.args.states.now) base) ∙ sym one.agreed in
-    let key_is : c.in-Some-first.entry.now.0 ≡ one.key = first-key c.entries.result.now one.key one.there c.in-Some-first.entry.now (c.entries.ensures.entries ∙ one.differing) (sym c.first-2.ensures.value ∙ ap option_copied c.in-Some-first.is) in
-    let agreed_sorted : Sorted (unconflicted ss) = subst Sorted (sym one.agreed) (sorted-filter (λ e. is_none (entry kept.differing e.0)) (first_of c.args.states.now kept) (subst (λ n. Sorted (state_at c.args.states.now n)) base c.state_is_sorted.ensures)) in
-    let after_last : shown_by c.put_last.new.state ≡ with_last one.key (unconflicted ss) (last_put None (take place kept.order.items)) =
-    c.in_ok-put_last.ensures.ok ∙ (λ i. with_last (key_is i) (shown i) (last_put None ((c.split_at.ensures.front ∙ ap (take place) c.deref-3.ensures.value) i))) in
-    let back : c.split_at.result.1.now ≡ drop place kept.order.items = c.split_at.ensures.back ∙ ap (drop place) c.deref-3.ensures.value in
-    λ key there d.
-    let same : c.in-Some-first.entry.now.0 ≡ key = first-key c.entries.result.now key there c.in-Some-first.entry.now (c.entries.ensures.entries ∙ d) (sym c.first-2.ensures.value ∙ ap option_copied c.in-Some-first.is) in
-    let state : shown_by c.put_last.new.state ≡ iterative_auth_checks v rows (unconflicted ss) (take place (events_checked kept.order.items)) =
-    after_last ∙ state-between v rows one.key kept.order.items place (unconflicted ss) agreed_sorted c.requires.checked one.at in
-    let rest : events_checked c.split_at.result.1.now ≡ drop place (events_checked kept.order.items) = ap events_checked back ∙ sym (drop-map (λ (q : CheckedEvent). q.event) place kept.order.items) in
-    subst (λ k. IsOutcome v rows k c.args.event (iterative_auth_checks v rows (unconflicted ss) (take place (events_checked kept.order.items))) (drop place (events_checked kept.order.items)) c.in-Some-2.outcome) same
-    (subst (λ t. IsOutcome v rows c.in-Some-first.entry.now.0 c.args.event t (drop place (events_checked kept.order.items)) c.in-Some-2.outcome) state
-    (subst (λ ps. IsOutcome v rows c.in-Some-first.entry.now.0 c.args.event (shown_by c.put_last.new.state) ps c.in-Some-2.outcome) rest
-    (subst (λ o. IfSome o (IsOutcome v rows c.in-Some-first.entry.now.0 c.args.event (shown_by c.put_last.new.state) (events_checked c.split_at.result.1.now))) c.in-Some-2.is c.in_ok-outcome.ensures)))
+    let line : mainline rows c.get-power_levels.result ≡ agreed_line rows ss = ap (mainline rows) (c.get-power_levels.ensures ∙ ap (λ s. entry s power_key) shown) in
+    subst (λ l. put_in_order (mainline_cmp rows l) c.args.event (events_checked kept.order.items) ≡ take place (events_checked kept.order.items) ++ (c.args.event ∷ drop place (events_checked kept.order.items))) line
+    (subst (λ cs. put_in_order (mainline_cmp rows (mainline rows c.get-power_levels.result)) c.args.event (events_checked cs) ≡ take place (events_checked cs) ++ (c.args.event ∷ drop place (events_checked cs))) c.deref-2.ensures.value
+    c.in_ok-place.ensures.placed)
+
+pub returns-then-place-len-clause-outcome : goal.returns-then-place-len-clause-outcome
+returns-then-place-len-clause-outcome c =
+    let v = c.args.version in
+    let rows = c.args.graph.now in
+    let states = c.args.states.now in
+    let kept = c.args.kept.now in
+    let ss = states_of states kept in
+    let at = c.requires.kept.at_keys in
+    let place = c.in_ok-place.place in
+    let events = events_checked kept.order.items in
+    let whole : length events ≡ length kept.order.items = length-map kept.order.items (λ (q : CheckedEvent). q.event) in
+    let base : c.in-Some.base.now ≡ slice_index_or kept.numbers.items 0 0 = first-is kept.numbers.items c.in-Some.base.now (ap (λ xs. slice_get xs 0) (sym c.deref.ensures.value) ∙ sym c.first.ensures.value ∙ ap option_copied c.in-Some.is) in
+    let agreed_sorted : Sorted (unconflicted ss) = subst Sorted (sym at.agreed) (sorted-filter (λ e. is_none (entry kept.differing e.0)) (first_of states kept) (subst (λ n. Sorted (state_at states n)) base c.state_is_sorted.ensures)) in
+    let all : take place events ≡ events = take_all place events (omega arith) in
+    let none : drop place events ≡ [] = drop_all place events (omega arith) in
+    let state : state_at states kept.resolved ≡ iterative_auth_checks v rows (unconflicted ss) (take place events) =
+    c.requires.kept.resolved ∙ resolved-is v rows ss (first_of states kept) kept at agreed_sorted ∙ ap (iterative_auth_checks v rows (unconflicted ss)) (sym all) in
+    λ key at_key.
+    subst (λ ps. IsOutcome v rows key c.args.event (iterative_auth_checks v rows (unconflicted ss) (take place events)) ps c.outcome_at_end-outcome.result) (sym none)
+    (subst (λ t. IsOutcome v rows key c.args.event t [] c.outcome_at_end-outcome.result) state (c.outcome_at_end-outcome.ensures key))
