@@ -12,12 +12,12 @@ ghost use Rattle.mx_engine.specs.Views.{view_at, AddsNothing, AreSameViews};
 ghost use Rattle.mx_world.specs.Offers.{offer_by};
 ghost use Rattle.mx_engine.specs.Calls.{IsAnswered, IsAsked};
 ghost use Rattle.mx_engine.specs.Transactions.{IsReplied, IsRefused};
-ghost use Rattle.mx_engine.specs.Seats.{AreAllSeats, BeginsWithFirstSeat, IsSeatOf, seat_number, seats_made, shard_views, book_views, verifier_of};
+ghost use Rattle.mx_engine.specs.Seats.{AreAllSeats, BeginsWithFirstSeat, HasFirstSeat, IsSeatOf, seat_number, seats_made, shard_views, book_views, verifier_of};
 ghost use Rattle.mx_engine.specs.Closing.{IsNew, IsWhole, known_at};
 
 use crate::asking::ask_each;
 use crate::calls::{Question, ShardCall, call_in};
-use crate::closing::close_all;
+use crate::closing::{close_all, first_among};
 use crate::docked::{DockedBook, DockedShard, PaddedDock};
 use crate::gates::Gate;
 use crate::meeting::meet_each;
@@ -260,11 +260,11 @@ impl<
     ///
     /// Each journal is the one at the opening, and then entries that each have the number of a seat. The entries of a
     /// number are those that its seat added, each once and in their order, and what each seat has seen is a beginning of
-    /// the journal. No transaction is open. It asks for all seats, the first one first: that is how no entry can be
-    /// missed. It takes no memory. It waits until all shards and books are in.
+    /// the journal. No transaction is open. It asks for all seats, in any order: that is how no entry can be missed. It
+    /// takes no memory. It waits until all shards and books are in.
     pub fn close<R: Wait>(self, rt: &R, alloc: Global, seats: Vec<Seat<K, L>>) -> World<K, L>
         requires mine { All (IsSeatOf self) seats.items }
-        requires first { BeginsWithFirstSeat seats.items }
+        requires first { HasFirstSeat seats.items }
         requires all { AreAllSeats self seats.items }
         ensures none_open { IsTrue (none_open result) }
         // There are as many shards and books as each seat knows of.
@@ -277,7 +277,8 @@ impl<
         ensures legal_books { All (λ book. IsTrue (is_legal book.journal)) result.books }
     {
         let mut others = seats;
-        let first = others.remove(0);
+        let place = first_among(&others);
+        let first = others.remove(place);
         let Engine { shards, books, .. } = self;
         let (shards, books) = close_all(rt, shards, books, first, others);
         World::from_parts(alloc, shards, books)
