@@ -1,5 +1,5 @@
 -- Berths that are given back.
-use Rattle.std.proofs.Common.{◌≡◌, ℕ, ◌+◌, ◌<◌, ◌≤◌, false, List, [], ◌∷◌, ◌++◌, length, get_or, map, set, drop, sym, ◌∙◌, ap, subst, arith}
+use Rattle.std.proofs.Common.{◌≡◌, ℕ, ◌+◌, ◌<◌, ◌≤◌, false, List, [], ◌∷◌, ◌++◌, length, get_or, map, set, drop, sym, IsPermutation, ◌∙◌, ap, subst, arith}
 use Rattle.crossbeam_utils.specs.declared.cache_padded.CachePadded.{CachePadded}
 use Rattle.crossbeam_utils.specs.Padded.{padded_value}
 use Rattle.mx_dock.specs.Dock.{IsFirstOf, given_back, holds, made, own}
@@ -7,11 +7,13 @@ use Rattle.mx_dock.specs.declared.docks.Dock.{Dock}
 use Rattle.mx_dock.specs.declared.berths.Berth.{Berth}
 use Rattle.std.proofs.lemmas.List.{get_or_default, get_or-map, length-map, map-append}
 use Rattle.std.proofs.lemmas.List.Elements.{All-get_or}
+use Rattle.std.proofs.lemmas.List.Sorted.{All-permutation, Contains-permutation, IsPermutation-map, IsPermutation-sym}
+use Rattle.mx_dock.specs.Journal.{IsPrefix, since, entries_of}
 use Rattle.std.specs.Prelude.{All, Any}
 use Rattle.mx_dock.specs.Rule.{no_berth}
 use Rattle.mx_engine.specs.Views.{BerthView, view_at}
 use Rattle.mx_engine.specs.Berths.{AreBerthsAt, views_of}
-use Rattle.mx_engine.specs.Closing.{AreAllBack, AreGathered, known_at}
+use Rattle.mx_engine.specs.Closing.{AreAllBack, AreGathered, IsWhole, known_at}
 use Rattle.mx_engine.proofs.RowLemmas.{AreReplaced, next-within, next-is, next-rest, replaced-more, some-of}
 
 module _ {T E : Type 0} where
@@ -121,3 +123,31 @@ all-back {S = S} {T = T} {E = E} berths_of caller docks new first others count s
             (any-known (λ s. views_of (berths_of s)) caller (first ∷ others) k n (numbered k l) (all n from (omega (arith, to, made_here))));
       };
     }
+
+-- ---- seats in another order
+
+pub Any-permutation : {A : Type 0} (P : A → Type 0) (xs ys : List A) → IsPermutation xs ys → Any P xs → Any P ys
+Any-permutation P xs ys moved one = let there = Contains-permutation xs ys one.1 moved (one.0, one.2, one.3) in (there.0, one.1, there.1, there.2, one.4)
+
+-- what is known by the same seats in another order
+module _ {S E : Type 0} (caller : E → ℕ) (views : S → List (BerthView E)) (seats moved : List S) (n : ℕ) (journal : List E) (same : IsPermutation seats moved) (some : 0 < length seats) where
+  known_back : IsPermutation (known_at (map views moved) n) (known_at (map views seats) n)
+  known_back = IsPermutation-sym (known_at (map views seats) n) (known_at (map views moved) n) (IsPermutation-map (λ vs. view_at vs n) (map views seats) (map views moved) (IsPermutation-map views seats moved same))
+
+  first_opening : (opening : List E) (all : List S) → 0 < length all → All (λ (v : BerthView E). v.opening ≡ opening) (known_at (map views all) n) → (view_at (get_or (map views all) 0 []) n).opening ≡ opening
+  first_opening opening [] one is = absurd (let e : ⊥ = omega (arith, one) in e)
+  first_opening opening (s ∷ ss) one is = is 0 (view_at (views s) n) (omega arith)
+
+  pub whole_moved : (opening : List E) → IsWhole caller opening (known_at (map views moved) n) journal → IsWhole caller (view_at (get_or (map views seats) 0 []) n).opening (known_at (map views seats) n) journal
+  whole_moved opening whole =
+      let theirs = known_at (map views moved) n in
+      let here = known_at (map views seats) n in
+      let opened : All (λ (v : BerthView E). v.opening ≡ opening) here = All-permutation (λ (v : BerthView E). v.opening ≡ opening) theirs here known_back whole.same in
+      subst (λ o. IsWhole caller o here journal) (sym (first_opening opening seats some opened))
+      (record {
+        opened = whole.opened;
+        same = opened;
+        numbered = λ k d l. Any-permutation (λ (v : BerthView E). v.number ≡ caller (get_or (since opening journal) k d)) theirs here known_back (whole.numbered k d l);
+        added = All-permutation (λ (v : BerthView E). entries_of caller v.number (since opening journal) ≡ v.added) theirs here known_back whole.added;
+        seen = All-permutation (λ (v : BerthView E). IsPrefix v.seen journal) theirs here known_back whole.seen;
+      })

@@ -1,5 +1,5 @@
 -- Seats of an engine.
-use Rattle.std.proofs.Common.{◌≡◌, ℕ, ◌<◌, ◌≤◌, ◌+◌, ◌-◌, ⊎_elim, map, List, [], ◌∷◌, arith, length, get_or, sym, ◌∙◌, ap, subst}
+use Rattle.std.proofs.Common.{◌≡◌, ℕ, ◌<◌, ◌≤◌, ◌+◌, ◌-◌, ⊎_elim, map, List, [], ◌∷◌, arith, length, get_or, refl, sym, ◌∙◌, ap, subst, IsPermutation}
 use Rattle.std.specs.Prelude.{All, Any, remove, Result, Ok, Err, OnErr}
 use Rattle.crossbeam_utils.specs.declared.cache_padded.CachePadded.{CachePadded}
 use Rattle.mx_dock.specs.declared.docks.Dock.{Dock}
@@ -7,12 +7,13 @@ use Rattle.mx_dock.specs.declared.berths.Berth.{Berth}
 use Rattle.std.proofs.lemmas.Bool.{cases_lt}
 use Rattle.std.proofs.lemmas.List.{get_or-map, get_or_default, get_or_past, length-map}
 use Rattle.std.proofs.lemmas.List.Elements.{All-nil, All-cons, All-head, All-tail}
+use Rattle.std.proofs.lemmas.List.Sorted.{IsPermutation-remove}
 use Rattle.mx_dock.specs.Rule.{no_berth}
 use Rattle.mx_book.specs.Journal.{IsEnded, free, begun}
 use Rattle.mx_book.specs.View.{BookView}
 use Rattle.mx_world.specs.Worlds.{book_journals}
 use Rattle.mx_engine.specs.Closing.{IsNew, known_at}
-use Rattle.mx_engine.specs.Seats.{BeginsWithFirstSeat, seat_number}
+use Rattle.mx_engine.specs.Seats.{BeginsWithFirstSeat, HasFirstSeat, seat_number}
 use Rattle.mx_engine.specs.declared.seats.Seat.{Seat}
 use Rattle.mx_engine.proofs.RowLemmas.{some-of}
 use Rattle.mx_book.specs.declared.entries.BookEntry.{BookEntry}
@@ -78,9 +79,17 @@ all_ended (b ∷ bs) all n l =
 
 module _ {K L : Type 0} where
   -- the first seat, and the others
-  pub first_of : (seats : List (Seat K L)) (first : Seat K L) (others : List (Seat K L)) → BeginsWithFirstSeat seats → first ≡ get_or seats 0 first → others ≡ remove seats 0 → (seats ≡ first ∷ others) × (seat_number first ≡ 1)
-  first_of [] first others one here rest = absurd one
-  first_of (s ∷ ss) first others one here rest = (ap (λ x. x ∷ ss) (sym here) ∙ ap (λ xs. first ∷ xs) (sym rest), ap seat_number here ∙ one)
+  pub first_of : (seats looked : List (Seat K L)) (n : ℕ) (first : Seat K L) (others : List (Seat K L)) → looked ≡ seats → n < length looked → ((d : Seat K L) → (get_or looked n d).number ≡ 1) → first ≡ get_or seats n first → others ≡ remove seats n →
+      IsPermutation seats (first ∷ others) × (seat_number first ≡ 1)
+  first_of seats looked n first others same within one here rest = (
+    subst (λ xs. IsPermutation seats (first ∷ xs)) (sym rest) (IsPermutation-remove seats n first (subst (λ xs. n < length xs) same within) here),
+    ap seat_number here ∙ ap (λ xs. seat_number (get_or xs n first)) (sym same) ∙ one first,
+  )
+
+  -- where the first seat stands first it is among them
+  pub has_first : (seats : List (Seat K L)) → BeginsWithFirstSeat seats → HasFirstSeat seats
+  has_first [] one = absurd one
+  has_first (s ∷ ss) one = (0, s, omega arith, refl, one)
 
   -- seats that are numbered from 1 begin with the first one, and have all numbers up to their count
   pub numbered_first : (seats : List (Seat K L)) (count : ℕ) → length seats ≡ count → 1 ≤ count → ((n : ℕ) (d : Seat K L) → n < count → (get_or seats n d).number ≡ n + 1) → BeginsWithFirstSeat seats

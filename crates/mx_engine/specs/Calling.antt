@@ -1,11 +1,12 @@
 -- One turn at a dock, for private clauses (our own).
-use Rattle.std.specs.Prelude.{◌≡◌, ℕ, true, List, [], Option, None, Some, is_some, Result, Err, IfOk, OnOk, OnErr, IsTrue}
+use Rattle.std.specs.Prelude.{◌≡◌, ℕ, Bool, true, false, List, [], Option, None, Some, is_some, Result, Ok, Err, IfOk, OnOk, OnErr, IsTrue}
 use Rattle.mx_dock.specs.Dock.{IsBerthOf, holds, number, own, place}
 use Rattle.mx_dock.specs.declared.docks.Dock.{Dock}
 use Rattle.mx_dock.specs.declared.berths.Berth.{Berth}
 use Rattle.mx_dock.specs.Journal.{IsPrefix, since, entries_of}
 use Rattle.mx_keeper.specs.Places.{PlaceView, is_at}
 use Rattle.mx_keeper.specs.declared.refusals.CallError.{CallError}
+use Rattle.mx_keeper.specs.declared.refusals.CallError.TheVariants.{Memory, Storage}
 use Rattle.mx_shard.specs.LoneRoom.{Call, to_host, to_ask, sent_call}
 use Rattle.mx_shard.specs.Journal.{Entry, record_of, IsLegal}
 use Rattle.mx_shard.specs.Shown.{IsAnswer, IsShown}
@@ -61,6 +62,18 @@ pub record IsTurn (caller : ℕ) (call : Call) (room : Option (List ℕ)) (old n
 abbrev pub told_by : Option Answer → Answer
 told_by None = ToAsked (Err NotFound)
 told_by (Some told) = told
+
+-- it was refused for storage
+abbrev pub is_storage : Result (Option Answer) CallError → Bool
+is_storage (Ok found) = false
+is_storage (Err Memory) = false
+is_storage (Err Storage) = true
+
+-- what a shard shows, where one that was refused for storage shows nothing
+abbrev pub found_in : Result (Option Answer) CallError → Result (Option Answer) CallError
+found_in (Ok found) = Ok found
+found_in (Err Memory) = Err Memory
+found_in (Err Storage) = Ok None
 
 -- A query by an event's id alone was put to a shard: what a room of it shows, if one shows it.
 pub record IsAskTurn (call : Call) (old new : BerthView Entry) (result : Result (Option Answer) CallError) : Type 0 where

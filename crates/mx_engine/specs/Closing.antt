@@ -22,9 +22,10 @@ module _ {E : Type 0} where
 
   -- The journal of a dock of which the callers know this, once they are done. It is the opening one and then entries that
   -- each have the number of one of them; among these the entries of a number are those that its caller added, each once
-  -- and in their order; and what each had seen is a beginning of it.
+  -- and in their order; and what each had seen is a beginning of it. All of them know the same opening one.
   pub record IsWhole (caller : E → ℕ) (opening : List E) (known : List (BerthView E)) (journal : List E) : Type 0 where
     pub opened : IsPrefix opening journal
+    pub same : All (λ v. v.opening ≡ opening) known
     pub numbered : All (λ e. Any (λ v. v.number ≡ caller e) known) (since opening journal)
     pub added : All (λ v. entries_of caller v.number (since opening journal) ≡ v.added) known
     pub seen : All (λ v. IsPrefix v.seen journal) known

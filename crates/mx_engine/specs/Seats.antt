@@ -51,6 +51,10 @@ module _ {K L V G : Type 0} where
   AreAllSeats engine seats = (n : ℕ) → 1 ≤ n → n ≤ seats_made engine → Any (λ s. seat_number s ≡ n) seats
 
 module _ {K L : Type 0} where
+  -- the first seat is among these
+  abbrev pub HasFirstSeat : List (Seat K L) → Type 0
+  HasFirstSeat seats = Any (λ s. seat_number s ≡ 1) seats
+
   -- the first seat stands first
   abbrev pub BeginsWithFirstSeat : List (Seat K L) → Type 0
   BeginsWithFirstSeat [] = ⊥

@@ -1,10 +1,10 @@
 // Queries by an event's id alone, which are put to each shard.
-ghost use Rattle.std.specs.Prelude.{◌≡◌, None, IfOk};
+ghost use Rattle.std.specs.Prelude.{◌≡◌, ◌||◌, None, Err, IfOk};
 ghost use Rattle.mx_room.specs.Queries.{room_named};
 ghost use Rattle.mx_shard.specs.LoneRoom.{to_ask};
 ghost use Rattle.mx_engine.specs.Views.{AddsNothing, AreSameViews};
-ghost use Rattle.mx_engine.specs.Calls.{IsShownBy};
-ghost use Rattle.mx_engine.specs.Calling.{IsAskTurn};
+ghost use Rattle.mx_engine.specs.Calls.{IsShownBy, IsRefusedBySome};
+ghost use Rattle.mx_engine.specs.Calling.{IsAskTurn, found_in, is_storage};
 ghost use Rattle.mx_dock.specs.Dock.{own};
 ghost use Rattle.mx_engine.specs.Berths.{AreBerthsAt, IsBerthAt, views_of};
 
@@ -17,7 +17,8 @@ use mx_room::Denied;
 use mx_shard::Answer;
 use std::sync::Wait;
 
-/// What a room of some shard shows. The shards are asked in turn until one shows it.
+/// What a room of some shard shows. The shards are asked in turn until one shows it. One that is refused for storage does
+/// not end this: it is answered so only where no other one shows it.
 pub(crate) fn ask_each<R: Wait, K: Keeper<Row = ShardRow>, G: Gate>(
     rt: &R,
     gate: &G,
@@ -32,16 +33,43 @@ pub(crate) fn ask_each<R: Wait, K: Keeper<Row = ShardRow>, G: Gate>(
     ensures same { AreSameViews (views_of berths.old.items) (views_of berths.new.items) }
     ensures nothing { AddsNothing (views_of berths.old.items) (views_of berths.new.items) }
     ensures shown { IfOk result (IsShownBy (to_ask question.now.origin.now question.now.moment question.now.query.now) (views_of berths.new.items)) }
+    ensures storage { result ≡ Err CallError.Storage → IsRefusedBySome (to_ask question.now.origin.now question.now.moment question.now.query.now) (views_of berths.new.items) }
 {
+    let mut is_refused = false;
     for number in 0..docks.len() {
         let place = Place::new(number, docks.len());
         let berth = &mut berths[number];
         let dock = &docks[number];
-        if let Some(answer) = ask_one(rt, gate, place, dock, berth, caller, question)? {
+        let asked = ask_one(rt, gate, place, dock, berth, caller, question);
+        is_refused = is_refused_by_now(&asked, is_refused);
+        if let Some(answer) = found(asked)? {
             return Ok(answer);
         }
     }
+    if is_refused {
+        return Err(CallError::Storage);
+    }
     Ok(Answer::ToAsked(Err(Denied::NotFound)))
+}
+
+// Whether this shard was refused for storage, or one before it was.
+fn is_refused_by_now(asked: &Result<Option<Answer>, CallError>, before: bool) -> bool
+    ensures { result ≡ (is_storage asked.now || before) }
+{
+    match asked {
+        Err(CallError::Storage) => true,
+        _ => before,
+    }
+}
+
+// What a shard shows, if it shows something. One that is refused for storage shows nothing.
+fn found(asked: Result<Option<Answer>, CallError>) -> Result<Option<Answer>, CallError>
+    ensures { result ≡ found_in asked }
+{
+    match asked {
+        Err(CallError::Storage) => Ok(None),
+        _ => asked,
+    }
 }
 
 // What a room of the shard at this place shows, if one shows it.

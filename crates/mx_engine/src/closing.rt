@@ -67,6 +67,22 @@ pub(crate) fn close_all<R: Wait, K: Keeper<Row = ShardRow>, L: Keeper<Row = Book
 
 // ---- seats
 
+/// Where the first seat stands among these.
+pub(crate) fn first_among<K: Keeper<Row = ShardRow>, L: Keeper<Row = BookRow>>(
+    seats: &[Seat<K, L>],
+) -> usize
+    requires { Any (λ seat. seat.number ≡ 1) seats.now }
+    ensures within { result < length seats.now }
+    ensures first { (d : Seat K L) → (get_or seats.now result d).number ≡ 1 }
+{
+    for place in 0..seats.len() {
+        if seats[place].number() == 1 {
+            return place;
+        }
+    }
+    unreachable!()
+}
+
 // Gives the other seats back; the first one then knows what each of them does.
 fn gather<K: Keeper<Row = ShardRow>, L: Keeper<Row = BookRow>>(
     shards: &[PaddedDock<DockedShard<K>>],

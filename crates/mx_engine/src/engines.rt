@@ -1,5 +1,5 @@
 // The server.
-ghost use Rattle.std.specs.Prelude.{◌≡◌, ◌+◌, ◌<◌, ◌≤◌, ◌⊎◌, ℕ, List, [], ◌∷◌, All, IfOk, OnErr, IsTrue, length, get_or, map};
+ghost use Rattle.std.specs.Prelude.{◌≡◌, ◌+◌, ◌<◌, ◌≤◌, ◌⊎◌, ℕ, List, [], ◌∷◌, All, None, Err, IfOk, OnErr, IsTrue, length, get_or, map};
 ghost use Rattle.mx_dock.specs.Journal.{IsPrefix};
 ghost use Rattle.mx_pdu.specs.Event.{room_of};
 ghost use Rattle.mx_room.specs.Queries.{room_named};
@@ -10,14 +10,14 @@ ghost use Rattle.mx_world.specs.Worlds.{shard_journals, book_journals, none_open
 ghost use Rattle.mx_engine.specs.Places.{book_caller};
 ghost use Rattle.mx_engine.specs.Views.{view_at, AddsNothing, AreSameViews};
 ghost use Rattle.mx_world.specs.Offers.{offer_by};
-ghost use Rattle.mx_engine.specs.Calls.{IsAnswered, IsAsked};
+ghost use Rattle.mx_engine.specs.Calls.{IsAnswered, IsAsked, IsRefusedBySome};
 ghost use Rattle.mx_engine.specs.Transactions.{IsReplied, IsRefused};
-ghost use Rattle.mx_engine.specs.Seats.{AreAllSeats, BeginsWithFirstSeat, IsSeatOf, seat_number, seats_made, shard_views, book_views, verifier_of};
+ghost use Rattle.mx_engine.specs.Seats.{AreAllSeats, BeginsWithFirstSeat, HasFirstSeat, IsSeatOf, seat_number, seats_made, shard_views, book_views, verifier_of};
 ghost use Rattle.mx_engine.specs.Closing.{IsNew, IsWhole, known_at};
 
 use crate::asking::ask_each;
 use crate::calls::{Question, ShardCall, call_in};
-use crate::closing::close_all;
+use crate::closing::{close_all, first_among};
 use crate::docked::{DockedBook, DockedShard, PaddedDock};
 use crate::gates::Gate;
 use crate::meeting::meet_each;
@@ -190,8 +190,12 @@ impl<
     /// The answer to a server's query, at a moment: that of the room which it names, or, of a query by an event's id
     /// alone, what some room shows. Such a query is put to the shards in turn, until one shows it.
     ///
-    /// Its errors are as of [`host`](Engine::host), of each shard that is asked. Source: the Matrix specification,
-    /// Server-Server API, "Retrieving events" and "Backfilling and retrieving missing events".
+    /// Its errors are as of [`host`](Engine::host), of the shard of the room that is named, else of the shards that are
+    /// asked. A query by an event's id goes on behind a shard that is refused for storage, and is answered so only where
+    /// no other one shows it.
+    ///
+    /// Source: the Matrix specification, Server-Server API, "Retrieving events" and "Backfilling and retrieving missing
+    /// events".
     pub fn ask<R: Wait>(
         &self,
         rt: &R,
@@ -207,6 +211,7 @@ impl<
         ensures ok { IfOk result (IsAsked (seat_number seat.old) (to_ask origin.now now query.now) (room_named query.now)
             (shard_views seat.old) (shard_views seat.new)) }
         ensures nothing { AddsNothing (shard_views seat.old) (shard_views seat.new) }
+        ensures storage { room_named query.now ≡ None → result ≡ Err CallError.Storage → IsRefusedBySome (to_ask origin.now now query.now) (shard_views seat.new) }
         ensures books { book_views seat.new ≡ book_views seat.old }
     {
         let caller = seat.number;
@@ -260,11 +265,11 @@ impl<
     ///
     /// Each journal is the one at the opening, and then entries that each have the number of a seat. The entries of a
     /// number are those that its seat added, each once and in their order, and what each seat has seen is a beginning of
-    /// the journal. No transaction is open. It asks for all seats, the first one first: that is how no entry can be
-    /// missed. It takes no memory. It waits until all shards and books are in.
+    /// the journal. No transaction is open. It asks for all seats, in any order: that is how no entry can be missed. It
+    /// takes no memory. It waits until all shards and books are in.
     pub fn close<R: Wait>(self, rt: &R, alloc: Global, seats: Vec<Seat<K, L>>) -> World<K, L>
         requires mine { All (IsSeatOf self) seats.items }
-        requires first { BeginsWithFirstSeat seats.items }
+        requires first { HasFirstSeat seats.items }
         requires all { AreAllSeats self seats.items }
         ensures none_open { IsTrue (none_open result) }
         // There are as many shards and books as each seat knows of.
@@ -277,7 +282,8 @@ impl<
         ensures legal_books { All (λ book. IsTrue (is_legal book.journal)) result.books }
     {
         let mut others = seats;
-        let first = others.remove(0);
+        let place = first_among(&others);
+        let first = others.remove(place);
         let Engine { shards, books, .. } = self;
         let (shards, books) = close_all(rt, shards, books, first, others);
         World::from_parts(alloc, shards, books)

@@ -1,4 +1,7 @@
 // Callers of an engine.
+ghost use Rattle.std.specs.Prelude.{◌≡◌};
+ghost use Rattle.mx_engine.specs.Seats.{seat_number};
+
 use crate::docked::{DockedBook, DockedShard};
 use mx_book::Book;
 use mx_dock::Berth;
@@ -18,4 +21,13 @@ pub struct Seat<K: Keeper<Row = ShardRow>, L: Keeper<Row = BookRow>> {
     // Of the first seat: empty, with room for what closing the engine gives.
     pub(crate) closed_shards: Vec<Shard<K>>,
     pub(crate) closed_books: Vec<Book<L>>,
+}
+
+impl<K: Keeper<Row = ShardRow>, L: Keeper<Row = BookRow>> Seat<K, L> {
+    /// Its number. An entry that came through it has this number as its caller's.
+    pub fn number(&self) -> u32
+        ensures { result ≡ seat_number self.now }
+    {
+        self.number.number()
+    }
 }

@@ -1,11 +1,11 @@
-use Rattle.std.proofs.Common.{◌<◌, ◌∙◌, ap, length, set, sym, subst, arith, None, Some, Ok}
+use Rattle.std.proofs.Common.{◌≡◌, ◌<◌, ◌≤◌, ◌+◌, ◌∙◌, ap, length, set, sym, subst, arith, None, Some, Ok}
 use Rattle.std.proofs.lemmas.List.{length-map, length-set}
 use Rattle.mx_dock.specs.Dock.{own}
 use Rattle.mx_shard.specs.LoneRoom.{to_ask}
 use Rattle.mx_engine.specs.Berths.{views_of}
 use Rattle.mx_engine.specs.Calling.{IsAskTurn}
 use Rattle.mx_engine.proofs.TurnLemmas.{told_nothing, nothing_refl}
-use Rattle.mx_engine.proofs.AskingLemmas.{same_refl, same_trans, same_nothing, nothing_trans, shown_found, shows_here, none_next}
+use Rattle.mx_engine.proofs.AskingLemmas.{same_refl, same_trans, same_nothing, nothing_trans, shown_found, shows_here, AreAsked, asked_none, asked_more, found_some, never_storage, all_refused, all_unshown}
 use Rattle.mx_engine.proofs.BerthLemmas.{seated_set}
 use Rattle.mx_engine.proofs.asking.ask_each.Goals as goal
 
@@ -14,26 +14,31 @@ loop-number-init g c = record {
   seated = c.requires.seated;
   same = same_refl (views_of c.args.berths.now.items);
   nothing = nothing_refl (views_of c.args.berths.now.items);
-  none = λ m below. absurd (let e : ⊥ = omega (arith, below) in e);
+  within = omega arith;
+  asked = asked_none (to_ask c.args.question.now.origin.now c.args.question.now.moment c.args.question.now.query.now) (views_of c.args.berths.now.items);
 }
+
+pub returns-in_err-answer-clause-storage : goal.returns-in_err-answer-clause-storage
+returns-in_err-answer-clause-storage g c = λ is.
+    absurd (never_storage c.ask_one-asked.result c.from_residual.result c.in_err-answer.field-0.0 c.from_residual.ensures.1 (sym c.found.ensures ∙ c.in_err-answer.was) is)
 
 pub returns-in_err-answer-clause-same : goal.returns-in_err-answer-clause-same
 returns-in_err-answer-clause-same g c =
     let berths = c.loop-number.berths.items in
     let n = c.loop-number.number in
     let k : n < length berths = subst (λ j. n < j) (sym c.loop-number.invariant.seated.same) c.loop-number-test.true in
-    let t = c.ask_one.ensures.turn in
+    let t = c.ask_one-asked.ensures.turn in
     same_trans (views_of c.args.berths.now.items) (views_of berths) _ c.loop-number.invariant.same
-    (same_nothing (views_of berths) _ (told_nothing berths n c.index_mut-berth.result.now c.ask_one.new.berth t.journal k (sym c.index_mut-berth.ensures.value) t.later t.seen))
+    (same_nothing (views_of berths) _ (told_nothing berths n c.index_mut-berth.result.now c.ask_one-asked.new.berth t.journal k (sym c.index_mut-berth.ensures.value) t.later t.seen))
 
 pub returns-in_err-answer-clause-nothing : goal.returns-in_err-answer-clause-nothing
 returns-in_err-answer-clause-nothing g c =
     let berths = c.loop-number.berths.items in
     let n = c.loop-number.number in
     let k : n < length berths = subst (λ j. n < j) (sym c.loop-number.invariant.seated.same) c.loop-number-test.true in
-    let t = c.ask_one.ensures.turn in
+    let t = c.ask_one-asked.ensures.turn in
     nothing_trans (views_of c.args.berths.now.items) (views_of berths) _ c.loop-number.invariant.nothing
-    (told_nothing berths n c.index_mut-berth.result.now c.ask_one.new.berth t.journal k (sym c.index_mut-berth.ensures.value) t.later t.seen)
+    (told_nothing berths n c.index_mut-berth.result.now c.ask_one-asked.new.berth t.journal k (sym c.index_mut-berth.ensures.value) t.later t.seen)
 
 pub loop-number-preserved : goal.loop-number-preserved
 loop-number-preserved g c =
@@ -42,40 +47,51 @@ loop-number-preserved g c =
     let call = to_ask c.args.question.now.origin.now c.args.question.now.moment c.args.question.now.query.now in
     let seated = c.loop-number.invariant.seated in
     let k : n < length berths = subst (λ j. n < j) (sym seated.same) c.loop-number-test.true in
-    let t = c.ask_one.ensures.turn in
-    let change = told_nothing berths n c.index_mut-berth.result.now c.ask_one.new.berth t.journal k (sym c.index_mut-berth.ensures.value) t.later t.seen in
-    let none : IsAskTurn call (own c.index_mut-berth.result.now) (own c.ask_one.new.berth) (Ok None) =
-    subst (λ r. IsAskTurn call (own c.index_mut-berth.result.now) (own c.ask_one.new.berth) r) (c.in_ok-answer.was ∙ ap Ok c.in_default.is) t in
+    let t = c.ask_one-asked.ensures.turn in
+    let change = told_nothing berths n c.index_mut-berth.result.now c.ask_one-asked.new.berth t.journal k (sym c.index_mut-berth.ensures.value) t.later t.seen in
     record {
-      seated = seated_set c.args.docks.now c.args.caller berths n c.new-place.result c.index-docks-number.result c.deref.result.now c.ask_one.new.berth seated c.loop-number-test.true c.new-place.ensures.number c.new-place.ensures.count (sym c.index-docks-number.is) c.deref.ensures c.ask_one.ensures.berth;
+      seated = seated_set c.args.docks.now c.args.caller berths n c.new-place.result c.index-docks-number.result c.deref.result.now c.ask_one-asked.new.berth seated c.loop-number-test.true c.new-place.ensures.number c.new-place.ensures.count (sym c.index-docks-number.is) c.deref.ensures c.ask_one-asked.ensures.berth;
       same = same_trans (views_of c.args.berths.now.items) (views_of berths) _ c.loop-number.invariant.same (same_nothing (views_of berths) _ change);
       nothing = nothing_trans (views_of c.args.berths.now.items) (views_of berths) _ c.loop-number.invariant.nothing change;
-      none = none_next call berths n c.ask_one.new.berth c.loop-number.invariant.none (shows_here call berths n c.index_mut-berth.result.now c.ask_one.new.berth None k none);
+      within = omega (arith, c.loop-number-test.true);
+      asked = subst (AreAsked call (views_of (set berths n c.ask_one-asked.new.berth)) (n + 1)) (sym c.is_refused_by_now-is_refused.ensures)
+          (asked_more call berths n c.index_mut-berth.result.now c.ask_one-asked.new.berth c.loop-number.is_refused c.ask_one-asked.result k c.loop-number.invariant.asked t (sym c.found.ensures ∙ c.in_ok-answer.was ∙ ap Ok c.in_default.is));
     }
 
+pub returns-then-is_refused-clause-storage : goal.returns-then-is_refused-clause-storage
+returns-then-is_refused-clause-storage g c = λ is.
+    let call = to_ask c.args.question.now.origin.now c.args.question.now.moment c.args.question.now.query.now in
+    let views = views_of c.loop-number.berths.items in
+    let long : length views ≡ length c.args.docks.now = length-map c.loop-number.berths.items own ∙ c.loop-number.invariant.seated.same in
+    let past = c.loop-number-test.false in
+    let within : c.loop-number.number ≤ length c.args.docks.now = c.loop-number.invariant.within in
+    all_refused call views c.loop-number.number c.loop-number.is_refused c.loop-number.invariant.asked (omega (arith, long, past)) (omega (arith, long, within)) c.if-is_refused.true
+
 pub returns-clause-shown : goal.returns-clause-shown
-returns-clause-shown g c = λ n l.
-    let seated = c.loop-number.invariant.seated in
-    let k : n < length c.args.docks.now = subst (λ j. n < j) (length-map c.loop-number.berths.items own ∙ seated.same) l in
-    c.loop-number.invariant.none n (omega (arith, k, c.loop-number-test.false))
+returns-clause-shown g c =
+    let call = to_ask c.args.question.now.origin.now c.args.question.now.moment c.args.question.now.query.now in
+    let views = views_of c.loop-number.berths.items in
+    let long : length views ≡ length c.args.docks.now = length-map c.loop-number.berths.items own ∙ c.loop-number.invariant.seated.same in
+    let past = c.loop-number-test.false in
+    all_unshown call views c.loop-number.number c.loop-number.is_refused c.loop-number.invariant.asked (omega (arith, long, past)) c.if-is_refused.false
 
 pub returns-in-Some-clause-same : goal.returns-in-Some-clause-same
 returns-in-Some-clause-same g c =
     let berths = c.loop-number.berths.items in
     let n = c.loop-number.number in
     let k : n < length berths = subst (λ j. n < j) (sym c.loop-number.invariant.seated.same) c.loop-number-test.true in
-    let t = c.ask_one.ensures.turn in
+    let t = c.ask_one-asked.ensures.turn in
     same_trans (views_of c.args.berths.now.items) (views_of berths) _ c.loop-number.invariant.same
-    (same_nothing (views_of berths) _ (told_nothing berths n c.index_mut-berth.result.now c.ask_one.new.berth t.journal k (sym c.index_mut-berth.ensures.value) t.later t.seen))
+    (same_nothing (views_of berths) _ (told_nothing berths n c.index_mut-berth.result.now c.ask_one-asked.new.berth t.journal k (sym c.index_mut-berth.ensures.value) t.later t.seen))
 
 pub returns-in-Some-clause-nothing : goal.returns-in-Some-clause-nothing
 returns-in-Some-clause-nothing g c =
     let berths = c.loop-number.berths.items in
     let n = c.loop-number.number in
     let k : n < length berths = subst (λ j. n < j) (sym c.loop-number.invariant.seated.same) c.loop-number-test.true in
-    let t = c.ask_one.ensures.turn in
+    let t = c.ask_one-asked.ensures.turn in
     nothing_trans (views_of c.args.berths.now.items) (views_of berths) _ c.loop-number.invariant.nothing
-    (told_nothing berths n c.index_mut-berth.result.now c.ask_one.new.berth t.journal k (sym c.index_mut-berth.ensures.value) t.later t.seen)
+    (told_nothing berths n c.index_mut-berth.result.now c.ask_one-asked.new.berth t.journal k (sym c.index_mut-berth.ensures.value) t.later t.seen)
 
 pub returns-in-Some-clause-shown : goal.returns-in-Some-clause-shown
 returns-in-Some-clause-shown g c =
@@ -84,10 +100,10 @@ returns-in-Some-clause-shown g c =
     let call = to_ask c.args.question.now.origin.now c.args.question.now.moment c.args.question.now.query.now in
     let k : n < length berths = subst (λ j. n < j) (sym c.loop-number.invariant.seated.same) c.loop-number-test.true in
     let told = c.in-Some.answer in
-    let t : IsAskTurn call (own c.index_mut-berth.result.now) (own c.ask_one.new.berth) (Ok (Some told)) =
-    subst (λ r. IsAskTurn call (own c.index_mut-berth.result.now) (own c.ask_one.new.berth) r) (c.in_ok-answer.was ∙ ap Ok c.in-Some.is) c.ask_one.ensures.turn in
-    shown_found call (views_of (set berths n c.ask_one.new.berth)) n told t.told (subst (λ j. n < j) (sym (length-map (set berths n c.ask_one.new.berth) own ∙ length-set berths n c.ask_one.new.berth)) k) (shows_here call berths n c.index_mut-berth.result.now c.ask_one.new.berth (Some told) k t)
+    let t : IsAskTurn call (own c.index_mut-berth.result.now) (own c.ask_one-asked.new.berth) (Ok (Some told)) =
+    subst (λ r. IsAskTurn call (own c.index_mut-berth.result.now) (own c.ask_one-asked.new.berth) r) (found_some c.ask_one-asked.result told (sym c.found.ensures ∙ c.in_ok-answer.was ∙ ap Ok c.in-Some.is)) c.ask_one-asked.ensures.turn in
+    shown_found call (views_of (set berths n c.ask_one-asked.new.berth)) n told t.told (subst (λ j. n < j) (sym (length-map (set berths n c.ask_one-asked.new.berth) own ∙ length-set berths n c.ask_one-asked.new.berth)) k) (shows_here call berths n c.index_mut-berth.result.now c.ask_one-asked.new.berth (Some told) k t)
 
 pub returns-in-Some-clause-seated : goal.returns-in-Some-clause-seated
 returns-in-Some-clause-seated g c =
-    seated_set c.args.docks.now c.args.caller c.loop-number.berths.items c.loop-number.number c.new-place.result c.index-docks-number.result c.deref.result.now c.ask_one.new.berth c.loop-number.invariant.seated c.loop-number-test.true c.new-place.ensures.number c.new-place.ensures.count (sym c.index-docks-number.is) c.deref.ensures c.ask_one.ensures.berth
+    seated_set c.args.docks.now c.args.caller c.loop-number.berths.items c.loop-number.number c.new-place.result c.index-docks-number.result c.deref.result.now c.ask_one-asked.new.berth c.loop-number.invariant.seated c.loop-number-test.true c.new-place.ensures.number c.new-place.ensures.count (sym c.index-docks-number.is) c.deref.ensures c.ask_one-asked.ensures.berth

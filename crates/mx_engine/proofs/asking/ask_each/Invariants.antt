@@ -1,7 +1,8 @@
+use Rattle.std.proofs.Common.{◌≤◌, length}
 use Rattle.mx_shard.specs.LoneRoom.{to_ask}
 use Rattle.mx_engine.specs.Views.{AddsNothing, AreSameViews}
 use Rattle.mx_engine.specs.Berths.{AreBerthsAt, views_of}
-use Rattle.mx_engine.proofs.AskingLemmas.{NoneBefore}
+use Rattle.mx_engine.proofs.AskingLemmas.{AreAsked}
 use Rattle.mx_engine.proofs.asking.ask_each.Given as goal
 
 abbrev pub invariant-loop-number : goal.invariant-loop-number
@@ -9,5 +10,6 @@ invariant-loop-number g l = record {
   seated : AreBerthsAt l.fn.docks l.fn.caller l.berths.items;
   same : AreSameViews (views_of l.fn.berths.items) (views_of l.berths.items);
   nothing : AddsNothing (views_of l.fn.berths.items) (views_of l.berths.items);
-  none : NoneBefore (to_ask l.fn.question.origin.now l.fn.question.moment l.fn.question.query.now) (views_of l.berths.items) l.number;
+  within : l.number ≤ length l.fn.docks;
+  asked : AreAsked (to_ask l.fn.question.origin.now l.fn.question.moment l.fn.question.query.now) (views_of l.berths.items) l.number l.is_refused;
 }
