@@ -2,7 +2,7 @@ ghost use Rattle.std.specs.Prelude.{IfOk};
 ghost use Rattle.mx_engine.specs.Seats.{IsSeatOf};
 
 use crate::callers::{Caller, Plan, after_a_turn, callers_of, seats_of};
-use crate::engines::{TestEngine, TestSeat, closed, kept, opened, send};
+use crate::engines::{TestEngine, TestSeat, closed, closed_from_the_last, kept, opened, send};
 use crate::gates::{Meeting, MeetingGate};
 use crate::room_events::{
     FIRST_ROOM, ID_OF_JOIN_OF_D, JOIN_OF_D, REPLY_TO_FIRST_ROOM, RoomEvents, SECOND_ROOM, events,
@@ -201,5 +201,27 @@ fn seat_to_seat(rt: HostRuntime) -> Result<(), Fail> {
         .ask(&rt, &mut other, &origin, now, &query)
         .map_err(refused)?;
     assert!(rt; matches!(answer, Answer::ToAsked(Ok(QueryReply::Event(_)))));
+    Ok(())
+}
+
+// The last seat is given back first: what each has added is all there, with its number.
+#[test]
+fn seats_back_from_the_last(rt: HostRuntime) -> Result<(), Fail> {
+    let alloc = rt.alloc();
+    let (engine, seats) = opened(&rt, alloc, open_gate(alloc)?, 2)?;
+    assert_eq!(rt; seats.first().map(|seat| seat.number()), Some(1));
+    assert_eq!(rt; seats.last().map(|seat| seat.number()), Some(2));
+    let plans = [first(FIRST_ROOM, "1", 1), first(SECOND_ROOM, "2", 1)];
+    let callers = callers_of(alloc, &engine, seats, &plans)?;
+    let meeting = Meeting::new();
+    let callers = after_a_turn(&rt, alloc, &engine, callers, &meeting);
+    let seats = seats_of(alloc, callers)?;
+    let kept = kept(alloc, closed_from_the_last(&rt, alloc, engine, seats))?;
+    let mut numbers = 0u32;
+    for rows in &kept.rooms {
+        assert_eq!(rt; rows.len(), 1);
+        numbers = numbers.saturating_add(rows[0].caller.number());
+    }
+    assert_eq!(rt; numbers, 3);
     Ok(())
 }

@@ -77,6 +77,20 @@ pub fn closed<R: Wait>(
     engine.close(rt, alloc, seats)
 }
 
+// The same, where the last seat is given back first.
+pub fn closed_from_the_last<R: Wait>(
+    rt: &R,
+    alloc: Global,
+    engine: TestEngine,
+    seats: Vec<TestSeat>,
+) -> World<Rooms, Replies>
+    requires { AreTheSeats engine seats.items }
+{
+    let mut seats = seats;
+    seats.reverse();
+    engine.close(rt, alloc, seats)
+}
+
 // The rows of each shard and of each book of a server.
 #[derive(Drop)]
 pub struct KeptRows {

@@ -16,6 +16,8 @@ mod hash_tests;
 #[cfg(test)]
 mod keeper_tests;
 #[cfg(test)]
+mod refusal_tests;
+#[cfg(test)]
 mod room_events;
 #[cfg(test)]
 mod shard_tests;

@@ -66,10 +66,10 @@ fn word(answer: &Answer) -> &'static str {
 
 // A keeper that takes so many rows, and then fails each time. It holds none.
 #[derive(Drop)]
-struct FailingKeeper {
-    alloc: Global,
-    left: u64,
-    failures: u64,
+pub struct FailingKeeper {
+    pub alloc: Global,
+    pub left: u64,
+    pub failures: u64,
 }
 
 impl Keeper for FailingKeeper {
