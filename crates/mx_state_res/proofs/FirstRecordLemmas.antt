@@ -3,10 +3,9 @@ use Rattle.std.proofs.Common.{◌≡◌, ◌<◌, ℕ, true, List, [], ◌∷◌
 use Rattle.std.specs.List.{All}
 use Rattle.std.specs.Prelude.{is_some}
 use Rattle.std.proofs.lemmas.List.Elements.{All-cons, All-nil}
-use Rattle.mx_redact.specs.Fields.{is_some_and}
-use Rattle.mx_auth.specs.Rules.{Key, key_of}
+use Rattle.mx_auth.specs.Rules.{Key}
 use Rattle.mx_auth.specs.declared.versions.RoomVersion.{RoomVersion}
-use Rattle.mx_graph.specs.Record.{Row, event, is_in}
+use Rattle.mx_graph.specs.Record.{Row, is_in}
 use Rattle.mx_graph.proofs.Closure.{is_in-from, is_in-to}
 use Rattle.mx_graph.proofs.Members.{In}
 use Rattle.mx_orders.specs.StateMap.{State, entry}
@@ -14,7 +13,7 @@ use Rattle.mx_orders.specs.Mainline.{mainline, mainline_order, power_key}
 use Rattle.mx_state_res.specs.Numbered.{AreKnown, IsDiffering, state_at, without}
 use Rattle.mx_state_res.specs.Resolution.{full_conflicted, power_events, resolve, unconflicted}
 use Rattle.mx_state_res.specs.LaterResolution.{agreed_line, checking_order}
-use Rattle.mx_state_res.specs.KeptResolutions.{AreAtKeys, AreChecked, DifferAtKeys, IsKept, events_checked, states_of}
+use Rattle.mx_state_res.specs.KeptResolutions.{AreChecked, AreSettled, DifferAtKeys, IsKept, events_checked, is_settled, states_of}
 use Rattle.mx_state_res.specs.declared.kept_resolutions.KeptResolution.{KeptResolution}
 use Rattle.mx_state_res.specs.declared.kept_resolutions.checked_events.CheckedEvent.{CheckedEvent}
 use Rattle.mx_state_res.proofs.KeyLemmas.{Sorted}
@@ -32,8 +31,7 @@ nothing-there d key e none = cc (sym (ap is_some none) ∙ e)
 
 module _ (v : RoomVersion) (rows : List Row) (states : List State) (base : ℕ) (others numbers : List ℕ) (are : numbers ≡ base ∷ others) (below : All (λ n. n < length states) numbers) (all_known : AreKnown rows states)
     (sorted : All (λ n. Sorted (state_at states n)) numbers) (d : State) (ordered : Sorted d) (differing : IsDiffering d (map (state_at states) numbers)) (key : Key) (there : is_some (entry d key) ≡ true)
-    (full : List ℕ) (is_full : full ≡ full_conflicted rows (map (state_at states) numbers)) (known : All (λ p. p < length rows) full) (no_power : power_events rows full ≡ [])
-    (at : All (λ p. is_some_and (λ k. is_some (entry d k)) (key_of (event rows p)) ≡ true) full) where
+    (full : List ℕ) (is_full : full ≡ full_conflicted rows (map (state_at states) numbers)) (known : All (λ p. p < length rows) full) (no_power : power_events rows full ≡ []) where
   abbrev ss : List State
   ss = map (state_at states) numbers
 
@@ -45,7 +43,7 @@ module _ (v : RoomVersion) (rows : List Row) (states : List State) (base : ℕ) 
 
   module _ (kept : KeptResolution) (items : kept.numbers.items ≡ numbers) (same : kept.differing ≡ d)
       (order : events_checked kept.order.items ≡ mainline_order rows (mainline rows (entry (without d (state_at states base)) power_key)) full)
-      (checked : AreChecked v rows (without d (state_at states base)) kept.order.items) (lower : kept.resolved < length states) (resolved : state_at states kept.resolved ≡ resolve v rows ss) where
+      (checked : AreChecked v rows (without d (state_at states base)) kept.order.items) (settled : kept.are_settled ≡ true → All (λ p. is_settled rows d (state_at states base) p ≡ true) full) (lower : kept.resolved < length states) (resolved : state_at states kept.resolved ≡ resolve v rows ss) where
     order-is : events_checked kept.order.items ≡ checking_order rows ss
     order-is = order ∙ (λ i. mainline_order rows (mainline rows (entry (sym agreed-is i) power_key)) (is_full i))
 
@@ -62,8 +60,8 @@ module _ (v : RoomVersion) (rows : List Row) (states : List State) (base : ℕ) 
       agreed = agreed-is ∙ ap (λ t. without t (state_at states base)) (sym same);
       order = order-is;
       known = all-events (λ p. p < length rows) kept.order.items (λ p m. all-at (λ p. p < length rows) full known p (within p m));
-      at = subst (λ t. AreAtKeys rows t kept.order.items) (sym same)
-          (all-events (λ p. is_some_and (λ k. is_some (entry d k)) (key_of (event rows p)) ≡ true) kept.order.items (λ p m. all-at (λ p. is_some_and (λ k. is_some (entry d k)) (key_of (event rows p)) ≡ true) full at p (within p m)));
+      settled = λ h. subst (λ t. AreSettled rows t (state_at states base) kept.order.items) (sym same)
+          (all-events (λ p. is_settled rows d (state_at states base) p ≡ true) kept.order.items (λ p m. all-at (λ p. is_settled rows d (state_at states base) p ≡ true) full (settled h) p (within p m)));
       no_powers = ap (power_events rows) (sym is_full) ∙ no_power;
     }
 

@@ -1,5 +1,5 @@
 -- What is kept of a resolution, as its room grows.
-use Rattle.std.proofs.Common.{◌≡◌, ◌+◌, ◌<◌, ◌&&◌, ℕ, true, List, [], ◌∷◌, ◌++◌, map, length, take, drop, slice_index_or, refl, sym, ap, ap₂, subst, ◌∙◌, arith}
+use Rattle.std.proofs.Common.{◌≡◌, ◌+◌, ◌<◌, ◌&&◌, ℕ, true, List, [], ◌∷◌, ◌++◌, map, length, take, drop, slice_index_or, refl, sym, ap, ap₂, subst, ◌∙◌, arith, ◌||◌}
 use Rattle.std.specs.Prelude.{IfSome, None, Option, Some, get_or, is_none, is_some}
 use Rattle.std.specs.List.{All}
 use Rattle.std.specs.FinMap.Entries.{put}
@@ -16,7 +16,7 @@ use Rattle.mx_orders.specs.StateMap.{State, entry, key_cmp}
 use Rattle.mx_orders.specs.Mainline.{mainline_cmp, mainline_order, power_key, put_in_order}
 use Rattle.mx_orders.proofs.LongerRecordLemmas.{mainline-longer, mainline_order-longer}
 use Rattle.mx_state_res.specs.Numbered.{AreKnown, state_at}
-use Rattle.mx_state_res.specs.Resolution.{after_check, full_conflicted, is_allowed, iterative_auth_checks, power_events, resolve, unconflicted}
+use Rattle.mx_state_res.specs.Resolution.{after_check, full_conflicted, has_entry, is_allowed, iterative_auth_checks, power_events, resolve, unconflicted}
 use Rattle.mx_state_res.specs.LaterResolution.{IsOneMore, agreed_line, checking_order, is_put}
 use Rattle.mx_state_res.specs.KeptResolutions.{AreChecked, DifferAtKeys, IsKept, IsOutcome, events_checked, first_of, is_put_by, made_by, states_of}
 use Rattle.mx_state_res.specs.declared.kept_resolutions.KeptResolution.{KeptResolution}
@@ -75,16 +75,16 @@ pub kept-one-more : (v : RoomVersion) (rows : List Row) → IsSound rows → (ol
     → IsOneMore rows (states_of old kept) s key x → state_at old newest ≡ put key_cmp key x s → (place : ℕ)
     → put_in_order (mainline_cmp rows (agreed_line rows (states_of old kept))) x (events_checked kept.order.items) ≡ take place (events_checked kept.order.items) ++ (x ∷ drop place (events_checked kept.order.items))
     → (o : Outcome) → IsOutcome v rows key x (iterative_auth_checks v rows (unconflicted (states_of old kept)) (take place (events_checked kept.order.items))) (drop place (events_checked kept.order.items)) o
-    → (c : CheckedEvent) → c.event ≡ x → c.is_put ≡ is_put_by o → next.numbers.items ≡ kept.numbers.items ++ newest ∷ [] → next.differing ≡ kept.differing → next.order.items ≡ take place kept.order.items ++ c ∷ drop place kept.order.items
+    → (c : CheckedEvent) → c.event ≡ x → c.is_put ≡ is_put_by o → next.numbers.items ≡ kept.numbers.items ++ newest ∷ [] → next.differing ≡ kept.differing → next.are_settled ≡ kept.are_settled → next.order.items ≡ take place kept.order.items ++ c ∷ drop place kept.order.items
     → new ≡ old ++ more → next.resolved < length new → state_at new next.resolved ≡ made_by o key x (state_at old kept.resolved)
     → IsKept v rows new next
-kept-one-more v rows sound old more new kept next h newest key x s known below there one is place placed o outcome c event flag numbers same items are l resolved =
+kept-one-more v rows sound old more new kept next h newest key x s known below there one is place placed o outcome c event flag numbers same settled items are l resolved =
     record {
       numbers = subst (All (λ n. n < length new)) (sym numbers) (all-grown old more new are (kept.numbers.items ++ newest ∷ []) all_below);
       some = (let e : length next.numbers.items ≡ length (kept.numbers.items ++ newest ∷ []) = ap length numbers in let f : length (kept.numbers.items ++ newest ∷ []) ≡ length kept.numbers.items + 1 = length-append kept.numbers.items (newest ∷ []) in omega arith);
       known = subst (AreKnown rows) (sym together) (each-known rows old (kept.numbers.items ++ newest ∷ []) known all_below);
       at_keys = subst (λ ts. DifferAtKeys rows ts (first_of new next) next) (sym ss) (subst (λ b. DifferAtKeys rows (states_of old kept ++ put key_cmp key x s ∷ []) b next) (sym base)
-          (differ-more rows sound v (states_of old kept) (first_of old kept) kept h.at_keys h.checked s key x there one place placed o outcome c event flag next same items));
+          (differ-more rows sound v (states_of old kept) (first_of old kept) kept h.at_keys h.checked s key x there one place placed o outcome c event flag next same settled items));
       checked = subst (λ ts. AreChecked v rows (unconflicted ts) next.order.items) (sym ss) (subst (AreChecked v rows (unconflicted (states_of old kept ++ put key_cmp key x s ∷ []))) (sym items)
           (checked-more rows sound v (states_of old kept) (first_of old kept) kept h.at_keys h.checked s key x there one place placed o outcome c event flag));
       below = l;
@@ -145,7 +145,7 @@ module _ (v : RoomVersion) (rows longer : List Row) (l : IsLonger rows longer) w
           agreed = h.at_keys.agreed;
           order = h.at_keys.order ∙ sym (order-longer ss known);
           known = λ k d m. (let a : (get_or kept.order.items k d).event < length rows = h.at_keys.known k d m in let b = l.more in omega arith);
-          at = λ k d m. ap (λ e. is_some_and (λ key. is_some (entry kept.differing key)) (key_of e)) (event-longer rows longer l (get_or kept.order.items k d).event (h.at_keys.known k d m)) ∙ h.at_keys.at k d m;
+          settled = λ e k d m. ap (λ q. is_some_and (λ key. is_some (entry kept.differing key) || has_entry (key, (get_or kept.order.items k d).event) (first_of states kept)) (key_of q)) (event-longer rows longer l (get_or kept.order.items k d).event (h.at_keys.known k d m)) ∙ h.at_keys.settled e k d m;
           no_powers = ap (power_events longer) (full-longer rows longer l ss known) ∙ power_events-longer rows longer l (full_conflicted rows ss) (full-events rows ss) ∙ h.at_keys.no_powers;
         };
         checked = checked-longer kept.order.items (unconflicted ss) (unconflicted-known rows ss known) h.at_keys.known h.checked;

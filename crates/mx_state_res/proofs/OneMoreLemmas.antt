@@ -1,5 +1,5 @@
 -- One state more among those that were resolved.
-use Rattle.std.proofs.Common.{◌≡◌, ℕ, ◌+◌, ◌<◌, Bool, true, false, List, [], ◌∷◌, ◌++◌, length, take, drop, Option, Some, None, inl, inr, refl, sym, ap, ap₂, subst, ◌∙◌, arith}
+use Rattle.std.proofs.Common.{◌≡◌, ℕ, ◌+◌, ◌<◌, Bool, true, false, List, [], ◌∷◌, ◌++◌, length, take, drop, Option, Some, None, inl, inr, refl, sym, ap, ap₂, subst, ◌∙◌, arith, ◌||◌}
 use Rattle.std.specs.Prelude.{if◌then◌else◌, option_map, unwrap_or, IfSome, is_some}
 use Rattle.std.specs.List.{All}
 use Rattle.std.specs.FinMap.Entries.{put}
@@ -12,12 +12,13 @@ use Rattle.mx_auth.specs.declared.versions.RoomVersion.{RoomVersion}
 use Rattle.mx_graph.specs.Record.{Row, event}
 use Rattle.mx_graph.specs.Graph.{IsSound}
 use Rattle.mx_graph.proofs.Members.{In}
+use Rattle.mx_graph.proofs.Closure.{or_left}
 use Rattle.mx_orders.specs.StateMap.{State, key_cmp, entry, with_event}
 use Rattle.mx_orders.specs.Mainline.{mainline, mainline_cmp, mainline_order, power_key, put_in_order}
 use Rattle.mx_state_res.specs.Numbered.{AllAlike, without}
-use Rattle.mx_state_res.specs.Resolution.{after_check, full_conflicted, iterative_auth_checks, power_events, resolve, unconflicted}
+use Rattle.mx_state_res.specs.Resolution.{after_check, full_conflicted, has_entry, iterative_auth_checks, power_events, resolve, unconflicted}
 use Rattle.mx_state_res.specs.LaterResolution.{IsOneMore, agreed_line, checking_order, is_put, resolution_with, stays}
-use Rattle.mx_state_res.specs.KeptResolutions.{AreAtKeys, AreChecked, DifferAtKeys, IsOutcome, events_checked, is_put_by, made_by}
+use Rattle.mx_state_res.specs.KeptResolutions.{AreChecked, AreSettled, DifferAtKeys, IsOutcome, events_checked, is_put_by, is_settled, made_by}
 use Rattle.mx_state_res.specs.declared.kept_resolutions.KeptResolution.{KeptResolution}
 use Rattle.mx_state_res.specs.declared.kept_resolutions.checked_events.CheckedEvent.{CheckedEvent}
 use Rattle.mx_state_res.specs.declared.kept_resolutions.outcomes.Outcome.{Outcome}
@@ -213,11 +214,11 @@ module _ (rows : List Row) (sound : IsSound rows) (v : RoomVersion) (ss : List S
         All-append P (take place order) (c ∷ drop place order) (All-take P place order at_keys.known)
         (All-cons P c (drop place order) (subst (λ n. n < length rows) (sym is) one.known) (All-drop P place order at_keys.known))
 
-    at-more : AreAtKeys rows kept.differing order_more
-    at-more =
-        let P : CheckedEvent → Type 0 = λ d. is_some_and (λ k. is_some (entry kept.differing k)) (key_of (event rows d.event)) ≡ true in
-        All-append P (take place order) (c ∷ drop place order) (All-take P place order at_keys.at)
-        (All-cons P c (drop place order) (ap (is_some_and (λ k. is_some (entry kept.differing k))) (ap (λ y. key_of (event rows y)) is ∙ one.at_key) ∙ there) (All-drop P place order at_keys.at))
+    settled-more : AreSettled rows kept.differing base order → AreSettled rows kept.differing base order_more
+    settled-more h =
+        let P : CheckedEvent → Type 0 = λ d. is_settled rows kept.differing base d.event ≡ true in
+        All-append P (take place order) (c ∷ drop place order) (All-take P place order h)
+        (All-cons P c (drop place order) (ap (is_settled rows kept.differing base) is ∙ ap (is_some_and (λ k. is_some (entry kept.differing k) || has_entry (k, x) base)) one.at_key ∙ or_left (is_some (entry kept.differing key)) (has_entry (key, x) base) there) (All-drop P place order h))
 
     events-more : events_checked order_more ≡ checking_order rows more
     events-more =
@@ -253,14 +254,14 @@ module _ (rows : List Row) (sound : IsSound rows) (v : RoomVersion) (ss : List S
         (checked-join v rows (take place order) (c ∷ drop place order) agreed (checked-before v rows order place agreed checked)
         (subst (λ ps. AreChecked v rows (iterative_auth_checks v rows agreed ps) (c ∷ drop place order)) (take-map (λ (d : CheckedEvent). d.event) place order) tail))
 
-    pub differ-more : (next : KeptResolution) → next.differing ≡ kept.differing → next.order.items ≡ order_more → DifferAtKeys rows more base next
-    differ-more next same items = record {
+    pub differ-more : (next : KeptResolution) → next.differing ≡ kept.differing → next.are_settled ≡ kept.are_settled → next.order.items ≡ order_more → DifferAtKeys rows more base next
+    differ-more next same settled items = record {
       key = at_keys.key;
       there = ap (λ t. is_some (entry t at_keys.key)) same ∙ at_keys.there;
       apart = λ q there h. at_keys.apart q (ap (λ t. is_some (entry t q)) (sym same) ∙ there) (alike-front q ss (put key_cmp key x s) h);
       agreed = unconflicted-more ∙ at_keys.agreed ∙ ap (λ t. without t base) (sym same);
       order = ap events_checked items ∙ events-more;
       known = subst (All (λ (d : CheckedEvent). d.event < length rows)) (sym items) known-more;
-      at = subst (λ t. AreAtKeys rows t next.order.items) (sym same) (subst (AreAtKeys rows kept.differing) (sym items) at-more);
+      settled = λ h. subst (λ t. AreSettled rows t base next.order.items) (sym same) (subst (AreSettled rows kept.differing base) (sym items) (settled-more (at_keys.settled (sym settled ∙ h))));
       no_powers = ap (power_events rows) full-more ∙ no-powers rows sound v ss s key x one;
     }

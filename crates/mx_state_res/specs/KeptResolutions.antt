@@ -1,5 +1,5 @@
 -- For proofs, and for the clauses of what is kept of a resolution.
-use Rattle.std.specs.Prelude.{◌≡◌, ◌≤◌, ◌<◌, ℕ, Bool, true, false, List, [], ◌∷◌, Some, All, is_some, length, map, slice_index_or}
+use Rattle.std.specs.Prelude.{◌≡◌, ◌≤◌, ◌<◌, ℕ, Bool, true, false, ◌||◌, List, [], ◌∷◌, Some, All, is_some, length, map, slice_index_or}
 use Rattle.std.specs.declared.cmp.Ordering.{Ordering}
 use Rattle.std.specs.Ordering.{is_gt}
 use Rattle.std.specs.FinMap.Entries.{put}
@@ -10,7 +10,7 @@ use Rattle.mx_graph.specs.Record.{Row, event}
 use Rattle.mx_orders.specs.StateMap.{State, entry, key_cmp}
 use Rattle.mx_state_res.specs.LaterResolution.{checking_order, is_put, stays}
 use Rattle.mx_state_res.specs.Numbered.{AllAlike, AreKnown, state_at, without}
-use Rattle.mx_state_res.specs.Resolution.{after_check, full_conflicted, power_events, resolve, unconflicted}
+use Rattle.mx_state_res.specs.Resolution.{after_check, full_conflicted, has_entry, power_events, resolve, unconflicted}
 use Rattle.mx_state_res.specs.declared.kept_resolutions.KeptResolution.{KeptResolution}
 use Rattle.mx_state_res.specs.declared.kept_resolutions.checked_events.CheckedEvent.{CheckedEvent}
 use Rattle.mx_state_res.specs.declared.kept_resolutions.outcomes.Outcome.{Outcome}
@@ -24,9 +24,12 @@ AreChecked v rows s (c ∷ cs) = (c.is_put ≡ is_put v rows s c.event) × AreCh
 abbrev pub events_checked : List CheckedEvent → List ℕ
 events_checked = map (λ c. c.event)
 
--- each of them stands at one of the keys of a state
-abbrev pub AreAtKeys : List Row → State → List CheckedEvent → Type 0
-AreAtKeys rows keys = All (λ c. is_some_and (λ key. is_some (entry keys key)) (key_of (event rows c.event)) ≡ true)
+-- an event stands at one of the keys of a map, or in a state
+abbrev pub is_settled : List Row → State → State → ℕ → Bool
+is_settled rows keys base p = is_some_and (λ key. is_some (entry keys key) || has_entry (key, p) base) (key_of (event rows p))
+
+abbrev pub AreSettled : List Row → State → State → List CheckedEvent → Type 0
+AreSettled rows keys base = All (λ c. is_settled rows keys base c.event ≡ true)
 
 -- none of them comes after one behind it
 abbrev pub IsInOrder : (ℕ → ℕ → Ordering) → List ℕ → Type 0
@@ -57,7 +60,7 @@ states_of states kept = map (state_at states) kept.numbers.items
 abbrev pub first_of : List State → KeptResolution → State
 first_of states kept = state_at states (slice_index_or kept.numbers.items 0 0)
 
--- states, of which `base` is the first, differ at some keys, of which `key` is one, their events in conflict stand there, and none of them is a power event
+-- states, of which `base` is the first, differ at some keys, of which `key` is one, and none of their events in conflict is a power event
 pub record DifferAtKeys (rows : List Row) (ss : List State) (base : State) (kept : KeptResolution) : Type 0 where
   pub key : Key
   pub there : is_some (entry kept.differing key) ≡ true
@@ -65,7 +68,7 @@ pub record DifferAtKeys (rows : List Row) (ss : List State) (base : State) (kept
   pub agreed : unconflicted ss ≡ without kept.differing base
   pub order : events_checked kept.order.items ≡ checking_order rows ss
   pub known : All (λ c. c.event < length rows) kept.order.items
-  pub at : AreAtKeys rows kept.differing kept.order.items
+  pub settled : kept.are_settled ≡ true → AreSettled rows kept.differing base kept.order.items
   pub no_powers : power_events rows (full_conflicted rows ss) ≡ []
 
 -- what is kept of the resolution of some states

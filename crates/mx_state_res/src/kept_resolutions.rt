@@ -27,7 +27,7 @@ const FEWEST_STATES: usize = 8;
 
 /// What is kept of the resolution of some of a room's states, so that with one state more it is worked out from there.
 ///
-/// None of the events in conflict is a power event, and all of them stand at the keys at which the states differ.
+/// None of the events in conflict is a power event.
 #[derive(Debug, Drop)]
 pub struct KeptResolution {
     /// The states.
@@ -36,6 +36,8 @@ pub struct KeptResolution {
     pub differing: StateMap,
     /// The events in conflict, in the order in which they were checked.
     pub order: Vec<CheckedEvent>,
+    /// Whether each of these events stands at one of these keys, or in the first of the states.
+    pub are_settled: bool,
     /// What they resolve to.
     pub resolved: StateNo,
 }

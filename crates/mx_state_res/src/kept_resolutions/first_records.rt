@@ -1,13 +1,11 @@
 // What is kept of a resolution that was worked out from nothing.
-ghost use Rattle.std.specs.Prelude.{◌≡◌, ◌<◌, All, IfOk, IfSome, IsTrue, is_some, length, map, true};
-ghost use Rattle.mx_redact.specs.Fields.{is_some_and};
-ghost use Rattle.mx_auth.specs.Rules.{key_of};
-ghost use Rattle.mx_graph.specs.Record as record_of;
+ghost use Rattle.std.specs.Prelude.{◌≡◌, ◌<◌, All, IfOk, IfSome, IsTrue, length, map, true};
 ghost use Rattle.mx_orders.specs.Mainline.{mainline, mainline_order as ordered, power_key};
 ghost use Rattle.mx_orders.specs.StateMap.{entry as entry_at};
-ghost use Rattle.mx_state_res.specs.KeptResolutions.{AreChecked, IsKept, events_checked};
+ghost use Rattle.mx_state_res.specs.KeptResolutions.{AreChecked, IsKept, events_checked, is_settled};
 ghost use Rattle.mx_state_res.specs.Numbered.{AreKnown, state_at, without};
 ghost use Rattle.mx_state_res.specs.Resolution as definition;
+ghost use Rattle.mx_state_res.specs.Resolution.{has_entry};
 
 use crate::checks::powers::power_events;
 use crate::checks::working_states::WorkingState;
@@ -20,14 +18,12 @@ use crate::states::state_numbers::StateNo;
 use mx_auth::RoomVersion;
 use mx_graph::{EventNo, Graph};
 use mx_orders::mainline_order;
-use mx_pdu::Pdu;
 use std::alloc::{AllocError, Global};
 
 // Where states differ at more keys nothing is kept.
 const MOST_KEYS: usize = 64;
 
-/// What is kept of a resolution, where states differ at a few keys, and the events in conflict stand there and are no power
-/// events.
+/// What is kept of a resolution, where states differ at a few keys, and the events in conflict are no power events.
 pub(crate) fn kept_resolution(
     version: RoomVersion,
     alloc: Global,
@@ -55,15 +51,17 @@ pub(crate) fn kept_resolution(
         return Ok(None);
     }
     let full = full_conflicted_at(alloc, graph, states, numbers, *base, &differing)?;
-    if !power_events(alloc, graph, &full)?.is_empty() || !are_all_at(graph, &full, &differing) {
+    if !power_events(alloc, graph, &full)?.is_empty() {
         return Ok(None);
     }
+    let are_settled = are_all_settled(graph, states, *base, &differing, &full);
     let order = order_checked(version, alloc, graph, states, *base, &differing, &full)?;
     let numbers = Vec::from_slice(alloc, numbers)?;
     Ok(Some(KeptResolution {
         numbers,
         differing,
         order,
+        are_settled,
         resolved,
     }))
 }
@@ -93,26 +91,55 @@ fn order_checked(
     Ok(order)
 }
 
-// Whether each of these events stands at one of the keys of a map.
-fn are_all_at(graph: &Graph, events: &[EventNo], keys: &StateMap) -> bool
-    requires { All (λ event. event < length graph.now) events.now }
+// Whether each of these events stands at one of the keys of a map, or in a state.
+fn are_all_settled(
+    graph: &Graph,
+    states: &States,
+    base: StateNo,
+    differing: &StateMap,
+    events: &[EventNo],
+) -> bool
+    requires base { base < length states.now }
+    requires events { All (λ event. event < length graph.now) events.now }
     ensures { IsTrue result → All (λ event.
-        is_some_and (λ key. is_some (entry_at keys.now key)) (key_of (record_of.event graph.now event)) ≡ true) events.now }
+        is_settled graph.now differing.now (state_at states.now base) event ≡ true) events.now }
 {
     for event in events {
-        if !is_at_one_of(&graph.row(*event).event, keys) {
+        if !is_event_settled(graph, states, base, differing, *event) {
             return false;
         }
     }
     true
 }
 
-// Whether an event stands at one of the keys of a map.
-fn is_at_one_of(event: &Pdu, keys: &StateMap) -> bool
-    ensures { result ≡ is_some_and (λ key. is_some (entry_at keys.now key)) (key_of event.now) }
+fn is_event_settled(
+    graph: &Graph,
+    states: &States,
+    base: StateNo,
+    differing: &StateMap,
+    event: EventNo,
+) -> bool
+    requires base { base < length states.now }
+    requires event { event < length graph.now }
+    ensures { result ≡ is_settled graph.now differing.now (state_at states.now base) event }
 {
-    match event.state_key() {
-        Some(state_key) => keys.get(event.kind(), state_key).is_some(),
+    let row = &graph.row(event).event;
+    match row.state_key() {
+        Some(state_key) => {
+            differing.get(row.kind(), state_key).is_some()
+                || is_entry(states, base, row.kind(), state_key, event)
+        }
+        None => false,
+    }
+}
+
+// Whether a state has an event at a key.
+fn is_entry(states: &States, state: StateNo, kind: &str, state_key: &str, event: EventNo) -> bool
+    requires { state < length states.now }
+    ensures { result ≡ has_entry ((kind.now, state_key.now), event) (state_at states.now state) }
+{
+    match states.get(state, kind, state_key) {
+        Some(there) => there == event,
         None => false,
     }
 }

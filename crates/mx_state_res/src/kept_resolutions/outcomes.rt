@@ -78,7 +78,7 @@ pub(crate) fn outcome_of(
     let mut state = WorkingState::without(alloc, states.state(*base), &kept.differing);
     let power_levels = state.get("m.room.power_levels", "");
     let place = place_of(alloc, graph, &power_levels, &kept.order, event)?;
-    if place == kept.order.len() {
+    if kept.are_settled && place == kept.order.len() {
         let outcome = outcome_at_end(version, alloc, graph, states, kept, event);
         return Ok(Some((place, outcome)));
     }

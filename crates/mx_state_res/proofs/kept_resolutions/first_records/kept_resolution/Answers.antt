@@ -1,11 +1,9 @@
 use Rattle.std.proofs.Common.{true, ◌≡◌, [], ℕ, refl, ap, subst, sym, ◌∙◌}
 use Rattle.std.specs.Prelude.{is_some, option_copied, slice_get}
 use Rattle.std.specs.List.{All}
-use Rattle.mx_redact.specs.Fields.{is_some_and}
-use Rattle.mx_auth.specs.Rules.{key_of}
-use Rattle.mx_graph.specs.Record.{event}
 use Rattle.mx_orders.specs.Mainline.{mainline, mainline_order, power_key}
 use Rattle.mx_orders.specs.StateMap.{entry}
+use Rattle.mx_state_res.specs.KeptResolutions.{is_settled}
 use Rattle.mx_state_res.specs.Numbered.{state_at, without}
 use Rattle.mx_state_res.specs.Resolution.{power_events}
 use Rattle.mx_state_res.proofs.FirstRecordLemmas.{first-record}
@@ -26,9 +24,8 @@ returns c =
     let powers = c.in_ok-power_events.field-0.items in
     let no_power : power_events rows full ≡ [] =
     ap (power_events rows) (sym c.deref.ensures.value) ∙ sym c.in_ok-power_events.ensures.set ∙ none-left powers c.in_ok-power_events.field-0.len c.in_ok-power_events.field-0.ok.0 (sym c.is_empty.ensures ∙ c.if-not-is_empty.false) in
-    let at : All (λ (p : ℕ). is_some_and (λ k. is_some (entry d k)) (key_of (event rows p)) ≡ true) full =
-    subst (All (λ (p : ℕ). is_some_and (λ k. is_some (entry d k)) (key_of (event rows p)) ≡ true)) c.deref-else-not-is_empty.ensures.value (c.are_all_at.ensures (c.if-not-are_all_at.false)) in
     first-record v rows states base c.in-Some.field-0-1.now numbers c.in-Some.ensures.cases.0 c.requires.numbers c.requires.known c.all_are_sorted.ensures d c.entries.ensures.sorted c.in_ok-differing.ensures e.0 there
-    full c.in_ok-full.ensures.set c.in_ok-full.ensures.known no_power at _ c.in_ok-numbers.ensures.items refl
-    (c.in_ok-order.ensures.order ∙ ap (mainline_order rows (mainline rows (entry (without d (state_at states base)) power_key))) c.deref-2.ensures.value)
-    c.in_ok-order.ensures.checked c.requires.below c.requires.resolved
+    full c.in_ok-full.ensures.set c.in_ok-full.ensures.known no_power _ c.in_ok-numbers.ensures.items refl
+    (c.in_ok-order.ensures.order ∙ ap (mainline_order rows (mainline rows (entry (without d (state_at states base)) power_key))) c.deref-3.ensures.value)
+    c.in_ok-order.ensures.checked
+    (λ yes. subst (All (λ (p : ℕ). is_settled rows d (state_at states base) p ≡ true)) c.deref-2.ensures.value (c.are_all_settled-are_settled.ensures yes)) c.requires.below c.requires.resolved

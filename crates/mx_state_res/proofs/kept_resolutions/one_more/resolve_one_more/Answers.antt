@@ -54,4 +54,4 @@ returns-clause-kept c =
     subst (λ o. IfSome o (λ (found : ℕ × Outcome). IsOutcome v rows key x (iterative_auth_checks v rows (unconflicted ss) (take found.0 events)) (drop found.0 events) found.1)) c.in-Some-3.is (c.in_ok-place.ensures.outcome key one.at_key) in
     let added = c.in_ok-resolved.ensures.added rows one.known c.requires.known in
     kept-one-more v rows c.graph_is_sound.ensures states added.more c.resolved_by.new.states kept _ c.requires.kept newest key x told.1.1.0 c.requires.known below told.1.0 one told.1.1.1.1 c.in-Some-3.place placed c.in-Some-3.outcome outcome
-    (record { event = x; is_put = c.is_put-is_put.result }) refl c.is_put-is_put.ensures c.in_ok-push.ensures.items refl c.in_ok-insert.ensures.items added.are c.in_ok-resolved.ensures.number (c.in_ok-resolved.ensures.resolved key one.at_key)
+    (record { event = x; is_put = c.is_put-is_put.result }) refl c.is_put-is_put.ensures c.in_ok-push.ensures.items refl refl c.in_ok-insert.ensures.items added.are c.in_ok-resolved.ensures.number (c.in_ok-resolved.ensures.resolved key one.at_key)

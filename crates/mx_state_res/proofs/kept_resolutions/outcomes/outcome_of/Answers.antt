@@ -150,7 +150,7 @@ returns-then-place-len-clause-outcome c =
     let all : take place events ≡ events = take_all place events (omega arith) in
     let none : drop place events ≡ [] = drop_all place events (omega arith) in
     let state : state_at states kept.resolved ≡ iterative_auth_checks v rows (unconflicted ss) (take place events) =
-    c.requires.kept.resolved ∙ resolved-is v rows ss (first_of states kept) kept at agreed_sorted ∙ ap (iterative_auth_checks v rows (unconflicted ss)) (sym all) in
+    c.requires.kept.resolved ∙ resolved-is v rows ss (first_of states kept) kept at c.if-kept.true agreed_sorted ∙ ap (iterative_auth_checks v rows (unconflicted ss)) (sym all) in
     λ key at_key.
     subst (λ ps. IsOutcome v rows key c.args.event (iterative_auth_checks v rows (unconflicted ss) (take place events)) ps c.outcome_at_end-outcome.result) (sym none)
     (subst (λ t. IsOutcome v rows key c.args.event t [] c.outcome_at_end-outcome.result) state (c.outcome_at_end-outcome.ensures key))
