@@ -198,8 +198,8 @@ fn run_jobs<R: Threads + Wait + Sync, K: Keeper<Row = ShardRow> + Send, G: Gate 
 
 // ---- where jobs stand
 
-/// Which docks have an event of a room of their shard, of so many docks.
-pub(crate) fn busy_docks(events: &[Offered], count: usize) -> [bool; 64]
+// Which docks have an event of a room of their shard, of so many docks.
+fn busy_docks(events: &[Offered], count: usize) -> [bool; 64]
     requires some { 0 < count }
     requires few { count ≤ 64 }
     ensures { (n : ℕ) → n < count → get_or result n true ≡ false → events_at (record { number = n; count = count }) events.now ≡ [] }
@@ -212,15 +212,18 @@ pub(crate) fn busy_docks(events: &[Offered], count: usize) -> [bool; 64]
     busy
 }
 
-/// Whether there are several of these.
-pub(crate) fn are_several(busy: &[bool; 64]) -> bool {
-    let mut found = 0u32;
-    for is_busy in busy {
-        if *is_busy {
-            found = found.saturating_add(1);
-        }
-    }
-    found > 1
+/// Whether events are of rooms of several shards, of so many.
+pub(crate) fn are_several(events: &[Offered], count: usize) -> bool
+    requires some { 0 < count }
+    requires few { count ≤ 64 }
+{
+    let Some(first) = events.first() else {
+        return false;
+    };
+    let place = Place::of(first.pdu.room_id().as_str(), count);
+    events
+        .iter()
+        .any(|offered| !place.has(offered.pdu.room_id().as_str()))
 }
 
 // Whether the dock with this number is busy.
@@ -400,14 +403,13 @@ fn take_out<K: Keeper<Row = ShardRow>>(
     back: Vec<Berth<DockedShard<K>>>,
     events: &[Offered],
     busy: &[bool; 64],
-    caller: Caller,
     jobs: &mut Vec<Job<K>>,
 )
-    requires seated { AreBerthsAt docks.now caller berths.old.items }
+    requires few { length berths.old.items ≤ 64 }
     requires busy { (n : ℕ) → n < length docks.now → get_or busy.now n true ≡ false → events_at (record { number = n; count = length docks.now }) events.now ≡ [] }
     requires none { jobs.old.items ≡ [] }
     requires room { length berths.old.items ≤ vec_capacity jobs.old }
-    ensures ready { AreReady docks.now caller events.now berths.old.items jobs.new.items }
+    ensures ready { (caller : ℕ) → AreBerthsAt docks.now caller berths.old.items → AreReady docks.now caller events.now berths.old.items jobs.new.items }
     ensures back { berths.new ≡ back }
 {
     let taken = mem::replace(berths, back);
@@ -451,30 +453,20 @@ pub(crate) fn offer_side_by_side<
     berths: &mut Vec<Berth<DockedShard<K>>>,
     sender: &Sender<'_>,
     events: &[Offered],
-    busy: &[bool; 64],
 ) -> Result<Vec<Told>, CallError>
-    requires seated { AreBerthsAt docks.now sender.now.caller berths.old.items }
-    requires busy { (n : ℕ) → n < length docks.now → get_or busy.now n true ≡ false → events_at (record { number = n; count = length docks.now }) events.now ≡ [] }
+    requires { AreBerthsAt docks.now sender.now.caller berths.old.items }
     ensures seated { AreBerthsAt docks.now sender.now.caller berths.new.items }
     ensures same { AreSameViews (views_of berths.old.items) (views_of berths.new.items) }
     ensures ok { IfOk result (λ told. AreOffered sender.now.caller sender.now.origin.now events.now (views_of berths.old.items) (views_of berths.new.items) told.items) }
     ensures err { OnErr result (SomeOffered sender.now.caller sender.now.origin.now events.now (views_of berths.old.items) (views_of berths.new.items)) }
 {
+    let busy = busy_docks(events, docks.len());
     let count = berths.len();
     let back = Vec::with_capacity(alloc, count)?;
     let mut jobs = Vec::with_capacity(alloc, count)?;
     let mut moves = Vec::with_capacity(alloc, count)?;
     let mut told = Vec::with_capacity(alloc, count)?;
-    take_out(
-        alloc,
-        docks,
-        berths,
-        back,
-        events,
-        busy,
-        sender.caller,
-        &mut jobs,
-    );
+    take_out(alloc, docks, berths, back, events, &busy, &mut jobs);
     run_all(rt, gate, docks, sender, events, &mut jobs, &mut moves);
     let fault = lowest_fault(&jobs);
     put_back(jobs, berths, &mut told);

@@ -14,7 +14,7 @@ use crate::book_turns::{begin_transaction, give_up_transaction, keep_reply};
 use crate::calls::{ShardCall, call_in};
 use crate::docked::{DockedBook, DockedShard, PaddedDock};
 use crate::gates::Gate;
-use crate::jobs::{Sender, are_several, busy_docks, offer_side_by_side};
+use crate::jobs::{Sender, are_several, offer_side_by_side};
 use crate::replies::TransactionReply;
 use crate::seats::Seat;
 use mx_book::{Opening, TransactionKey};
@@ -169,9 +169,8 @@ fn offer_all<R: Threads + Wait + Sync, K: Keeper<Row = ShardRow> + Send, G: Gate
     ensures ok { IfOk result (λ told. AreOffered sender.now.caller sender.now.origin.now events.now (views_of berths.old.items) (views_of berths.new.items) told.items) }
     ensures err { OnErr result (SomeOffered sender.now.caller sender.now.origin.now events.now (views_of berths.old.items) (views_of berths.new.items)) }
 {
-    let busy = busy_docks(events, docks.len());
-    if are_several(&busy) {
-        return offer_side_by_side(rt, alloc, gate, docks, berths, sender, events, &busy);
+    if are_several(events, docks.len()) {
+        return offer_side_by_side(rt, alloc, gate, docks, berths, sender, events);
     }
     offer_in_turn(rt, alloc, gate, docks, berths, sender, events)
 }

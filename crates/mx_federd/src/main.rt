@@ -45,9 +45,10 @@ pub enum Asked {
     Migrate(MigrateOptions),
 }
 
-/// Does what the words of the command line ask for, the first of which is the program's name, all but to serve, to audit and to migrate. The exit
-/// status is 0, or 1 where the input is refused, memory runs out, storage fails, or a read or a write fails, or 2 where the
-/// command line is wrong. What went wrong is said on `err`, in one line but for the command line's own text.
+/// Does what the words of the command line ask for, the first of which is the program's name, all but to serve, to
+/// audit and to migrate. The exit status is 0, or 1 where the input is refused, memory runs out, storage fails, or a
+/// read or a write fails, or 2 where the command line is wrong. What went wrong is said on `err`, in one line but for
+/// the command line's own text.
 pub fn main_with<R: Read, W: Write, E: Write>(
     alloc: Global,
     words: &[String],

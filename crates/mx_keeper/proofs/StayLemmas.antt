@@ -1,5 +1,5 @@
 -- A statement that was refused changed nothing.
-use Rattle.std.proofs.Common.{◌≡◌, ◌⊎◌, subst, inl, inr, ℕ, List, Bool, Some, None, true, false, Result, Ok, Err, IfOk, IfErr, OnErr, [], refl, sym, ap, ◌∙◌, IsTrue, Option}
+use Rattle.std.proofs.Common.{◌≡◌, subst, inl, inr, ℕ, List, Bool, true, false, Result, Ok, Err, IfOk, IfErr, OnErr, [], refl, sym, ap, ◌∙◌, IsTrue, Option}
 use Rattle.std.proofs.lemmas.Bool.{cases_Bool}
 use Rattle.sqlite.specs.Order.{Row}
 use Rattle.sqlite.specs.declared.error.Error.{Error}

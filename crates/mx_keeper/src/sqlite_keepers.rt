@@ -70,9 +70,9 @@ impl<S: Alter + Drop, R: TableRow> SqliteKeeper<S, R> {
     /// then the tables are made, with the rows that the file has, in one transaction. All rows are read: the first call
     /// of `rows` gives these out.
     ///
-    /// `Table` where the file has something else, or its rows do not read; then nothing is changed. `Store` where a transaction is
-    /// begun, or SQLite refused a statement for another cause than memory. `Memory` where no memory is left. The
-    /// connection is given back with each. The time is linear in the rows.
+    /// `Table` where the file has something else, or its rows do not read; then nothing is changed. `Store` where
+    /// a transaction is begun, or SQLite refused a statement for another cause than memory. `Memory` where no
+    /// memory is left. The connection is given back with each. The time is linear in the rows.
     pub fn adopt(
         alloc: Global,
         connection: Connection<S>,
@@ -147,7 +147,8 @@ impl<S: Alter + Drop, R: TableRow> SqliteKeeper<S, R> {
     }
 }
 
-// The rows of the tables, which are made where the file is one of an earlier layout or has nothing, and what finds whether the connection is open.
+// The rows of the tables, which are made where the file is one of an earlier layout or has nothing, and what finds
+// whether the connection is open.
 fn found_all<S: Alter, R: TableRow>(
     alloc: Global,
     connection: &mut Connection<S>,
@@ -169,7 +170,8 @@ fn found_all<S: Alter, R: TableRow>(
     Ok((rows, probe))
 }
 
-// The rows of the tables, which are made where the file is one of an earlier layout, or has nothing. `Table` where it has something else.
+// The rows of the tables, which are made where the file is one of an earlier layout, or has nothing. `Table` where it
+// has something else.
 fn found_rows<S: Alter, R: TableRow>(
     alloc: Global,
     connection: &mut Connection<S>,

@@ -100,8 +100,8 @@ pub enum QueryReply {
 /// A query for an event by its id alone is refused by `NotFound` alone.
 ///
 /// `MakeJoin` is refused by `AccessList`, and by the last three alone. `OtherServer`: the user is of another server than
-/// the one that asks. `WrongVersion`: the server does not know the version of the room, which is this one. `Rule`: the line of the authorization
-/// rules that does not allow the join in the room's current state.
+/// the one that asks. `WrongVersion`: the server does not know the version of the room, which is this one. `Rule`:
+/// the line of the authorization rules that does not allow the join in the room's current state.
 #[derive(Clone, Copy, Debug, PartialEq, Eq)]
 pub enum Denied {
     AccessList,

@@ -50,7 +50,12 @@ pub fn serve<R: ServerRuntime, W: Write, E: Write>(
     if is_moved {
         let _ = writeln!(err, "{}: brought to the second layout", options.data);
     }
-    serve_rows(rt, shards, books, files, &rooms, options, out, err)
+    let rows = StoredRows {
+        shards,
+        books,
+        files,
+    };
+    serve_rows(rt, rows, &rooms, options, out, err)
 }
 
 // The files of the server's directory, and the bytes of its file of rooms.
@@ -93,14 +98,18 @@ fn lines_of(host: &HostRuntime, path: &str) -> Result<Vec<u8>, StartError> {
     }
 }
 
-// Serves over rows, once the rooms of these lines are hosted.
-//
-// Of which store the rows are does not matter here, and for one that is not known the proofs are found.
-fn serve_rows<S, R, W: Write, E: Write>(
-    rt: &R,
+// The rows of a server, and the files that they are in. For a store that is not known the proofs are found.
+#[derive(Drop)]
+struct StoredRows<S: Alter + Drop + Send> {
     shards: Vec<SqliteKeeper<S, ShardRow>>,
     books: Vec<SqliteKeeper<S, BookRow>>,
     files: Vec<RowFile>,
+}
+
+// Serves over rows, once the rooms of these lines are hosted.
+fn serve_rows<S, R, W: Write, E: Write>(
+    rt: &R,
+    rows: StoredRows<S>,
     rooms: &[u8],
     options: ServeOptions,
     out: &mut W,
@@ -109,11 +118,16 @@ fn serve_rows<S, R, W: Write, E: Write>(
 where
     S: Alter + Drop + Send,
     R: ServerRuntime,
-    requires some_shard { 1 ≤ length shards.items }
-    requires few_shards { length shards.items ≤ MOST_PLACES }
-    requires some_book { 1 ≤ length books.items }
-    requires few_books { length books.items ≤ MOST_PLACES }
+    requires some_shard { 1 ≤ length rows.shards.items }
+    requires few_shards { length rows.shards.items ≤ MOST_PLACES }
+    requires some_book { 1 ≤ length rows.books.items }
+    requires few_books { length rows.books.items ≤ MOST_PLACES }
 {
+    let StoredRows {
+        shards,
+        books,
+        files,
+    } = rows;
     let alloc = rt.alloc();
     let count = books.len();
     let mut server = match World::reopen(alloc, shards, books) {

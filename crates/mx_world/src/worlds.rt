@@ -60,7 +60,8 @@ impl<K: Keeper<Row = ShardRow>, L: Keeper<Row = BookRow>> World<K, L> {
     /// A server that hosts no room and knows of no transaction, with a shard over each of the first keepers and a book
     /// over each of the others.
     ///
-    /// `Memory` where no memory is left. `Storage` where a keeper failed, or has rows or what does not read as rows. A refused call drops the keepers.
+    /// `Memory` where no memory is left. `Storage` where a keeper failed, or has rows or what does not read as
+    /// rows. A refused call drops the keepers.
     pub fn new(
         alloc: Global,
         shard_keepers: Vec<K>,
@@ -175,7 +176,8 @@ impl<K: Keeper<Row = ShardRow>, L: Keeper<Row = BookRow>> World<K, L> {
     ///
     /// `Memory` where no memory is left. `Storage` where what keeps the rows of the step's own shard or book failed, now
     /// or before: the shard of the event's room, or of the room that a query names, the book of the transaction's server,
-    /// or, for a query by an event's id alone, any shard. A step that is refused changes no journal, and so no room's record, and no transaction's status.
+    /// or, for a query by an event's id alone, any shard. A step that is refused changes no journal, and so no
+    /// room's record, and no transaction's status.
     pub fn step(&mut self, alloc: Global, step: &Step) -> Result<StepReply, CallError>
         ensures next { IfOk result (λ reply. (s : Start) (earlier : List Step) → IsAfter s earlier self.old →
             IsReply (record_after s earlier) (status_after s earlier) step.now reply × IsAfter s (earlier ++ step.now ∷ []) self.new) }
