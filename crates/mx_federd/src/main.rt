@@ -7,18 +7,18 @@
 
 mod auditing;
 mod checking;
-mod command_line;
 mod counted_input;
 mod migrating;
 mod output;
 mod replaying;
 
-use auditing::{AuditOptions, audit};
+use auditing::audit;
 use checking::check_event;
-use command_line::{Command, CommandLineError};
 use counted_input::CountedInput;
-use migrating::{MigrateOptions, migrate};
-use mx_server::{ProgressLine, ServeOptions, serve};
+use migrating::migrate;
+use mx_command_line::{Command, CommandLineError};
+use mx_options::{AuditOptions, MigrateOptions, ServeOptions};
+use mx_server::{ProgressLine, serve};
 use mx_wire::read_all;
 use output::{Failure, MISUSED, SUCCESS, lines_of, report, report_server, write_to};
 use replaying::replay;
@@ -56,7 +56,7 @@ pub fn main_with<R: Read, W: Write, E: Write>(
     out: &mut W,
     err: &mut E,
 ) -> Asked {
-    match command_line::parse(alloc, words) {
+    match mx_command_line::parse(alloc, words) {
         Ok(Command::Check) => Asked::Ended(status_of(check_input(alloc, input, out), err)),
         Ok(Command::Replay { name, shards }) => {
             Asked::Ended(status_of(replay(alloc, &name, shards, input, out), err))

@@ -1,14 +1,7 @@
 // `migrate`: the files of a server's directory are brought to the current layout.
+use mx_options::MigrateOptions;
 use mx_server::StartError;
-use mx_wire::ShardCount;
 use std::io::Write;
-
-/// What `migrate` is asked.
-#[derive(Debug, Drop)]
-pub struct MigrateOptions {
-    pub data: String,
-    pub shards: ShardCount,
-}
 
 /// Brings the file of each shard of a directory to the current layout, and prints a line for each on `out`.
 pub fn migrate<W: Write>(

@@ -1,8 +1,9 @@
 // `replay`: a log of lines, one line out for each line of it.
 use crate::output::{Failure, flushed};
 use mx_ident::ServerName;
+use mx_keeper::ShardCount;
 use mx_pdu::PresenceVerifier;
-use mx_wire::{ShardCount, run_lines};
+use mx_wire::run_lines;
 use std::alloc::Global;
 use std::io::{BufWriter, Read, Write};
 

@@ -9,7 +9,6 @@ mod line_reader;
 mod lines;
 mod log_servers;
 mod logs;
-mod shard_counts;
 mod steps;
 
 pub use host_lines::{HostLineOutcome, host_by_line};
@@ -17,5 +16,4 @@ pub use input::{InputError, read_all};
 pub use lines::splitting::first_line;
 pub use log_servers::server_after_log;
 pub use logs::{LinesError, run_lines};
-pub use shard_counts::ShardCount;
 pub use steps::replies::{asked_reply, joined_reply, sent_reply};

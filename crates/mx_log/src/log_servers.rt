@@ -10,10 +10,9 @@ ghost use Rattle.mx_log.specs.Lines.{lines_of, read_line};
 
 use crate::line_reader::LineReader;
 use crate::logs::{LinesError, answer_of, new_world};
-use crate::shard_counts::ShardCount;
 use json::Scratch;
 use mx_ident::ServerName;
-use mx_keeper::{BookRow, Keeper, MemoryKeeper, ShardRow};
+use mx_keeper::{BookRow, Keeper, MemoryKeeper, ShardCount, ShardRow};
 use mx_pdu::Verifier;
 use mx_requests::WireServer;
 use mx_world::World;

@@ -5,9 +5,9 @@ use crate::errors::{ServerError, StartError};
 use crate::progress_lines::ProgressLine;
 use crate::row_files::RowFile;
 use mx_keeper::{
-    BookRow, FailureNote, Keeper, KeeperFault, MOST_PLACES, ShardRow, SqliteKeeper, TableRow,
+    BookRow, FailureNote, Keeper, KeeperFault, MOST_PLACES, ShardCount, ShardRow, SqliteKeeper,
+    TableRow,
 };
-use mx_wire::ShardCount;
 use sqlite::{Alter, Connection, Error, ErrorCode, File, FileStore};
 use std::alloc::{AllocError, Global};
 use std::fs::{self, DirBuilder, OpenOptions};

@@ -4,7 +4,6 @@
 mod directories;
 mod errors;
 mod losses;
-mod options;
 mod progress_lines;
 mod row_files;
 mod serving;
@@ -12,6 +11,5 @@ mod workers;
 
 pub use directories::migrate;
 pub use errors::{ServerError, StartError};
-pub use options::{SeatCount, ServeOptions};
 pub use progress_lines::ProgressLine;
 pub use serving::serve;

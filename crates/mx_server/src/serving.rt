@@ -4,13 +4,13 @@ ghost use Rattle.std.specs.Prelude.{◌≡◌, ◌≤◌, IfOk, length};
 use crate::directories::{ServerFiles, open_directory};
 use crate::errors::{ServerError, StartError};
 use crate::losses::check_losses;
-use crate::options::{SeatCount, ServeOptions};
 use crate::row_files::{RowFile, RowFiles};
 use crate::workers::{Handler, ServerEngine, Shared, Worker, workers_of};
 use mx_engine::{Engine, OpenGate};
 use mx_http::{Announcer, HttpRequest, Limits, ServeError, ServerRuntime, serve_on};
 use mx_ident::ServerName;
 use mx_keeper::{BookRow, CallError, Keeper, MOST_PLACES, ShardRow, SqliteKeeper};
+use mx_options::{SeatCount, ServeOptions};
 use mx_pdu::PresenceVerifier;
 use mx_room::Moment;
 use mx_wire::{HostLineOutcome, LARGEST_BODY, WireServer, first_line, host_by_line, read_all};
@@ -348,7 +348,7 @@ fn workers<K: Keeper<Row = ShardRow>, L: Keeper<Row = BookRow>, R: Wait + AllocG
         server,
         PresenceVerifier,
         OpenGate,
-        threads.count,
+        threads.get(),
     )?;
     let shared = shared_of(alloc, engine, wire_server, files)?;
     Ok(workers_of(alloc, &shared, seats)?)

@@ -1,7 +1,6 @@
 // The answers of `audit`.
 ghost use Rattle.std.specs.Prelude.{◌<◌, IfOk, length};
 
-use crate::auditing::AuditQuestion;
 use crate::output::Failure;
 use mx_audit::{
     RoomAudit, event_line, lines_of_resolution, picture_end, picture_head, picture_lines,
@@ -9,6 +8,7 @@ use mx_audit::{
 };
 use mx_graph::{EventNo, GraphError};
 use mx_ident::EventId;
+use mx_options::AuditQuestion;
 use mx_receipt::timeline_is_sound;
 use mx_state_res::StateRef;
 use std::alloc::Global;

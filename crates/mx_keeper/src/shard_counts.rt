@@ -1,7 +1,7 @@
 // How many shards a server has.
 ghost use Rattle.std.specs.Prelude.{◌≡◌, ◌≤◌, ◌<◌, ◌⊎◌, IfNone, IfSome};
 
-use mx_keeper::MOST_PLACES;
+use crate::places::MOST_PLACES;
 use std::marker::Model;
 
 /// How many shards a server has, and as many books: 1 to [`MOST_PLACES`].

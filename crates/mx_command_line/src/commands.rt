@@ -1,18 +1,17 @@
-// The words of the command line.
-use crate::auditing::{AuditOptions, AuditQuestion, AuditSource};
-use crate::migrating::MigrateOptions;
-use clap::builder::ValueParser;
+// What the words of the command line ask for.
+use crate::words::{audit_words, check_words, migrate_words, replay_words, serve_words};
 use clap::error::ErrorKind;
-use clap::{Arg, ArgAction, ArgMatches, Error};
+use clap::{ArgMatches, Error};
 use mx_ident::{EventId, IdError, RoomId, ServerName};
-use mx_keeper::MOST_PLACES;
-use mx_server::{SeatCount, ServeOptions};
-use mx_wire::ShardCount;
+use mx_keeper::ShardCount;
+use mx_options::{
+    AuditOptions, AuditQuestion, AuditSource, MigrateOptions, SeatCount, ServeOptions,
+};
 use std::alloc::{AllocError, Global};
 
 /// What the program is asked to do.
 #[derive(Debug, Drop)]
-pub(crate) enum Command {
+pub enum Command {
     // One event from standard input, to its id.
     Check,
     // A log from standard input, to the answers of a server of this name, over so many shards.
@@ -30,7 +29,7 @@ pub(crate) enum Command {
 
 /// Why the words ask for nothing.
 #[derive(Debug, Drop)]
-pub(crate) enum CommandLineError {
+pub enum CommandLineError {
     Memory,
     // What to print instead.
     Misused(String),
@@ -38,7 +37,7 @@ pub(crate) enum CommandLineError {
 
 impl From<AllocError> for CommandLineError {
     ghost use Rattle.std.specs.Prelude.{◌≡◌};
-    ghost use Rattle.mx_federd.specs.declared.command_line.CommandLineError.TheVariants.{Memory};
+    ghost use Rattle.mx_command_line.specs.declared.commands.CommandLineError.TheVariants.{Memory};
 
     ghost from_gives = { λ _ e. e ≡ Memory };
 
@@ -52,7 +51,7 @@ fn refusal(alloc: Global, error: &Error) -> Result<String, AllocError> {
 }
 
 /// What the words ask for. The first is the program's name.
-pub(crate) fn parse(alloc: Global, words: &[String]) -> Result<Command, CommandLineError> {
+pub fn parse(alloc: Global, words: &[String]) -> Result<Command, CommandLineError> {
     let program = clap::Command::new(alloc, "mx_federd")
         .about("A Matrix federation room server")
         .subcommand_required(true)
@@ -66,126 +65,6 @@ pub(crate) fn parse(alloc: Global, words: &[String]) -> Result<Command, CommandL
         Err(error) if error.kind() == ErrorKind::OutOfMemory => Err(CommandLineError::Memory),
         Err(error) => Err(CommandLineError::Misused(refusal(alloc, &error)?)),
     }
-}
-
-fn check_words<'a>(alloc: Global) -> clap::Command<'a> {
-    clap::Command::new(alloc, "check").about(
-        "Reads one event from standard input, and prints its id, whether its content hash holds, and its canonical text",
-    )
-}
-
-fn name_word<'a>(alloc: Global) -> Arg<'a> {
-    Arg::new(alloc, "name")
-        .long("name")
-        .required(true)
-        .action(ArgAction::Set)
-        .help("The name of the server")
-}
-
-fn number_word<'a>(alloc: Global, name: &'a str, usual: &'a str, least: u64, most: u64) -> Arg<'a> {
-    Arg::new(alloc, name)
-        .long(name)
-        .default_value(usual)
-        .action(ArgAction::Set)
-        .value_parser(ValueParser::unsigned(least, most))
-}
-
-fn flag_word<'a>(alloc: Global, name: &'a str) -> Arg<'a> {
-    Arg::new(alloc, name).long(name).action(ArgAction::SetTrue)
-}
-
-fn shards_word<'a>(alloc: Global) -> Arg<'a> {
-    number_word(alloc, "shards", "1", 1, MOST_PLACES as u64).help(
-        "How many shards hold the rooms, 1 to 64; no answer depends on it",
-    )
-}
-
-fn replay_words<'a>(alloc: Global) -> Result<clap::Command<'a>, AllocError> {
-    clap::Command::new(alloc, "replay")
-        .about("Reads a log from standard input, and prints what a server answers to each line")
-        .arg(name_word(alloc))?
-        .arg(shards_word(alloc))
-}
-
-fn serve_words<'a>(alloc: Global) -> Result<clap::Command<'a>, AllocError> {
-    let data = Arg::new(alloc, "data")
-        .long("data")
-        .required(true)
-        .action(ArgAction::Set)
-        .help("The directory of the server's files, which is made where it is not there");
-    let port = number_word(alloc, "port", "8008", 0, 65_535).help(
-        "The port on 127.0.0.1; 0 takes a free one",
-    );
-    let threads = number_word(alloc, "threads", "1", 1, 64).help(
-        "How many threads answer requests, 1 to 64",
-    );
-    let connections = number_word(alloc, "connections", "16", 1, 256).help(
-        "How many connections may be open, 1 to 256; one more takes the place of the one that has been idle longest, if that is five seconds or more, else it is closed unanswered",
-    );
-    let host = Arg::new(alloc, "host")
-        .long("host")
-        .action(ArgAction::Set)
-        .help("A file of lines of a log, each of which hosts a room at the start");
-    let stop = flag_word(alloc, "stop-on-storage").help(
-        "End with status 1 once a file of rows has failed, so that a supervisor starts it again",
-    );
-    let accept = flag_word(alloc, "accept-loss").help(
-        "Start though events that were answered as kept are in no file; standard error tells how many",
-    );
-    clap::Command::new(alloc, "serve")
-        .about("Answers other servers' requests on 127.0.0.1")
-        .arg(name_word(alloc))?
-        .arg(data)?
-        .arg(port)?
-        .arg(threads)?
-        .arg(shards_word(alloc))?
-        .arg(connections)?
-        .arg(host)?
-        .arg(stop)?
-        .arg(accept)
-}
-
-fn text_word<'a>(alloc: Global, name: &'a str) -> Arg<'a> {
-    Arg::new(alloc, name).long(name).action(ArgAction::Set)
-}
-
-fn audit_words<'a>(alloc: Global) -> Result<clap::Command<'a>, AllocError> {
-    let name = text_word(alloc, "name").help(
-        "The name of the server that answers the log on standard input, whose room is told of",
-    );
-    let data = text_word(alloc, "data").help(
-        "The directory of the files of a server that is stopped, in place of a log; they are only read",
-    );
-    let room = text_word(alloc, "room")
-        .required(true)
-        .help("The id of the room");
-    clap::Command::new(alloc, "audit")
-        .about(
-            "Tells of each event of a room why it was accepted or refused, and what its states are",
-        )
-        .arg(name)?
-        .arg(data)?
-        .arg(room)?
-        .arg(shards_word(alloc))?
-        .arg(text_word(alloc, "event").help("The id of the one event to tell of"))?
-        .arg(text_word(alloc, "state-before").help("The id of an event: the state before it"))?
-        .arg(text_word(alloc, "state-after").help("The id of an event: the state after it"))?
-        .arg(text_word(alloc, "resolution").help(
-            "The id of an event: how the states after its prev events were resolved",
-        ))?
-        .arg(flag_word(alloc, "dot").help("The room as a graph for Graphviz"))
-}
-
-fn migrate_words<'a>(alloc: Global) -> Result<clap::Command<'a>, AllocError> {
-    let data = text_word(alloc, "data")
-        .required(true)
-        .help("The directory of the files of a server that is stopped");
-    clap::Command::new(alloc, "migrate")
-        .about(
-            "Brings the file of each shard to the current layout, and prints how many rows it has",
-        )
-        .arg(data)?
-        .arg(shards_word(alloc))
 }
 
 fn chosen(alloc: Global, matches: &ArgMatches) -> Result<Command, CommandLineError> {

@@ -2,7 +2,7 @@
 ghost use Rattle.std.specs.Prelude.{◌≤◌};
 
 use mx_ident::ServerName;
-use mx_wire::ShardCount;
+use mx_keeper::ShardCount;
 
 /// What a server is to serve, and how.
 #[derive(Debug, Drop)]
@@ -27,7 +27,7 @@ pub struct ServeOptions {
 /// How many workers a server has: 1 to 64.
 #[derive(Clone, Copy, Debug)]
 pub struct SeatCount {
-    pub(crate) count: u32,
+    count: u32,
     ghost some: { 1 ≤ count },
     ghost few: { count ≤ 64 },
 }
@@ -40,5 +40,13 @@ impl SeatCount {
         } else {
             None
         }
+    }
+
+    /// How many they are.
+    pub fn get(self) -> u32
+        ensures some { 1 ≤ result }
+        ensures few { result ≤ 64 }
+    {
+        self.count
     }
 }
