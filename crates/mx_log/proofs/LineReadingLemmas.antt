@@ -2,7 +2,7 @@
 use Rattle.std.proofs.Common.{◌≡◌, ◌<◌, ℕ, suc, List, [], ◌∷◌, ◌++◌, Option, Some, None, IfSome, length, Bool, true, false, refl, sym, ◌∙◌, ap, subst, arith, append_assoc, append-nil}
 use Rattle.std.specs.Prelude.{◌==◌}
 use Rattle.std.specs.List.{onto_first}
-use Rattle.std.specs.Io.KnownBytes.{Consumes, prepend_known}
+use Rattle.std.specs.Io.KnownBytes.{Consumes, IsAtEnd, prepend_known}
 use Rattle.std.proofs.lemmas.Bool.{eqb-true, ne_eqb, true≢false}
 use Rattle.std.proofs.lemmas.List.{nil_from_length}
 use Rattle.mx_log.specs.Lines.{lines_of}
@@ -35,27 +35,38 @@ pub taken_none : (a : Option (List ℕ)) (held : List ℕ) → held ≡ [] → A
 taken_none None held none = tt
 taken_none (Some all) held none = ap lines_of (ap (λ l. l ++ all) (sym none))
 
-pub taken_more : (a b c : Option (List ℕ)) (lines : List (List ℕ)) (line : List ℕ) → AreTaken a b lines → IsOneLine line → Consumes b c (line ++ 10 ∷ []) → AreTaken a c (lines ++ line ∷ [])
-taken_more None b c lines line so_far one next = tt
-taken_more (Some all) None c lines line so_far one next = absurd so_far
-taken_more (Some all) (Some left) None lines line so_far one next = absurd next
-taken_more (Some all) (Some left) (Some rest) lines line so_far one next =
-    let first : lines_of left ≡ line ∷ lines_of rest = ap lines_of (next ∙ append_assoc line (10 ∷ []) rest) ∙ lines-ended line rest one in
-    so_far ∙ ap (λ l. lines ++ l) first ∙ sym (append_assoc lines (line ∷ []) (lines_of rest))
+-- a line that a newline ends
+pub ended_taken : (a b : Option (List ℕ)) (line : List ℕ) → IsOneLine line → Consumes a b (line ++ 10 ∷ []) → AreTaken a b (line ∷ [])
+ended_taken None b line one next = tt
+ended_taken (Some all) None line one next = absurd next
+ended_taken (Some all) (Some rest) line one next = ap lines_of (next ∙ append_assoc line (10 ∷ []) rest) ∙ lines-ended line rest one
 
--- the lines of all that is known, where this is the last one
-pub taken_last : (a b : Option (List ℕ)) (lines : List (List ℕ)) (line : List ℕ) → AreTaken a b lines → IsOneLine line → IfSome b (λ all. line ≡ all) → 0 < length line → IfSome a (λ all. lines ++ line ∷ [] ≡ lines_of all)
-taken_last None b lines line so_far one last some = tt
-taken_last (Some all) None lines line so_far one last some = absurd so_far
-taken_last (Some all) (Some left) lines line so_far one last some =
-    sym (so_far ∙ ap (λ l. lines ++ l) (ap lines_of (sym last) ∙ lines-last line one some))
+-- the last line, which lacks its newline
+pub last_taken : (a b : Option (List ℕ)) (line : List ℕ) → IsOneLine line → Consumes a b line → IsAtEnd b → 0 < length line → AreTaken a b (line ∷ [])
+last_taken None b line one next end some = tt
+last_taken (Some all) None line one next end some = absurd next
+last_taken (Some all) (Some rest) line one next end some =
+    ap lines_of (next ∙ ap (λ l. line ++ l) end ∙ append-nil line) ∙ lines-last line one some ∙ ap (λ ls. line ∷ ls) (sym (ap lines_of end ∙ lines-none))
 
--- and where there is no other
-pub taken_all : (a b : Option (List ℕ)) (lines : List (List ℕ)) (line : List ℕ) → AreTaken a b lines → IfSome b (λ all. line ≡ all) → line ≡ [] → IfSome a (λ all. lines ≡ lines_of all)
-taken_all None b lines line so_far last none = tt
-taken_all (Some all) None lines line so_far last none = absurd so_far
-taken_all (Some all) (Some left) lines line so_far last none =
-    sym (so_far ∙ ap (λ l. lines ++ l) (ap lines_of (sym last ∙ none) ∙ lines-none) ∙ append-nil lines)
+-- no line is left
+pub none_taken : (a b : Option (List ℕ)) (line : List ℕ) → Consumes a b line → IsAtEnd b → line ≡ [] → IfSome a (λ all. lines_of all ≡ [])
+none_taken None b line next end none = tt
+none_taken (Some all) None line next end none = absurd next
+none_taken (Some all) (Some rest) line next end none = ap lines_of (next ∙ ap (λ l. l ++ rest) none ∙ end) ∙ lines-none
+
+-- one line more
+pub taken_more : (a b c : Option (List ℕ)) (lines : List (List ℕ)) (line : List ℕ) → AreTaken a b lines → AreTaken b c (line ∷ []) → AreTaken a c (lines ++ line ∷ [])
+taken_more None b c lines line so_far next = tt
+taken_more (Some all) None c lines line so_far next = absurd so_far
+taken_more (Some all) (Some left) None lines line so_far next = absurd next
+taken_more (Some all) (Some left) (Some rest) lines line so_far next =
+    so_far ∙ ap (λ l. lines ++ l) next ∙ sym (append_assoc lines (line ∷ []) (lines_of rest))
+
+-- the lines of all that is known, where none is left
+pub taken_all : (a b : Option (List ℕ)) (lines : List (List ℕ)) → AreTaken a b lines → IfSome b (λ all. lines_of all ≡ []) → IfSome a (λ all. lines ≡ lines_of all)
+taken_all None b lines so_far none = tt
+taken_all (Some all) None lines so_far none = absurd so_far
+taken_all (Some all) (Some left) lines so_far none = sym (so_far ∙ ap (λ l. lines ++ l) none ∙ append-nil lines)
 
 -- what holds of these lines holds of all
 pub of_all : (P : List (List ℕ) → Type 0) (a : Option (List ℕ)) (lines : List (List ℕ)) → IfSome a (λ all. lines ≡ lines_of all) → P lines → IfSome a (λ all. P (lines_of all))

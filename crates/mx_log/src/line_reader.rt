@@ -29,7 +29,8 @@ pub(crate) struct LineReader {
 impl LineReader {
     ghost use Rattle.std.specs.Prelude.{◌≡◌, ◌++◌, ◌∷◌, ◌<◌, List, [], ℕ, IfOk, IfSome, OnOk, Ok, true, false};
     ghost use Rattle.std.specs.Io.KnownBytes.{Consumes, IsAtEnd, Keeps};
-    ghost use Rattle.mx_log.specs.LineReading.{IsOneLine, IsTakenFrom, held, left, turns_left};
+    ghost use Rattle.mx_log.specs.LineReading.{AreTaken, IsOneLine, IsTakenFrom, held, left, turns_left};
+    ghost use Rattle.mx_log.specs.Lines.{lines_of};
 
     /// A reader that has read nothing yet.
     pub(crate) fn new(alloc: Global) -> Result<LineReader, AllocError>
@@ -44,8 +45,8 @@ impl LineReader {
         })
     }
 
-    /// Reads the next line into `line`, in place of what that held, and tells whether a newline ended it. Where none did,
-    /// the input is at its end, and the line is what came behind its last newline, which may be nothing.
+    /// Reads the next line into `line`, in place of what that held, and tells whether there was one. The last line may
+    /// lack its newline.
     ///
     /// `Memory` where the line finds no memory, `Read` where a read fails, or where there is no end after 2^32 of them.
     /// After an error nothing is said of what is left.
@@ -55,11 +56,32 @@ impl LineReader {
         input: &mut R,
         line: &mut Vec<u8>,
     ) -> Result<bool, InputError>
+        ensures line { result ≡ Ok true → AreTaken (left self.old (R.remaining input.old))
+            (left self.new (R.remaining input.new)) (line.new.items ∷ []) }
+        ensures none { result ≡ Ok false → IfSome (left self.old (R.remaining input.old)) (λ all. lines_of all ≡ []) }
+        ensures fewer { result ≡ Ok true → turns_left self.new < turns_left self.old }
+    {
+        if self.read_line(alloc, input, line)? {
+            return Ok(true);
+        }
+        Ok(!line.is_empty())
+    }
+
+    // Reads what comes up to the next newline, and tells whether there was one, which is passed. Where there was none the
+    // input is at its end.
+    fn read_line<R: Read>(
+        &mut self,
+        alloc: Global,
+        input: &mut R,
+        line: &mut Vec<u8>,
+    ) -> Result<bool, InputError>
         ensures one { OnOk result (IsOneLine line.new.items) }
         ensures ended { result ≡ Ok true → Consumes (left self.old (R.remaining input.old))
             (left self.new (R.remaining input.new)) (line.new.items ++ 10 ∷ []) }
-        ensures last { result ≡ Ok false → IfSome (left self.old (R.remaining input.old)) (λ all. line.new.items ≡ all) }
-        ensures fewer { result ≡ Ok true → turns_left self.new < turns_left self.old }
+        ensures last { result ≡ Ok false → Consumes (left self.old (R.remaining input.old))
+            (left self.new (R.remaining input.new)) line.new.items }
+        ensures end { result ≡ Ok false → IsAtEnd (left self.new (R.remaining input.new)) }
+        ensures fewer { OnOk result (turns_left self.new < turns_left self.old) }
     {
         empty(alloc, line);
         while !self.take_line(line)? {

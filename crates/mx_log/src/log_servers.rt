@@ -60,10 +60,6 @@ fn take_log<K: Keeper<Row = ShardRow>, L: Keeper<Row = BookRow>, V: Verifier, R:
     while lines.next_line(alloc, input, &mut line)? {
         take_text(alloc, server, verifier, world, &mut scratch, &line)?;
     }
-    if line.is_empty() {
-        return Ok(());
-    }
-    take_text(alloc, server, verifier, world, &mut scratch, &line)?;
     Ok(())
 }
 

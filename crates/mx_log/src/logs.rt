@@ -181,10 +181,6 @@ fn answer_log<K: Keeper<Row = ShardRow>, L: Keeper<Row = BookRow>, V: Verifier, 
     while lines.next_line(alloc, input, &mut line)? {
         answer_text(alloc, server, verifier, world, &mut scratch, &line, out)?;
     }
-    if line.is_empty() {
-        return Ok(());
-    }
-    answer_text(alloc, server, verifier, world, &mut scratch, &line, out)?;
     Ok(())
 }
 

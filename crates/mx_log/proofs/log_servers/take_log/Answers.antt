@@ -1,8 +1,8 @@
-use Rattle.std.proofs.Common.{◌≡◌, ◌<◌, List, ℕ, [], ◌∷◌, ◌++◌, Option, Ok, length, ap, vec_len}
+use Rattle.std.proofs.Common.{List, ℕ, [], ◌∷◌, ◌++◌, Option, Ok, ap}
 use Rattle.mx_log.specs.LineReading.{held, left}
 use Rattle.mx_log.specs.LineRuns.{AreRunSoFar}
 use Rattle.mx_pdu.specs.Offers.{offer_by}
-use Rattle.mx_log.proofs.LineReadingLemmas.{none-left, of_all, some-left, taken_all, taken_last, taken_more, taken_none}
+use Rattle.mx_log.proofs.LineReadingLemmas.{of_all, taken_all, taken_more, taken_none}
 use Rattle.mx_log.proofs.LineRunLemmas.{none_so_far}
 use Rattle.mx_log.proofs.LogServerLemmas.{line_done}
 use Rattle.mx_log.proofs.log_servers.take_log.Goals as goal
@@ -20,33 +20,18 @@ loop-line-preserved g c =
     let line : List ℕ = c.next_line.new.line.items in (
       lines ++ line ∷ [],
       taken_more (g.R.Read.remaining c.args.input.now) (left c.loop-line.lines (g.R.Read.remaining c.loop-line.input)) (left c.next_line.new.self (g.R.Read.remaining c.next_line.new.input)) lines line
-          c.loop-line.invariant.1 c.in_ok-next_line.ensures.one (c.in_ok-next_line.ensures.ended (ap Ok c.if-branch.true)),
+          c.loop-line.invariant.1 (c.in_ok-next_line.ensures.line (ap Ok c.if-branch.true)),
       λ start now.
           line_done (offer_by (g.V.Verifier.judges c.args.verifier.now)) c.args.server.now.name start lines line c.loop-line.world c.take_text.new.world
           (c.loop-line.invariant.2 start now) (rw c.deref.ensures.value at c.in_ok-take_text.ensures),
     )
 
-pub returns-then-is_empty : goal.returns-then-is_empty
-returns-then-is_empty g c = λ start now.
-    let lines : List (List ℕ) = c.loop-line.invariant.0 in
-    let line : List ℕ = c.next_line.new.line.items in
-    let read : Option (List ℕ) = g.R.Read.remaining c.args.input.now in
-    let none : line ≡ [] = none-left line (vec_len c.next_line.new.line) c.is_empty.result c.is_empty.ensures c.next_line.new.line.ok.0 c.if-is_empty.true in
-    of_all
-    (λ ls. (output : List ℕ) × AreRunSoFar (offer_by (g.V.Verifier.judges c.args.verifier.now)) c.args.server.now.name start ls output c.loop-line.world)
-    read lines
-    (taken_all read (left c.loop-line.lines (g.R.Read.remaining c.loop-line.input)) lines line c.loop-line.invariant.1 (c.in_ok-next_line.ensures.last (ap Ok c.if-branch.false)) none)
-    (c.loop-line.invariant.2 start now)
-
 pub returns : goal.returns
 returns g c = λ start now.
     let lines : List (List ℕ) = c.loop-line.invariant.0 in
-    let line : List ℕ = c.next_line.new.line.items in
     let read : Option (List ℕ) = g.R.Read.remaining c.args.input.now in
-    let some : 0 < length line = some-left line (vec_len c.next_line.new.line) c.is_empty.result c.is_empty.ensures c.next_line.new.line.ok.0 c.if-is_empty.false in
     of_all
-    (λ ls. (output : List ℕ) × AreRunSoFar (offer_by (g.V.Verifier.judges c.args.verifier.now)) c.args.server.now.name start ls output c.take_text-2.new.world)
-    read (lines ++ line ∷ [])
-    (taken_last read (left c.loop-line.lines (g.R.Read.remaining c.loop-line.input)) lines line c.loop-line.invariant.1 c.in_ok-next_line.ensures.one (c.in_ok-next_line.ensures.last (ap Ok c.if-branch.false)) some)
-    (line_done (offer_by (g.V.Verifier.judges c.args.verifier.now)) c.args.server.now.name start lines line c.loop-line.world c.take_text-2.new.world
-    (c.loop-line.invariant.2 start now) (rw c.deref-2.ensures.value at c.in_ok-take_text-2.ensures))
+    (λ ls. (output : List ℕ) × AreRunSoFar (offer_by (g.V.Verifier.judges c.args.verifier.now)) c.args.server.now.name start ls output c.loop-line.world)
+    read lines
+    (taken_all read (left c.loop-line.lines (g.R.Read.remaining c.loop-line.input)) lines c.loop-line.invariant.1 (c.in_ok-next_line.ensures.none (ap Ok c.if-branch.false)))
+    (c.loop-line.invariant.2 start now)

@@ -1,7 +1,7 @@
 use Rattle.std.proofs.Common.{◌≤◌}
 use Rattle.std.specs.Io.KnownBytes.{Consumes}
 use Rattle.mx_log.specs.LineReading.{IsOneLine, left, turns_left}
-use Rattle.mx_log.proofs.line_reader.LineReader.next_line.Given as goal
+use Rattle.mx_log.proofs.line_reader.LineReader.read_line.Given as goal
 
 -- the line so far was taken from what was left
 abbrev pub invariant-loop-self : goal.invariant-loop-self
