@@ -8,10 +8,10 @@ use crate::auditing::log_rows::rows_of_log;
 use crate::auditing::telling::tell;
 use crate::output::{Failure, flushed};
 use mx_audit::{AuditError, RoomAudit};
+use mx_directory::ProgressLine;
 use mx_ident::RoomId;
 use mx_keeper::ShardRow;
 use mx_options::{AuditOptions, AuditSource};
-use mx_server::ProgressLine;
 use std::alloc::Global;
 use std::io::{BufWriter, Read, Write};
 

@@ -1,5 +1,5 @@
 // Input, of which it is told each second how much was read.
-use mx_server::ProgressLine;
+use mx_directory::ProgressLine;
 use std::io::{self, Read};
 
 /// Input, of which it is told how many bytes were read.

@@ -8,17 +8,16 @@
 mod auditing;
 mod checking;
 mod counted_input;
-mod migrating;
 mod output;
 mod replaying;
 
 use auditing::audit;
 use checking::check_event;
 use counted_input::CountedInput;
-use migrating::migrate;
 use mx_command_line::{Command, CommandLineError};
+use mx_directory::{ProgressLine, migrate};
 use mx_options::{AuditOptions, MigrateOptions, ServeOptions};
-use mx_server::{ProgressLine, serve};
+use mx_server::serve;
 use mx_wire::read_all;
 use output::{Failure, MISUSED, SUCCESS, lines_of, report, report_server, write_to};
 use replaying::replay;
@@ -147,7 +146,7 @@ where
             Err(error) => report_server(error, err),
         },
         Asked::Audit(options) => status_of(audit(host, options, &mut counted, out), err),
-        Asked::Migrate(options) => match migrate(host, &options, out) {
+        Asked::Migrate(options) => match migrate(host, &options.data, options.shards, out) {
             Ok(()) => SUCCESS,
             Err(error) => report_server(error, err),
         },

@@ -6,8 +6,8 @@ ghost use Rattle.mx_redact.specs.Hashes.{hash_holds};
 ghost use Rattle.mx_federd.specs.Lines.{check_lines};
 
 use crate::checking::{CheckError, Checked};
+use mx_directory::{ServerError, StartError};
 use mx_keeper::KeeperFault;
-use mx_server::{ServerError, StartError};
 use mx_wire::{InputError, LinesError};
 use std::alloc::{AllocError, Global};
 use std::io::{self, ErrorKind, Write};

@@ -34,7 +34,7 @@ use Rattle.matchit.specs.contracts.router.Router as router
 use Rattle.matchit.specs.contracts.router.Router.TheInside as router_inside
 use Rattle.matchit.proofs.route.Route.TheSendSync as matched
 use Rattle.matchit.proofs.tree.Node.TheLaws.TheKnot.{send-Node, sync-Node}
-use Rattle.mx_server.proofs.row_files.RowFiles.TheSendSync as row_files
+use Rattle.mx_directory.proofs.row_files.RowFiles.TheSendSync as row_files
 use Rattle.mx_server.specs.contracts.workers.Shared as shared
 use Rattle.mx_server.specs.contracts.workers.Worker as worker
 use Rattle.mx_server.specs.contracts.workers.Worker.TheInside as worker_inside

@@ -1,6 +1,6 @@
 // Whether a server's files have all that its replies say.
 
-use crate::errors::{ServerError, StartError};
+use mx_directory::{ServerError, StartError};
 use mx_keeper::{BookRow, Keeper, ShardRow};
 use mx_world::World;
 use std::alloc::{AllocError, Global};

@@ -1,11 +1,9 @@
 // `serve`: a server on loopback, over files.
-ghost use Rattle.std.specs.Prelude.{◌≡◌, ◌≤◌, IfOk, length};
+ghost use Rattle.std.specs.Prelude.{◌≡◌, ◌≤◌, ◌↔◌, IfOk, length};
 
-use crate::directories::{ServerFiles, open_directory};
-use crate::errors::{ServerError, StartError};
 use crate::losses::check_losses;
-use crate::row_files::{RowFile, RowFiles};
 use crate::workers::{Handler, ServerEngine, Shared, Worker, workers_of};
+use mx_directory::{RowFile, RowFiles, ServerError, ServerFiles, StartError, open_directory};
 use mx_engine::{Engine, OpenGate};
 use mx_http::{Announcer, HttpRequest, Limits, ServeError, ServerRuntime, serve_on};
 use mx_ident::ServerName;
@@ -13,7 +11,9 @@ use mx_keeper::{BookRow, CallError, Keeper, MOST_PLACES, ShardRow, SqliteKeeper}
 use mx_options::{SeatCount, ServeOptions};
 use mx_pdu::PresenceVerifier;
 use mx_room::Moment;
-use mx_wire::{HostLineOutcome, LARGEST_BODY, WireServer, first_line, host_by_line, read_all};
+use mx_wire::{
+    HostLineOutcome, InputError, LARGEST_BODY, WireServer, first_line, host_by_line, read_all,
+};
 use mx_world::World;
 use sqlite::Alter;
 use std::alloc::{AllocError, AllocGlobal, Global};
@@ -89,12 +89,22 @@ fn lines_of(host: &HostRuntime, path: &str) -> Result<Vec<u8>, StartError> {
             match read_all(alloc, &mut file) {
                 Ok(lines) => Ok(lines),
                 Err(error) => {
-                    let kind = ServerError::from(error);
+                    let kind = of_input(error);
                     Err(StartError::about(alloc, kind, path, &"it can't be read"))
                 }
             }
         }
         Err(error) => Err(StartError::of_io(alloc, path, &error)),
+    }
+}
+
+// Why an input was not read.
+fn of_input(error: InputError) -> ServerError
+    ensures { (result ≡ ServerError.Memory) ↔ (error ≡ InputError.Memory) }
+{
+    match error {
+        InputError::Memory => ServerError::Memory,
+        InputError::Read => ServerError::ReadOrWrite,
     }
 }
 

@@ -2,8 +2,8 @@
 ghost use Rattle.std.specs.Prelude.{◌≡◌, All};
 ghost use Rattle.mx_engine.specs.Seats.{IsSeatOf, seat_number};
 
-use crate::row_files::RowFiles;
 use bytes::Bytes;
+use mx_directory::RowFiles;
 use mx_engine::{Engine, OpenGate, Seat};
 use mx_http::{HttpReply, HttpRequest, Responder};
 use mx_keeper::{BookRow, CallError, Keeper, ShardRow};

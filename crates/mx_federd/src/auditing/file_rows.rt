@@ -4,8 +4,8 @@ ghost use Rattle.sqlite_disk.specs.Memory.{memory_is_usable};
 
 use crate::auditing::log_rows::add_rows;
 use crate::output::Failure;
+use mx_directory::ProgressLine;
 use mx_keeper::{Keeper, MOST_PLACES, ShardRow, SqliteKeeper};
-use mx_server::ProgressLine;
 use sqlite::{Connection, Error, ErrorCode, FileStore, Files, Options};
 use sqlite_disk::{Disk, Memory};
 use std::alloc::{AllocError, Global};

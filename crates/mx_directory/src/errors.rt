@@ -1,10 +1,9 @@
 // Why a server does not serve.
 ghost use Rattle.std.specs.Prelude.{◌≡◌, ◌↔◌};
 ghost use Rattle.std.specs.IoError.{error_kind};
-ghost use Rattle.mx_server.specs.ServerErrors.{of_fault};
+ghost use Rattle.mx_directory.specs.ServerErrors.{of_fault};
 
 use mx_keeper::{CallError, KeeperFault};
-use mx_wire::InputError;
 use std::alloc::{AllocError, AllocFailed, Global};
 use std::fmt::Display;
 use std::io::{self, ErrorKind};
@@ -62,12 +61,7 @@ pub struct StartError {
 
 impl StartError {
     /// The error, about this.
-    pub(crate) fn about<C: Display>(
-        alloc: Global,
-        error: ServerError,
-        what: &str,
-        cause: &C,
-    ) -> StartError
+    pub fn about<C: Display>(alloc: Global, error: ServerError, what: &str, cause: &C) -> StartError
         ensures { result.error ≡ error }
     {
         StartError {
@@ -77,7 +71,7 @@ impl StartError {
     }
 
     /// A read, a write or a call of the system that failed on this.
-    pub(crate) fn of_io(alloc: Global, what: &str, error: &io::Error) -> StartError
+    pub fn of_io(alloc: Global, what: &str, error: &io::Error) -> StartError
         ensures memory { (result.error ≡ ServerError.Memory) ↔ (error_kind error.now ≡ ErrorKind.OutOfMemory) }
         ensures other { (result.error ≡ ServerError.ReadOrWrite) ↔ ¬ (error_kind error.now ≡ ErrorKind.OutOfMemory) }
     {
@@ -97,7 +91,7 @@ impl From<ServerError> for StartError {
 
 impl From<AllocError> for StartError {
     ghost use Rattle.std.specs.Prelude.{◌≡◌};
-    ghost use Rattle.mx_server.specs.declared.errors.ServerError.TheVariants.{Memory};
+    ghost use Rattle.mx_directory.specs.declared.errors.ServerError.TheVariants.{Memory};
 
     ghost from_gives = { λ _ start. start.error ≡ Memory };
 
@@ -108,7 +102,7 @@ impl From<AllocError> for StartError {
 
 impl<T: Drop> From<AllocFailed<T>> for StartError {
     ghost use Rattle.std.specs.Prelude.{◌≡◌};
-    ghost use Rattle.mx_server.specs.declared.errors.ServerError.TheVariants.{Memory};
+    ghost use Rattle.mx_directory.specs.declared.errors.ServerError.TheVariants.{Memory};
 
     ghost from_gives = { λ _ start. start.error ≡ Memory };
 
@@ -117,23 +111,9 @@ impl<T: Drop> From<AllocFailed<T>> for StartError {
     }
 }
 
-impl From<InputError> for ServerError {
-    ghost use Rattle.std.specs.Prelude.{◌≡◌};
-    ghost use Rattle.mx_server.specs.ServerErrors.{of_input};
-
-    ghost from_gives = { λ error server. server ≡ of_input error };
-
-    fn from(error: InputError) -> ServerError {
-        match error {
-            InputError::Memory => ServerError::Memory,
-            InputError::Read => ServerError::ReadOrWrite,
-        }
-    }
-}
-
 impl From<CallError> for ServerError {
     ghost use Rattle.std.specs.Prelude.{◌≡◌};
-    ghost use Rattle.mx_server.specs.ServerErrors.{of_call};
+    ghost use Rattle.mx_directory.specs.ServerErrors.{of_call};
 
     ghost from_gives = { λ error server. server ≡ of_call error };
 

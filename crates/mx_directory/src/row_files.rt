@@ -57,7 +57,7 @@ pub struct RowFiles {
 
 impl RowFiles {
     /// Who runs the server is told of each file that has failed, once.
-    pub(crate) fn tell<R: Eprint>(&self, rt: &R, alloc: Global) {
+    pub fn tell<R: Eprint>(&self, rt: &R, alloc: Global) {
         for file in &self.files {
             file.tell(rt, alloc);
         }

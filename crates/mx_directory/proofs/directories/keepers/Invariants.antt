@@ -1,5 +1,5 @@
 use Rattle.std.proofs.Common.{◌≡◌, length}
-use Rattle.mx_server.proofs.directories.keepers.Given as goal
+use Rattle.mx_directory.proofs.directories.keepers.Given as goal
 
 -- as many keepers as were counted
 abbrev pub invariant-loop-number : goal.invariant-loop-number

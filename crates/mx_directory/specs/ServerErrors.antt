@@ -1,17 +1,11 @@
 -- For proofs and private clauses alone.
--- Why a server does not serve, where that is for a call or an input.
+-- Why a server does not serve, where that is for its rows.
 use Rattle.mx_keeper.specs.declared.refusals.CallError.{CallError}
 use Rattle.mx_keeper.specs.declared.refusals.CallError.TheVariants as call
 use Rattle.mx_keeper.specs.declared.faults.KeeperFault.{KeeperFault}
 use Rattle.mx_keeper.specs.declared.faults.KeeperFault.TheVariants as fault
-use Rattle.mx_log.specs.declared.input.InputError.{InputError}
-use Rattle.mx_log.specs.declared.input.InputError.TheVariants as input
-use Rattle.mx_server.specs.declared.errors.ServerError.{ServerError}
-use Rattle.mx_server.specs.declared.errors.ServerError.TheVariants.{Memory, Storage, ReadOrWrite}
-
-abbrev pub of_input : InputError → ServerError
-of_input input.Memory = Memory
-of_input input.Read = ReadOrWrite
+use Rattle.mx_directory.specs.declared.errors.ServerError.{ServerError}
+use Rattle.mx_directory.specs.declared.errors.ServerError.TheVariants.{Memory, Storage}
 
 abbrev pub of_call : CallError → ServerError
 of_call call.Memory = Memory
