@@ -1,6 +1,6 @@
 -- The states of a record are in the order of their keys.
-use Rattle.std.proofs.Common.{◌≡◌, ◌<◌, ◌++◌, ℕ, zero, suc, Bool, true, false, not, List, [], ◌∷◌, filter, map, length, sym, subst, arith, Option, Some, None}
-use Rattle.std.proofs.lemmas.List.Elements.{All-append, All-map}
+use Rattle.std.proofs.Common.{◌≡◌, ◌<◌, ◌++◌, ℕ, zero, suc, Bool, true, false, not, List, [], ◌∷◌, filter, map, length, refl, sym, ap, subst, ◌∙◌, arith, Option, Some, None}
+use Rattle.std.proofs.lemmas.List.Elements.{All-append, All-map, All-nil}
 use Rattle.std.specs.Prelude.{get_or, if◌then◌else◌, option_map, slice_index_or, take, unwrap_or}
 use Rattle.std.specs.FinMap.Entries.{put}
 use Rattle.std.specs.List.{All}
@@ -14,12 +14,13 @@ use Rattle.mx_orders.specs.StateMap.{State, entry, key_cmp, with_event}
 use Rattle.mx_state_res.specs.Numbered.{AreAdded, state_at}
 use Rattle.mx_state_res.specs.Resolution.{after_check, full_conflicted, in_every, iterative_auth_checks, power_events, resolve, unconflicted}
 use Rattle.mx_state_res.proofs.EntryLemmas.{sorted-overwritten}
+use Rattle.mx_state_res.proofs.EqualStateLemmas.{resolve-same}
 use Rattle.mx_state_res.proofs.KeyLemmas.{Sorted, sorted-filter}
 use Rattle.mx_state_res.proofs.PlaceLemmas.{sorted-put}
-use Rattle.mx_receipt.specs.Receipt.{Kept, before_event, version_in, is_rejected, kept_at, rows_of, state_before_next, states_after, with_kept}
+use Rattle.mx_receipt.specs.Receipt.{Kept, before_event, version_in, is_rejected, kept_at, rows_of, state_before_next, states_after, states_at, with_kept}
 use Rattle.mx_receipt.specs.Judgements.{AreBelow, AreSorted, IsHeld, IsJudged, Judged, afters, judged_in, kept_of, kept_row, numbers_after}
 use Rattle.mx_receipt.specs.declared.snapshots.Judgement.{Judgement}
-use Rattle.mx_receipt.proofs.HeldLemmas.{added-state}
+use Rattle.mx_receipt.proofs.HeldLemmas.{added-state, numbered}
 
 -- ---- a state with more events
 
@@ -101,6 +102,28 @@ pub numbers-sorted : (states : List State) (js : List Judgement) (events numbers
 numbers-sorted states js events numbers sorted h are =
     subst (All (λ n. Sorted (state_at states n))) (sym are)
     (All-map (λ n. Sorted (state_at states n)) (λ p. slice_index_or (numbers_after js) p 0) events (λ k d l. after-sorted states js (get_or events k d) sorted (h k d l)))
+
+pub number-is : (js : List Judgement) (p : ℕ) (d : Judgement) → p < length js → (slice_index_or js p d).after ≡ slice_index_or (numbers_after js) p 0
+number-is [] p d l = absurd (omega arith)
+number-is (j ∷ js) zero d l = refl
+number-is (j ∷ js) (suc p) d l = number-is js p d (omega arith)
+
+pub only-one : (xs : List ℕ) (x : ℕ) → 0 < length xs → length xs < 2 → x ≡ get_or xs 0 x → xs ≡ x ∷ []
+only-one [] x l m e = absurd (omega arith)
+only-one (y ∷ []) x l m e = ap (λ z. z ∷ []) (sym e)
+only-one (y ∷ z ∷ xs) x l m e = absurd (omega arith)
+
+-- of the state after one event alone the resolution is that state
+pub one-after : (v : RoomVersion) (rows : List Row) (states : List State) (js : List Judgement) (events : List ℕ) (event : ℕ) → events ≡ event ∷ [] → AreSorted states js → All (λ p. p < length js) events
+    → state_at states (slice_index_or (numbers_after js) event 0) ≡ resolve v rows (states_at (afters (judged_in states js)) events)
+one-after v rows states js events event is sorted h =
+    let s = state_at states (slice_index_or (numbers_after js) event 0) in
+    let in_order : All (λ n. Sorted (state_at states n)) (slice_index_or (numbers_after js) event 0 ∷ []) =
+    subst (λ es. All (λ n. Sorted (state_at states n)) (map (λ p. slice_index_or (numbers_after js) p 0) es)) is
+    (numbers-sorted states js events (map (λ p. slice_index_or (numbers_after js) p 0) events) sorted h refl) in
+    sym (resolve-same v rows s (in_order 0 0 (omega arith)) [] (All-nil (λ t. t ≡ s)))
+    ∙ ap (λ es. resolve v rows (map (state_at states) (map (λ p. slice_index_or (numbers_after js) p 0) es))) (sym is)
+    ∙ ap (resolve v rows) (numbered states js events h)
 
 -- with an event that is added
 pub sorted-push : (rows : List Row) (old mid : List State) (js : List Judgement) (j : Judgement) → AreAdded rows old mid → AreBelow (length old) js → AreSorted old js → Sorted (state_at mid j.after)

@@ -25,7 +25,7 @@ pub(crate) struct Judgement {
     pub covered: bool,
 }
 
-/// The resolution of the states after some events.
+/// The resolution of the states after some events: after one event, the state after it.
 pub(crate) fn resolved_after(
     alloc: Global,
     graph: &Graph,
@@ -45,6 +45,9 @@ pub(crate) fn resolved_after(
     ensures added { AreAdded graph.now states.old states.new }
     ensures right { OnOk result (AreRight graph.now states.new resolutions.new) }
 {
+    if let [event] = events {
+        return Ok(judgements[event.index()].after);
+    }
     let numbers = states_after(alloc, judgements, events)?;
     let each = each_once(numbers);
     let state = resolve_cached(alloc, graph, states, resolutions, each)?;

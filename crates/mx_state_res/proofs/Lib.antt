@@ -38,6 +38,7 @@ pub mod EntrySearchLemmas
 pub mod StateSetLemmas
 pub mod RowWalkLemmas
 pub mod SharedEventLemmas
+pub mod CitedWithinLemmas
 pub mod LaterStateLemmas
 pub mod LaterOrderLemmas
 pub mod LaterCheckLemmas

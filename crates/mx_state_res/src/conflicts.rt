@@ -7,6 +7,7 @@ ghost use Rattle.mx_orders.specs.StateMap.{events_of as events_in, key_cmp};
 ghost use Rattle.mx_state_res.specs.Agreed.{IsAgreed};
 ghost use Rattle.mx_state_res.specs.Resolution as definition;
 
+mod cited_events;
 pub(crate) mod numbered_conflicts;
 pub(crate) mod rising_lists;
 

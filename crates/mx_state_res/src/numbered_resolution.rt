@@ -9,7 +9,7 @@ use crate::checks::working_states::WorkingState;
 use crate::conflicts::numbered_conflicts::{all_are_sorted, full_conflicted_at};
 use crate::state_maps::StateMap;
 use crate::states::States;
-use crate::states::number_sets::each_once;
+use crate::states::number_sets::{each_once, rise};
 use crate::states::state_changes::{StateChange, least_change, restored_puts};
 use crate::states::state_numbers::StateNo;
 use mx_auth::RoomVersion;
@@ -20,7 +20,7 @@ use std::alloc::{AllocError, Global};
 ///
 /// Where it is one of them, it is that one, and nothing is added. Otherwise it is added as a change of the one from
 /// which it differs at the fewest keys. The states are looked at where they differ, beside what the events in conflict
-/// need; one of them is listed whole, to find where their auth chains differ.
+/// need; one of them is listed whole, to find where their auth chains differ, unless what the events cite tells it.
 ///
 /// `AllocError` where no memory is left.
 ///
@@ -39,6 +39,9 @@ pub fn resolve_numbered(
     ensures number { IfOk result (λ number. number < length states.new) }
     ensures added { AreAdded graph.now states.old states.new }
 {
+    if rise(numbers) {
+        return resolve_each(version, alloc, graph, states, numbers);
+    }
     all_are_sorted(states, numbers);
     let each = each_once(alloc, numbers)?;
     resolve_each(version, alloc, graph, states, &each)

@@ -1,13 +1,15 @@
 // Where numbered states are in conflict.
-ghost use Rattle.std.specs.Prelude.{◌≡◌, ◌<◌, ◌∷◌, ◌++◌, ℕ, All, IfOk, List, OnErr, OnOk, T, length, map, take};
+ghost use Rattle.std.specs.Prelude.{◌≡◌, ◌<◌, ◌∷◌, ◌++◌, ℕ, All, IfOk, List, T, flat_map, length, map};
 ghost use Rattle.std.specs.FinMap.Entries.{is_sorted};
 ghost use Rattle.mx_graph.specs.Edges.{Rises};
+ghost use Rattle.mx_graph.specs.Record.{is_in};
 ghost use Rattle.mx_orders.specs.StateMap.{events_of as events_in, key_cmp};
 ghost use Rattle.mx_state_res.specs.ChainDifference as differences;
 ghost use Rattle.mx_state_res.specs.Numbered.{AreKnown, IsDiffering, state_at, without};
 ghost use Rattle.mx_state_res.specs.Resolution as definition;
 
 use crate::chains::chain_difference::chain_difference;
+use crate::conflicts::cited_events::cite_within;
 use crate::conflicts::joined;
 use crate::state_maps::StateMap;
 use crate::states::States;
@@ -40,9 +42,7 @@ pub(crate) fn full_conflicted_at(
     all_are_sorted(states, numbers);
     let _ = differing.entries();
     let apart = states.events_at_keys(alloc, numbers, differing)?;
-    let difference = apart_chains(alloc, graph, states, base, differing, &apart)?;
-    let mut found = joined(alloc, &apart)?;
-    found.extend_from_slice(&difference)?;
+    let found = with_apart_chains(alloc, graph, states, base, differing, &apart)?;
     let events = rising(alloc, &found)?;
     Ok(events)
 }
@@ -55,6 +55,34 @@ pub(crate) fn all_are_sorted(states: &States, numbers: &[StateNo])
     for number in numbers {
         states.state_is_sorted(*number);
     }
+}
+
+// The events of some sets, and those that are in the auth chains of some of the sets and not of all, and not in the chain of
+// what the states share. That chain is looked at only where it may count: where what the events cite is among them or in the
+// chains of all sets, the chains differ at none but them.
+fn with_apart_chains(
+    alloc: Global,
+    graph: &Graph,
+    states: &States,
+    base: StateNo,
+    differing: &StateMap,
+    apart: &[Vec<EventNo>],
+) -> Result<Vec<EventNo>, AllocError>
+    requires base { base < length states.now }
+    requires known { AreKnown graph.now states.now }
+    requires apart { All (λ others. All (λ s. s < length graph.now) others.items) apart.now }
+    ensures { IfOk result (λ found. (p : ℕ) → is_in found.items p ≡ is_in (flat_map (λ others. others.items) apart.now
+        ++ differences.chain_difference graph.now (events_in (without differing.now (state_at states.now base)))
+        (map (λ others. others.items) apart.now)) p) }
+{
+    graph_is_sound(graph);
+    let mut found = joined(alloc, apart)?;
+    if cite_within(graph, apart, &found) {
+        return Ok(found);
+    }
+    let difference = apart_chains(alloc, graph, states, base, differing, apart)?;
+    found.extend_from_slice(&difference)?;
+    Ok(found)
 }
 
 // The events that are in the auth chains of some sets and not of all, and not in the chain of what the states share.

@@ -1,6 +1,6 @@
 // The event by which a state differs from one that was resolved.
-ghost use Rattle.std.specs.Prelude.{◌≡◌, ◌<◌, ℕ, All, IfOk, IfSome, Some, false, is_some, length, true};
-ghost use Rattle.std.specs.FinMap.Entries.{put};
+ghost use Rattle.std.specs.Prelude.{◌≡◌, ◌<◌, ℕ, All, IfOk, IfSome, Some, T, false, is_some, length, true};
+ghost use Rattle.std.specs.FinMap.Entries.{is_sorted, put};
 ghost use Rattle.mx_auth.specs.Rules.{Key, key_of};
 ghost use Rattle.mx_graph.specs.Record as record_of;
 ghost use Rattle.mx_graph.specs.Record.{auth_events, is_in};
@@ -44,6 +44,7 @@ pub(crate) fn added_event(
     ensures new { IfOk result (λ told. IfSome told (λ event. is_in (events_checked kept.now.order.items) event ≡ false)) }
     ensures known { IfOk result (λ told. IfSome told (λ event. event < length graph.now)) }
 {
+    all_are_sorted(states, &kept.numbers);
     let mut left = kept.numbers.len();
     let fewest = left.saturating_sub(MOST_COMPARED);
     while left > fewest {
@@ -67,6 +68,7 @@ fn event_beside(
     newest: StateNo,
 ) -> Result<Option<EventNo>, AllocError>
     requires among { In number kept.now.numbers.items }
+    requires sorted { All (λ number. T (is_sorted key_cmp (state_at states.now number))) kept.now.numbers.items }
     requires newest { newest < length states.now }
     requires known { AreKnown graph.now states.now }
     requires numbers { All (λ number. number < length states.now) kept.now.numbers.items }
@@ -78,7 +80,6 @@ fn event_beside(
     ensures new { IfOk result (λ told. IfSome told (λ event. is_in (events_checked kept.now.order.items) event ≡ false)) }
     ensures known { IfOk result (λ told. IfSome told (λ event. event < length graph.now)) }
 {
-    all_are_sorted(states, &kept.numbers);
     states.state_is_sorted(newest);
     let differing = states.differing(alloc, &[number, newest])?;
     let Some(entry) = differing.entries().first() else {

@@ -1,5 +1,5 @@
 // Sets of numbers of states.
-ghost use Rattle.std.specs.Prelude.{◌≡◌, ◌==◌, ◌||◌, IfOk, IfSome, OnOk, true, ℕ};
+ghost use Rattle.std.specs.Prelude.{◌≡◌, ◌==◌, ◌<◌, ◌+◌, ◌||◌, IfOk, IfSome, IsTrue, OnOk, length, slice_index, true, ℕ};
 ghost use Rattle.std.specs.BTreeSet.{contains};
 ghost use Rattle.std.specs.Ordering.{nat_cmp};
 ghost use Rattle.mx_graph.specs.Record.{is_in};
@@ -16,6 +16,19 @@ pub(crate) fn each_once(alloc: Global, numbers: &[StateNo]) -> Result<Vec<StateN
     let set = set_of(alloc, numbers)?;
     let found = list_of(alloc, &set)?;
     Ok(found)
+}
+
+/// Whether each of these numbers is greater than the one before it.
+pub(crate) fn rise(numbers: &[StateNo]) -> bool
+    ensures { IsTrue result → (k : ℕ) → k + 1 < length numbers.now
+        → slice_index numbers.now k < slice_index numbers.now (k + 1) }
+{
+    for place in 1..numbers.len() {
+        if numbers[place].index() <= numbers[place - 1].index() {
+            return false;
+        }
+    }
+    true
 }
 
 fn set_of(alloc: Global, numbers: &[StateNo]) -> Result<BTreeSet<StateNo>, AllocError>

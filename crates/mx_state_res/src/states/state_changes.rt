@@ -56,18 +56,19 @@ pub(crate) fn least_change(
         ≤ change_size taken.now (state_at states.now number) puts.now) (base ∷ others.now)) }
 {
     let first = change_of(alloc, states, base, taken, puts)?;
-    let Some((last, _)) = others.split_last() else {
+    let Some((last, between)) = others.split_last() else {
         return Ok(first);
     };
     if first.is_empty() {
         return Ok(first);
     }
     let newest = change_of(alloc, states, *last, taken, puts)?;
-    let lesser = lesser(first, newest);
-    lesser_change(alloc, states, lesser, base, others, taken, puts)
+    let known = lesser(first, newest);
+    let least = lesser_change(alloc, states, known, base, between, taken, puts)?;
+    Ok(least)
 }
 
-// The change of the fewest keys, where one is known that is no more than that of `base`.
+// The change of the fewest keys, of these states and the one that is known.
 fn lesser_change(
     alloc: Global,
     states: &States,
@@ -83,13 +84,13 @@ fn lesser_change(
     requires parent { known.parent < length states.now }
     requires made { edited known.taken (state_at states.now known.parent) known.puts
         ≡ edited taken.now (state_at states.now base) puts.now }
-    requires no_more { length known.taken + length known.puts
-        ≤ change_size taken.now (state_at states.now base) puts.now }
     ensures parent { IfOk result (λ change. change.parent < length states.now) }
     ensures made { IfOk result (λ change. edited change.taken (state_at states.now change.parent) change.puts
         ≡ edited taken.now (state_at states.now base) puts.now) }
+    ensures no_more { IfOk result (λ change. length change.taken + length change.puts
+        ≤ length known.taken + length known.puts) }
     ensures least { IfOk result (λ change. All (λ number. length change.taken + length change.puts
-        ≤ change_size taken.now (state_at states.now number) puts.now) (base ∷ others.now)) }
+        ≤ change_size taken.now (state_at states.now number) puts.now) others.now) }
 {
     let mut least = known;
     for number in others {

@@ -40,7 +40,7 @@ returns-clause-event c =
     let one : length d ≡ 1 = let l = ap length c.entries-2.ensures.entries in omega arith in
     let key_is : (c.kind.result.now, c.state_key.result.now) ≡ e.0 = λ i. (c.kind.ensures i, c.state_key.ensures i) in
     let among : is_some (entry kept.differing e.0) ≡ true = ap (λ k. is_some (entry kept.differing k)) (sym key_is) ∙ ap is_some (sym c.get.ensures) ∙ c.is_none.ensures ∙ ap not c.if-is_none.false in
-    let sorted : (t : State) → In t ss → Sorted t = at-sorted (state_at states) numbers (subst (All (λ n. Sorted (state_at states n))) c.deref.ensures.value c.all_are_sorted.ensures) in
+    let sorted : (t : State) → In t ss → Sorted t = at-sorted (state_at states) numbers c.requires.sorted in
     let member : In s ss = in_map (state_at states) c.args.number numbers c.requires.among in
     if-some _ _ c.taking_its_place.result (λ x h. (
       e.0,

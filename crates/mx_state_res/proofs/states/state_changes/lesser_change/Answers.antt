@@ -1,10 +1,10 @@
 use Rattle.std.proofs.Common.{◌≡◌, ◌<◌, ◌≤◌, ◌+◌, ◌++◌, ◌∷◌, [], ℕ, length, take, inl, inr, sym, ap, subst, ◌∙◌, arith}
 use Rattle.std.proofs.lemmas.List.{take_more, take_all}
+use Rattle.std.proofs.lemmas.List.Elements.{All-nil}
 use Rattle.std.specs.List.{All}
 use Rattle.mx_state_res.specs.Numbered.{change_size, edited, state_at, without}
 use Rattle.mx_state_res.specs.Resolution.{overwritten}
 use Rattle.mx_state_res.proofs.ChangeLemmas.{least-step}
-use Rattle.mx_state_res.proofs.DifferingLemmas.{all-only}
 use Rattle.mx_state_res.proofs.states.state_changes.lesser_change.Goals as goal
 
 pub loop-number-preserved : goal.loop-number-preserved
@@ -35,18 +35,20 @@ loop-number-preserved c =
             (ap (λ p. edited c.in_ok-change.change.taken (state_at c.args.states.now p) c.in_ok-change.change.puts) c.in_ok-change.ensures.parent
             ∙ c.in_ok-change.ensures.made ∙ ap (λ s. overwritten s c.args.puts.now) alike)
       ];
-      least = subst (All (λ x. length c.lesser-least.result.taken + length c.lesser-least.result.puts ≤ change_size c.args.taken.now (state_at c.args.states.now x) c.args.puts.now)) (ap (λ ns. c.args.base ∷ ns) (sym next))
-          (least-step size (c.args.base ∷ take i numbers) n before after c.loop-number.invariant.least one (subst (λ m. length c.lesser-least.result.taken + length c.lesser-least.result.puts ≤ m) is other));
+      no_more = let so_far : before ≤ length c.args.known.taken + length c.args.known.puts = c.loop-number.invariant.no_more in omega arith;
+      least = subst (All (λ x. length c.lesser-least.result.taken + length c.lesser-least.result.puts ≤ change_size c.args.taken.now (state_at c.args.states.now x) c.args.puts.now)) (sym next)
+          (least-step size (take i numbers) n before after c.loop-number.invariant.least one (subst (λ m. length c.lesser-least.result.taken + length c.lesser-least.result.puts ≤ m) is other));
     }
 
 pub loop-number-init : goal.loop-number-init
 loop-number-init c = record {
   parent = c.requires.parent;
   made = c.requires.made;
-  least = all-only (λ x. length c.args.known.taken + length c.args.known.puts ≤ change_size c.args.taken.now (state_at c.args.states.now x) c.args.puts.now) c.args.base c.requires.no_more;
+  no_more = omega arith;
+  least = All-nil (λ x. length c.args.known.taken + length c.args.known.puts ≤ change_size c.args.taken.now (state_at c.args.states.now x) c.args.puts.now);
 }
 
 pub returns-clause-least : goal.returns-clause-least
 returns-clause-least c =
     subst (All (λ x. length c.loop-number.least.taken + length c.loop-number.least.puts ≤ change_size c.args.taken.now (state_at c.args.states.now x) c.args.puts.now))
-    (ap (λ ns. c.args.base ∷ ns) (take_all c.loop-number.number-index c.args.others.now c.loop-number-test.false)) c.loop-number.invariant.least
+    (take_all c.loop-number.number-index c.args.others.now c.loop-number-test.false) c.loop-number.invariant.least
