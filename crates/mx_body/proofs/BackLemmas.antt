@@ -27,25 +27,25 @@ use Rattle.mx_canon.specs.Canonical.{is_canonical, is_exact, numbers, item_numbe
 use Rattle.mx_canon.specs.KeyOrder.{keys}
 use Rattle.mx_canon.proofs.TextLemmas.{canon_same}
 use Rattle.mx_body.specs.Bodies.{json_of}
-use Rattle.mx_body.specs.Readable.{HasSign, IsReadable, AreReadable, HasReadable}
+use Rattle.mx_body.specs.Readable.{IsInRange, IsReadable, AreReadable, HasReadable}
 use Rattle.mx_body.proofs.GrammarLemmas.{whole}
 use Rattle.mx_body.proofs.ReadableLemmas.{KeysRise-readable}
 
 -- ---- numbers
 
-number_back : (n : Num) → is_exact n ≡ true → HasSign n → number_of (number_text n) ≡ Some n
+number_back : (n : Num) → is_exact n ≡ true → IsInRange n → number_of (number_text n) ≡ Some n
 number_back (unsigned n) e s = let le = leb-true n 9007199254740991 e in number_of-decimal n (omega arith)
 number_back (negative (pos n)) e s = absurd (grind arith)
 number_back (negative (negsuc n)) e s = number_of-negative n (grind arith)
 number_back (float x) e s = cc
 
-number_is : (n : Num) → is_exact n ≡ true → HasSign n → IsNumber (number_text n)
+number_is : (n : Num) → is_exact n ≡ true → IsInRange n → IsNumber (number_text n)
 number_is (unsigned n) e s = IsNumber-decimal n (grind arith)
 number_is (negative (pos n)) e s = absurd (grind arith)
 number_is (negative (negsuc n)) e s = IsNumber-signed_decimal (negsuc n) (grind arith)
 number_is (float x) e s = cc
 
-number_utf8 : (n : Num) → is_exact n ≡ true → HasSign n → IsUtf8 (number_text n)
+number_utf8 : (n : Num) → is_exact n ≡ true → IsInRange n → IsUtf8 (number_text n)
 number_utf8 (unsigned n) e s = IsUtf8-from_ascii _ (IsAscii-decimal n (grind arith))
 number_utf8 (negative (pos n)) e s = absurd (grind arith)
 number_utf8 (negative (negsuc n)) e s = IsUtf8-from_ascii _ (IsAscii-signed (negsuc n) (grind arith))

@@ -1,6 +1,7 @@
 pub mod GrammarLemmas
 pub mod ReadableLemmas
 pub mod PieceLemmas
+pub mod ValueLemmas
 pub mod ItemLemmas
 pub mod MemberLemmas
 pub mod BackLemmas

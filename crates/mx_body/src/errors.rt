@@ -1,6 +1,6 @@
 // Why a body was not read.
 use json::Invalid;
-use std::alloc::AllocError;
+use std::alloc::{AllocError, AllocFailed};
 use thiserror::Error;
 
 /// Why a body was not read.
@@ -21,6 +21,17 @@ impl From<AllocError> for BodyError {
     ghost from_gives = { λ _ e. e ≡ Memory };
 
     fn from(_refused: AllocError) -> BodyError {
+        BodyError::Memory
+    }
+}
+
+impl<T: Drop> From<AllocFailed<T>> for BodyError {
+    ghost use Rattle.std.specs.Prelude.{◌≡◌};
+    ghost use Rattle.mx_body.specs.declared.errors.BodyError.TheVariants.{Memory};
+
+    ghost from_gives = { λ _ e. e ≡ Memory };
+
+    fn from(_refused: AllocFailed<T>) -> BodyError {
         BodyError::Memory
     }
 }

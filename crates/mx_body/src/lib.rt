@@ -1,5 +1,5 @@
-//! The bodies of requests, read with memory of a few times their length: the canonical texts of what they hold, with
-//! no value kept that is not asked for (Matrix specification, Server-Server API).
+//! The bodies of requests: the canonical texts of what they hold, read with memory of a few times their length and no
+//! value kept that is not asked for; or the JSON value that one is (Matrix specification, Server-Server API).
 #![tactic(auto)]
 
 mod entries;
@@ -12,8 +12,10 @@ mod questions;
 mod reading;
 mod texts;
 mod transactions;
+mod values;
 
 pub use errors::BodyError;
 pub use questions::{MissingQuestion, missing_question};
 pub use texts::event_text;
 pub use transactions::{MOST_EPHEMERAL_EVENTS, MOST_EVENTS, transaction_texts};
+pub use values::body_value;

@@ -1,15 +1,17 @@
 // The numbers of JSON, as serde_json reads them.
 ghost use Rattle.std.specs.Prelude.{◌≡◌, ◌<◌, ◌==◌, IfOk, IsTrue, length, option_map, IfSome, true, false, slice_index, Some, None, MatchOption};
 ghost use Rattle.serde_json.specs.Data.{number as number_data};
+ghost use Rattle.serde_json.specs.View.{view};
 ghost use Rattle.serde_json.specs.Read.{number_of, number_from, float_of};
 ghost use Rattle.mx_body.specs.Numbers.{num_of};
 ghost use Rattle.mx_body.specs.Bodies.{bytes_of};
 ghost use Rattle.mx_body.specs.Pieces.{IsPieceOf};
-ghost use Rattle.mx_body.specs.Readable.{HasSign};
+ghost use Rattle.mx_body.specs.Readable.{IsInRange};
 
 use crate::pieces::fitting;
 use fast_float::Numeral;
 use mx_canon::LARGEST;
+use serde_json::Value;
 use std::alloc::{AllocError, Global};
 
 /// A number: an integer of 64 bits, or a finite float.
@@ -23,7 +25,7 @@ pub(crate) enum Numeric {
 /// The number that a number's text stands for, where it is in range.
 pub(crate) fn parse(text: &str) -> Option<Numeric>
     ensures number { option_map num_of result ≡ number_of text.now }
-    ensures sign { IfSome result (λ number. HasSign (num_of number)) }
+    ensures range { IfSome result (λ number. IsInRange (num_of number)) }
 {
     let bytes = text.as_bytes();
     if has_minus(bytes) {
@@ -42,7 +44,7 @@ fn has_minus(bytes: &[u8]) -> bool
 
 fn natural(numeral: &Numeral<'_>) -> Option<Numeric>
     ensures number { option_map num_of result ≡ number_from false numeral.now }
-    ensures sign { IfSome result (λ number. HasSign (num_of number)) }
+    ensures range { IfSome result (λ number. IsInRange (num_of number)) }
 {
     match numeral.to_u64() {
         Some(integer) => Some(Numeric::Natural(integer)),
@@ -52,7 +54,7 @@ fn natural(numeral: &Numeral<'_>) -> Option<Numeric>
 
 fn below_zero(numeral: &Numeral<'_>) -> Option<Numeric>
     ensures number { option_map num_of result ≡ number_from true numeral.now }
-    ensures sign { IfSome result (λ number. HasSign (num_of number)) }
+    ensures range { IfSome result (λ number. IsInRange (num_of number)) }
 {
     if let Some(integer) = numeral.to_i64(true) {
         if integer < 0 {
@@ -64,13 +66,32 @@ fn below_zero(numeral: &Numeral<'_>) -> Option<Numeric>
 
 fn nearest(is_negative: bool, numeral: &Numeral<'_>) -> Option<Numeric>
     ensures number { option_map num_of result ≡ float_of is_negative numeral.now }
-    ensures sign { IfSome result (λ number. HasSign (num_of number)) }
+    ensures range { IfSome result (λ number. IsInRange (num_of number)) }
 {
     let float = numeral.to_float::<f64>(is_negative);
     if float.is_finite() {
         Some(Numeric::Float(float))
     } else {
         None
+    }
+}
+
+/// The JSON value of the number that a number's text stands for, where that is in range.
+pub(crate) fn number_value(text: &str) -> Option<Value>
+    ensures { option_map (λ value. view value) result ≡ option_map number_data (number_of text.now) }
+{
+    let number = parse(text)?;
+    Some(value_of(number))
+}
+
+fn value_of(number: Numeric) -> Value
+    requires { IsInRange (num_of number) }
+    ensures { view result ≡ number_data (num_of number) }
+{
+    match number {
+        Numeric::Natural(integer) => Value::from(integer),
+        Numeric::BelowZero(integer) => Value::from(integer),
+        Numeric::Float(float) => Value::from(float),
     }
 }
 

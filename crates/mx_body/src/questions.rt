@@ -38,12 +38,17 @@ pub(crate) struct Asked {
 }
 
 /// What a body asks about missing events; none where it is no object, or a member of it that is read is of a wrong kind.
-/// No value is made: the memory is a few times the length of the body, and that of the ids.
+/// No value is made: the memory is a few times the length of the body, and that of the ids. The scratch is kept from body
+/// to body.
 ///
 /// An absent list is empty, an absent `limit` 10, an absent `min_depth` 0. `NotJson` where the body is not UTF-8, or no
 /// JSON, or nests deeper than 127; `Memory`. Source: the Matrix specification, Server-Server API,
 /// `POST /_matrix/federation/v1/get_missing_events/{roomId}`.
-pub fn missing_question(alloc: Global, body: &[u8]) -> Result<Option<MissingQuestion>, BodyError>
+pub fn missing_question(
+    alloc: Global,
+    scratch: &mut Scratch,
+    body: &[u8],
+) -> Result<Option<MissingQuestion>, BodyError>
     ensures ok { IfOk result (λ question. (d : Data) × (json_of body.now ≡ Some d)
         × (option_map question_shown question ≡ question_of d)) }
     ensures err { IfErr result (λ e. (e ≡ BodyError.Memory)
@@ -53,8 +58,7 @@ pub fn missing_question(alloc: Global, body: &[u8]) -> Result<Option<MissingQues
         Ok(text) => text,
         Err(_) => return Err(BodyError::NotJson),
     };
-    let mut scratch = Scratch::new(alloc);
-    let question = read_whole(alloc, text, &mut scratch)?;
+    let question = read_whole(alloc, text, scratch)?;
     Ok(question)
 }
 

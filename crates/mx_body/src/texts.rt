@@ -12,11 +12,17 @@ use json::{Reader, Scratch};
 use std::alloc::Global;
 
 /// The canonical text of the value that a body is JSON for, where it has one of at most `largest` bytes. The value is
-/// not made: the memory is a few times the length of the body, and a few times `largest`.
+/// not made: the memory is a few times the length of the body, and a few times `largest`. The scratch is kept from body to
+/// body.
 ///
 /// `NotJson` where the body is not UTF-8, or no JSON, or nests deeper than 127; `Memory`. Source: the Matrix
 /// specification, Server-Server API, "API standards", and the appendix "Canonical JSON".
-pub fn event_text(alloc: Global, body: &[u8], largest: usize) -> Result<Option<Vec<u8>>, BodyError>
+pub fn event_text(
+    alloc: Global,
+    scratch: &mut Scratch,
+    body: &[u8],
+    largest: usize,
+) -> Result<Option<Vec<u8>>, BodyError>
     ensures ok { IfOk result (λ text.
         (d : Data) × (json_of body.now ≡ Some d) × (bytes_of text ≡ text_within largest d)) }
     // The text is JSON for the same value.
@@ -28,8 +34,7 @@ pub fn event_text(alloc: Global, body: &[u8], largest: usize) -> Result<Option<V
         Ok(text) => text,
         Err(_) => return Err(BodyError::NotJson),
     };
-    let mut scratch = Scratch::new(alloc);
-    let piece = read_whole(alloc, text, &mut scratch, largest)?;
+    let piece = read_whole(alloc, text, scratch, largest)?;
     Ok(within(piece, largest))
 }
 

@@ -33,12 +33,13 @@ pub(crate) struct Parts {
 /// The canonical texts of a transaction's events, of those that have one of at most `largest` bytes, in their order;
 /// none where `pdus` is no array of at most [`MOST_EVENTS`], or `edus` is there and is no array of at most
 /// [`MOST_EPHEMERAL_EVENTS`]. No value is made: the memory is a few times the length of the body, and [`MOST_EVENTS`]
-/// times `largest`.
+/// times `largest`. The scratch is kept from body to body.
 ///
 /// `NotJson` where the body is not UTF-8, or no JSON, or nests deeper than 127; `Memory`. Source: the Matrix
 /// specification, Server-Server API, `PUT /_matrix/federation/v1/send/{txnId}`, and the appendix "Canonical JSON".
 pub fn transaction_texts(
     alloc: Global,
+    scratch: &mut Scratch,
     body: &[u8],
     largest: usize,
 ) -> Result<Option<Vec<Vec<u8>>>, BodyError>
@@ -54,8 +55,7 @@ pub fn transaction_texts(
         Ok(text) => text,
         Err(_) => return Err(BodyError::NotJson),
     };
-    let mut scratch = Scratch::new(alloc);
-    let texts = read_whole(alloc, text, &mut scratch, largest)?;
+    let texts = read_whole(alloc, text, scratch, largest)?;
     Ok(texts)
 }
 

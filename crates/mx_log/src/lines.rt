@@ -17,6 +17,7 @@ use crate::lines::call_forms::{CallLine, call_line};
 use crate::lines::step_forms::{close_line, host_line, next_line, open_line};
 use crate::lines::texts::text_line;
 use json::Scratch;
+use mx_body::{BodyError, body_value};
 use mx_pdu::Verifier;
 use mx_redact::text_field;
 use mx_world::Step;
@@ -40,7 +41,7 @@ pub(crate) enum Line {
 /// the last value stands.
 ///
 /// `AllocError` where no memory is left. A line that names a transaction and nothing else, as most do, is read without a
-/// JSON value of it; the scratch for that is kept from line to line.
+/// JSON value of it. The scratch is kept from line to line.
 pub(crate) fn read_line<V: Verifier>(
     alloc: Global,
     scratch: &mut Scratch,
@@ -52,24 +53,24 @@ pub(crate) fn read_line<V: Verifier>(
 {
     match text_line(alloc, scratch, line)? {
         Some(read) => Ok(read),
-        None => value_line(alloc, verifier, line),
+        None => value_line(alloc, scratch, verifier, line),
     }
 }
 
 // What a line asks for, by its JSON value.
-fn value_line<V: Verifier>(alloc: Global, verifier: &V, line: &[u8]) -> Result<Line, AllocError>
+fn value_line<V: Verifier>(
+    alloc: Global,
+    scratch: &mut Scratch,
+    verifier: &V,
+    line: &[u8],
+) -> Result<Line, AllocError>
     ensures { IfOk result (λ read. line_shown read
         ≡ definition.read_line (offer_by (V.judges verifier.now)) line.now) }
 {
-    match Value::from_slice(alloc, line) {
+    match body_value(alloc, scratch, line) {
         Ok(value) => line_of(alloc, verifier, value),
-        Err(error) => {
-            if error.is_memory() {
-                Err(AllocError)
-            } else {
-                Ok(Line::Bad)
-            }
-        }
+        Err(BodyError::Memory) => Err(AllocError),
+        Err(BodyError::NotJson) => Ok(Line::Bad),
     }
 }
 

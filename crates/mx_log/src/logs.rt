@@ -222,6 +222,6 @@ pub(crate) fn answer_of<K: Keeper<Row = ShardRow>, L: Keeper<Row = BookRow>, V: 
         (answer_output answer) start earlier world.new) }
 {
     let line = read_line(alloc, scratch, verifier, text).map_err(LineRefusal::unread)?;
-    let answer = answer_line(alloc, server, verifier, world, line)?;
+    let answer = answer_line(alloc, server, verifier, world, scratch, line)?;
     Ok(answer)
 }

@@ -20,6 +20,7 @@ use crate::lines::Line;
 use crate::lines::call_forms::CallLine;
 use crate::steps::replies::write_reply;
 use crate::steps::sequences::{first_step_of, last_reply};
+use json::Scratch;
 use mx_ident::ServerName;
 use mx_keeper::{BookRow, Keeper, ShardRow};
 use mx_pdu::Verifier;
@@ -36,6 +37,7 @@ pub(crate) fn answer_line<K: Keeper<Row = ShardRow>, L: Keeper<Row = BookRow>, V
     server: &WireServer,
     verifier: &V,
     world: &mut World<K, L>,
+    scratch: &mut Scratch,
     line: Line,
 ) -> Result<LineAnswer, LineRefusal>
     ensures { IfOk result (λ answer. (start : Start) (earlier : List AnyStep) → IsAfter start earlier world.old
@@ -49,7 +51,7 @@ pub(crate) fn answer_line<K: Keeper<Row = ShardRow>, L: Keeper<Row = BookRow>, V
             Ok(LineAnswer::Step(reply))
         }
         Line::Call(call) => {
-            let reply = answer_request(alloc, server, verifier, world, &call)?;
+            let reply = answer_request(alloc, server, verifier, world, scratch, &call)?;
             Ok(LineAnswer::Response(reply))
         }
     }
@@ -74,13 +76,14 @@ fn answer_request<K: Keeper<Row = ShardRow>, L: Keeper<Row = BookRow>, V: Verifi
     server: &WireServer,
     verifier: &V,
     world: &mut World<K, L>,
+    scratch: &mut Scratch,
     line: &CallLine,
 ) -> Result<WireReply, LineRefusal>
     ensures { IfOk result (λ reply. (start : Start) (earlier : List AnyStep) → IsAfter start earlier world.old
         → IsDone (offer_by (V.judges verifier.now)) server.now.name (call_line line.entry.now.now (request_shown line.entry.now.request))
         (response_output (reply_shown reply)) start earlier world.new) }
 {
-    match read_request(alloc, server, verifier, &line.request) {
+    match read_request(alloc, scratch, server, verifier, &line.request) {
         Ok(call) => {
             let reply = answer_call(alloc, &server.name, world, line.now, call)?;
             Ok(reply)

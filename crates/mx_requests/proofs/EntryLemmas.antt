@@ -1,7 +1,8 @@
 -- The entries of an array.
-use Rattle.std.proofs.Common.{◌≡◌, ◌<◌, ◌≤◌, ℕ, Bool, true, false, if◌then◌else◌, nat_le, List, [], ◌∷◌, length, string_bytes, String, map, arith, refl, ap, ◌∙◌, leb-true}
-use Rattle.std.specs.Prelude.{Some, None, option_map}
-use Rattle.serde_json.specs.Data.{array, object}
+use Rattle.std.proofs.Common.{◌≡◌, ◌<◌, ◌≤◌, ℕ, Bool, true, false, if◌then◌else◌, nat_le, List, [], ◌∷◌, length, string_bytes, String, map, filter, codes, arith, refl, sym, ap, ◌∙◌, leb-true}
+use Rattle.std.specs.Prelude.{Option, Some, None, option_map, option_and_then, is_some}
+use Rattle.serde_json.specs.Data.{Data, array, object}
+use Rattle.serde_json.specs.Find.{as_array}
 use Rattle.std.specs.Map.{lookup}
 use Rattle.std.specs.BTreeMap.{is_at}
 use Rattle.std.specs.Ordering.{nat_cmp}
@@ -10,13 +11,24 @@ use Rattle.std.specs.declared.alloc.Global.{Global}
 use Rattle.serde_json.specs.View.{view, items_view, members_view}
 use Rattle.serde_json.proofs.Views.{view-lookup}
 use Rattle.serde_json.specs.declared.value.Value.{Value}
-use Rattle.mx_redact.specs.Fields.{field, item_list}
+use Rattle.mx_redact.specs.Fields.{field, is_none_or, item_list}
 use Rattle.mx_pdu.proofs.FieldLemmas.{items-length}
-use Rattle.mx_requests.specs.Requests.{entries_up_to}
+use Rattle.mx_pdu.specs.Format.{is_well_formed}
+use Rattle.mx_requests.specs.Requests.{entries_up_to, events_in, is_array_up_to}
 
 values : (vs : List Value) → item_list (items_view vs) ≡ map (λ (v : Value). view v) vs
 values [] = refl
 values (v ∷ vs) = ap (λ ds. view v ∷ ds) (values vs)
+
+is_some_if : {A : Type 0} (x : A) (b : Bool) → is_some (if b then Some x else None) ≡ b
+is_some_if x true = refl
+is_some_if x false = refl
+
+pub array-length : (n : ℕ) (d : Data) (vs : List Value) → Some (items_view vs) ≡ as_array d → is_array_up_to n d ≡ nat_le (length vs) n
+array-length n d vs e =
+    ap (λ o. is_some (option_and_then (λ ds. if nat_le (length (item_list ds)) n then Some (item_list ds) else None) o)) (sym e)
+    ∙ is_some_if (item_list (items_view vs)) (nat_le (length (item_list (items_view vs))) n)
+    ∙ ap (λ k. nat_le k n) (items-length vs)
 
 entries-by : (n : ℕ) (vs : List Value) (b : Bool) → nat_le (length vs) n ≡ b → entries_up_to n (array (items_view vs)) ≡ (if b then Some (map (λ (v : Value). view v) vs) else None)
 entries-by n vs b e =
@@ -30,6 +42,18 @@ short n vs e = entries-by n vs true e
 
 pub long : (n : ℕ) (vs : List Value) → nat_le (length vs) n ≡ false → entries_up_to n (array (items_view vs)) ≡ None
 long n vs e = entries-by n vs false e
+
+-- the events of a body, by whether its ephemeral events are few and by what is at `pdus`
+pub events-at : (d : Data) (few : Bool) (o : Option Data) → is_none_or (is_array_up_to 100) (field (codes "edus") d) ≡ few → field (codes "pdus") d ≡ o
+    → events_in d ≡ (if few then option_map (filter is_well_formed) (option_and_then (entries_up_to 50) o) else None)
+events-at d few o is e =
+    ap (λ b. option_map (filter is_well_formed) (if b then option_and_then (entries_up_to 50) (field (codes "pdus") d) else None)) is
+    ∙ ap (λ x. option_map (filter is_well_formed) (if few then option_and_then (entries_up_to 50) x else None)) e
+    ∙ filtered_if few (option_and_then (entries_up_to 50) o)
+  where
+    filtered_if : (b : Bool) (x : Option (List Data)) → option_map (filter is_well_formed) (if b then x else None) ≡ (if b then option_map (filter is_well_formed) x else None)
+    filtered_if true x = refl
+    filtered_if false x = refl
 
 pub not_below : (m n : ℕ) → n < m → nat_le m n ≡ false
 not_below m n over = by (nat_le m n) refl

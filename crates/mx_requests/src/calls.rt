@@ -18,6 +18,7 @@ use crate::targets::route_parameters::{
 use crate::targets::routes::Route;
 use crate::targets::segments::{event_at, room_at, txn_at, user_at};
 use crate::targets::{path_of, query_of};
+use json::Scratch;
 use mx_auth::membership_of;
 use mx_ident::{EventId, RoomId, ServerName};
 use mx_pdu::{Offered, Pdu, Verifier};
@@ -55,6 +56,7 @@ pub enum WireCall {
 /// `Invalid` for the body; and `Memory`. Source: the Server-Server API of the Matrix specification, by route.
 pub(crate) fn call_on<V: Verifier>(
     alloc: Global,
+    scratch: &mut Scratch,
     verifier: &V,
     route: Route,
     origin: ServerName,
@@ -69,20 +71,21 @@ pub(crate) fn call_on<V: Verifier>(
     let path = path_of(target);
     let query = query_of(target);
     match route {
-        Route::Send => send_call(alloc, verifier, origin, path, body),
+        Route::Send => send_call(alloc, scratch, verifier, origin, path, body),
         Route::Event => event_call(alloc, origin, path),
         Route::State => state_call(alloc, origin, path, query),
         Route::StateIds => state_ids_call(alloc, origin, path, query),
         Route::EventAuth => event_auth_call(alloc, origin, path),
         Route::Backfill => backfill_call(alloc, origin, path, query),
-        Route::GetMissingEvents => missing_events_call(alloc, origin, path, body),
+        Route::GetMissingEvents => missing_events_call(alloc, scratch, origin, path, body),
         Route::MakeJoin => make_join_call(alloc, origin, path, query),
-        Route::SendJoin => send_join_call(alloc, verifier, origin, path, body),
+        Route::SendJoin => send_join_call(alloc, scratch, verifier, origin, path, body),
     }
 }
 
 fn send_call<V: Verifier>(
     alloc: Global,
+    scratch: &mut Scratch,
     verifier: &V,
     origin: ServerName,
     path: &str,
@@ -94,7 +97,7 @@ fn send_call<V: Verifier>(
         ⊎ (definition.send_call (offer_by (V.judges verifier.now)) origin path.now body.now ≡ Err fault)) }
 {
     let transaction = txn_at(alloc, path, 0)?;
-    let events = events_offered(alloc, verifier, body)?;
+    let events = events_offered(alloc, scratch, verifier, body)?;
     Ok(WireCall::Sends {
         origin,
         transaction,
@@ -105,6 +108,7 @@ fn send_call<V: Verifier>(
 // The events of a transaction; `WrongForm` where the body is none.
 fn events_offered<V: Verifier>(
     alloc: Global,
+    scratch: &mut Scratch,
     verifier: &V,
     body: &[u8],
 ) -> Result<Vec<Offered>, Fault>
@@ -114,7 +118,7 @@ fn events_offered<V: Verifier>(
         ⊎ ((fault ≡ Fault.WrongForm) × (d : Data) × (body_value_of body.now ≡ Ok d)
         × (definition.events_offered (offer_by (V.judges verifier.now)) d ≡ None)))) }
 {
-    match transaction_events(alloc, body, verifier)? {
+    match transaction_events(alloc, scratch, body, verifier)? {
         Some(events) => Ok(events),
         None => Err(Fault::WrongForm),
     }
@@ -193,6 +197,7 @@ fn backfill_call(
 
 fn missing_events_call(
     alloc: Global,
+    scratch: &mut Scratch,
     origin: ServerName,
     path: &str,
     body: &[u8],
@@ -203,7 +208,7 @@ fn missing_events_call(
         ⊎ (definition.missing_events_call origin path.now body.now ≡ Err fault)) }
 {
     let room = room_at(alloc, path, 0)?;
-    let query = missing_query(alloc, room, body)?;
+    let query = missing_query(alloc, scratch, room, body)?;
     Ok(WireCall::Asks { origin, query })
 }
 
@@ -232,6 +237,7 @@ fn make_join_call(
 
 fn send_join_call<V: Verifier>(
     alloc: Global,
+    scratch: &mut Scratch,
     verifier: &V,
     origin: ServerName,
     path: &str,
@@ -244,20 +250,25 @@ fn send_join_call<V: Verifier>(
 {
     let room = room_at(alloc, path, 0)?;
     let id = event_at(alloc, path, 1)?;
-    let event = event_offered(alloc, verifier, body)?;
+    let event = event_offered(alloc, scratch, verifier, body)?;
     let call = join_of(origin, &room, &id, event)?;
     Ok(call)
 }
 
 // The event that a body is, as it is offered; `WrongForm` where it is none.
-fn event_offered<V: Verifier>(alloc: Global, verifier: &V, body: &[u8]) -> Result<Offered, Fault>
+fn event_offered<V: Verifier>(
+    alloc: Global,
+    scratch: &mut Scratch,
+    verifier: &V,
+    body: &[u8],
+) -> Result<Offered, Fault>
     ensures ok { IfOk result (λ event. (d : Data) × (body_value_of body.now ≡ Ok d)
         × (is_well_formed d ≡ true) × (event ≡ offer_by (V.judges verifier.now) d)) }
     ensures err { IfErr result (λ fault. (fault ≡ Fault.Memory) ⊎ ((body_value_of body.now ≡ Err fault)
         ⊎ ((fault ≡ Fault.WrongForm) × (d : Data) × (body_value_of body.now ≡ Ok d)
         × (is_well_formed d ≡ false)))) }
 {
-    match event_of_body(alloc, body, verifier)? {
+    match event_of_body(alloc, scratch, body, verifier)? {
         Some(event) => Ok(event),
         None => Err(Fault::WrongForm),
     }

@@ -8,6 +8,7 @@ use crate::calls::{WireCall, call_on};
 use crate::faults::Fault;
 use crate::targets::path_of;
 use crate::targets::routes::{Route, Routes};
+use json::Scratch;
 use mx_ident::ServerName;
 use mx_pdu::Verifier;
 use std::alloc::{AllocError, Global};
@@ -66,11 +67,14 @@ pub struct WireRequest {
 /// that is not UTF-8 counts as none; `Invalid` for the segments of the path; `Missing` or `Invalid` for the parameters;
 /// `NotJson`, `WrongForm` or `Invalid` for the body. `Memory` is told of no request that has one of the first three.
 ///
+/// The body is read over the scratch, which is kept from request to request where many follow each other.
+///
 /// Source: the Server-Server API of the Matrix specification: "Request Authentication", "Transactions", "Retrieving
 /// events", "Backfilling and retrieving missing events" and "Joining Rooms".
 #[tactic(auto, unfolding(crate::specs::Calls::call_under))]
 pub fn read_request<V: Verifier>(
     alloc: Global,
+    scratch: &mut Scratch,
     server: &WireServer,
     verifier: &V,
     request: &WireRequest,
@@ -83,7 +87,15 @@ pub fn read_request<V: Verifier>(
 {
     let (route, target) = routed(&server.routes, request)?;
     let origin = origin_of(alloc, &server.name, header_text(&request.authorization))?;
-    let call = call_on(alloc, verifier, route, origin, target, &request.body)?;
+    let call = call_on(
+        alloc,
+        scratch,
+        verifier,
+        route,
+        origin,
+        target,
+        &request.body,
+    )?;
     Ok(call)
 }
 

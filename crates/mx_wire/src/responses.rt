@@ -8,6 +8,7 @@ ghost use Rattle.mx_requests.specs.RepliesShown.{reply_shown};
 ghost use Rattle.mx_requests.specs.ReplyBodies.{failure};
 ghost use Rattle.mx_wire.specs.Responses.{IsCallAnswered, IsCallRefused, IsResponse, IsUnanswered, last_step_reply, unavailable};
 
+use json::Scratch;
 use mx_engine::{Engine, Gate, Seat, TransactionReply};
 use mx_ident::ServerName;
 use mx_keeper::{BookRow, CallError, Keeper, ShardRow, TransactionId};
@@ -115,7 +116,8 @@ fn reply_or_refusal<
         (shard_views seat.old) (book_views seat.old) (shard_views seat.new) (book_views seat.new) (request_shown request.now)) }
 {
     let verifier = engine.verifier();
-    match read_request(alloc, server, verifier, request) {
+    let mut scratch = Scratch::new(alloc);
+    match read_request(alloc, &mut scratch, server, verifier, request) {
         Ok(call) => {
             let reply = answer_call(rt, alloc, engine, seat, &server.name, now, call)?;
             Ok(reply)

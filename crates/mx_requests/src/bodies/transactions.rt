@@ -1,18 +1,23 @@
 // What the body of a transaction says.
-ghost use Rattle.std.specs.Prelude.{◌≡◌, ◌⊎◌, Err, IfErr, IfOk, None, Ok, Some, if◌then◌else◌, filter, map, option_and_then, option_map};
-ghost use Rattle.serde_json.specs.Data.{Data};
-ghost use Rattle.serde_json.specs.View.{view};
+ghost use Rattle.std.specs.Prelude.{◌≡◌, ◌⊎◌, Err, IfErr, IfOk, None, Ok, Some, codes, if◌then◌else◌, filter, map, option_and_then, option_map};
+ghost use Rattle.serde_json.specs.Data.{Data, object};
+ghost use Rattle.serde_json.specs.View.{view, members_view};
 ghost use Rattle.mx_pdu.specs.Format.{is_well_formed};
 ghost use Rattle.mx_body.specs.Bodies.{texts_of};
+ghost use Rattle.mx_redact.specs.Fields.{field as field_of, is_none_or};
 ghost use Rattle.mx_requests.specs.BodyEvents.{offered_if_formed, offered_in};
 ghost use Rattle.mx_requests.specs.Requests as definition;
 ghost use Rattle.mx_pdu.specs.Offers.{offer_by};
 
 use crate::faults::Fault;
-use mx_body::{BodyError, MOST_EVENTS, event_text, transaction_texts};
+use json::Scratch;
+use mx_body::{
+    BodyError, MOST_EPHEMERAL_EVENTS, MOST_EVENTS, body_value, event_text, transaction_texts,
+};
 use mx_canon::check;
 use mx_pdu::{Offered, PduError, TextError, Verifier};
-use serde_json::Value;
+use mx_redact::field;
+use serde_json::{Map, Value};
 use std::alloc::{AllocError, Global};
 
 /// How many bytes the canonical text of an event has at most.
@@ -20,13 +25,23 @@ use std::alloc::{AllocError, Global};
 /// Source: the Matrix specification, Client-Server API, "Size limits".
 const LONGEST_EVENT: usize = 65_536;
 
-/// The events of a transaction that are well formed, in their order, each with its id and the verifier's answer. No value
-/// is made of the body, and one at a time of its events.
+/// How many bytes a body has at most of which a JSON value is made. A longer one is read by its tokens to the texts of its
+/// events, which takes longer, and memory of a few times its length. A value takes 130 times the length of its text at
+/// most, so here some 9 MB.
+const LONGEST_VALUE: usize = 65_536;
+
+/// The events of a transaction that are well formed, in their order, each with its id and the verifier's answer.
 ///
-/// None where `pdus` is no array of at most [`MOST_EVENTS`], or `edus` is there and is no array of at most 100. `NotJson`
-/// as for a body; `Memory`. Source: the Matrix specification, Server-Server API, `PUT /_matrix/federation/v1/send/{txnId}`.
+/// None where `pdus` is no array of at most [`MOST_EVENTS`], or `edus` is there and is no array of at most
+/// [`MOST_EPHEMERAL_EVENTS`]. `NotJson` as for a body; `Memory`. Source: the Matrix specification, Server-Server API,
+/// `PUT /_matrix/federation/v1/send/{txnId}`.
+///
+/// A body of at most [`LONGEST_VALUE`] bytes is read to its value, and each event keeps its own part of that. Of a longer one
+/// no value is made, and one at a time of its events. One contract says of both ways which events they give. The scratch is
+/// kept from body to body.
 pub(crate) fn transaction_events<V: Verifier>(
     alloc: Global,
+    scratch: &mut Scratch,
     body: &[u8],
     verifier: &V,
 ) -> Result<Option<Vec<Offered>>, Fault>
@@ -35,7 +50,117 @@ pub(crate) fn transaction_events<V: Verifier>(
         ≡ option_map (map (offer_by (V.judges verifier.now))) (definition.events_in d))) }
     ensures err { IfErr result (λ fault. (fault ≡ Fault.Memory) ⊎ (definition.body_value body.now ≡ Err fault)) }
 {
-    match transaction_texts(alloc, body, LONGEST_EVENT) {
+    if body.len() > LONGEST_VALUE {
+        return events_by_texts(alloc, scratch, body, verifier);
+    }
+    let value = value_of_body(alloc, scratch, body)?;
+    let events = events_of_value(alloc, value, verifier)?;
+    Ok(events)
+}
+
+/// The event that a body is JSON for, as it is offered; none where it is malformed.
+///
+/// `NotJson` as for a body; `Memory`. Source: the Matrix specification, Server-Server API, "Joining Rooms".
+///
+/// The body is read as a transaction's is, by its length: to its value, which the event keeps, or to its text.
+pub(crate) fn event_of_body<V: Verifier>(
+    alloc: Global,
+    scratch: &mut Scratch,
+    body: &[u8],
+    verifier: &V,
+) -> Result<Option<Offered>, Fault>
+    ensures ok { IfOk result (λ event. (d : Data) × (definition.body_value body.now ≡ Ok d)
+        × (event ≡ offered_if_formed (offer_by (V.judges verifier.now)) d)) }
+    ensures err { IfErr result (λ fault. (fault ≡ Fault.Memory) ⊎ (definition.body_value body.now ≡ Err fault)) }
+{
+    if body.len() > LONGEST_VALUE {
+        return event_by_text(alloc, scratch, body, verifier);
+    }
+    let value = value_of_body(alloc, scratch, body)?;
+    let event = well_formed(alloc, value, verifier)?;
+    Ok(event)
+}
+
+// ---- bodies of which a value is made
+
+// The value that a body is JSON for. `NotJson`; `Memory`.
+fn value_of_body(alloc: Global, scratch: &mut Scratch, body: &[u8]) -> Result<Value, Fault>
+    ensures ok { IfOk result (λ value. definition.body_value body.now ≡ Ok (view value)) }
+    ensures err { IfErr result (λ fault. (fault ≡ Fault.Memory) ⊎ (definition.body_value body.now ≡ Err fault)) }
+{
+    match body_value(alloc, scratch, body) {
+        Ok(value) => Ok(value),
+        Err(BodyError::Memory) => Err(Fault::Memory),
+        Err(BodyError::NotJson) => Err(Fault::NotJson),
+    }
+}
+
+// The well-formed events of the transaction that a value is; none where it is no transaction.
+fn events_of_value<V: Verifier>(
+    alloc: Global,
+    value: Value,
+    verifier: &V,
+) -> Result<Option<Vec<Offered>>, AllocError>
+    ensures { IfOk result (λ events. option_map (λ events. events.items) events
+        ≡ option_map (map (offer_by (V.judges verifier.now))) (definition.events_in (view value))) }
+{
+    match value {
+        Value::Object(members) => events_of_members(alloc, members, verifier),
+        _ => Ok(None),
+    }
+}
+
+fn events_of_members<V: Verifier>(
+    alloc: Global,
+    mut members: Map<String, Value>,
+    verifier: &V,
+) -> Result<Option<Vec<Offered>>, AllocError>
+    ensures { IfOk result (λ events. option_map (λ events. events.items) events
+        ≡ option_map (map (offer_by (V.judges verifier.now))) (definition.events_in (object (members_view members.entries)))) }
+{
+    if !has_few_ephemeral_events(&members) {
+        return Ok(None);
+    }
+    match members.remove("pdus") {
+        Some(events) => events_in(alloc, events, verifier),
+        None => Ok(None),
+    }
+}
+
+fn has_few_ephemeral_events(members: &Map<String, Value>) -> bool
+    ensures { result ≡ is_none_or (definition.is_array_up_to 100)
+        (field_of (codes "edus") (object (members_view members.now.entries))) }
+{
+    match field(members, "edus") {
+        Some(events) => is_array_up_to(events, MOST_EPHEMERAL_EVENTS),
+        None => true,
+    }
+}
+
+fn is_array_up_to(value: &Value, most: usize) -> bool
+    ensures { result ≡ definition.is_array_up_to most (view value.now) }
+{
+    match value.as_array() {
+        Some(entries) => entries.len() <= most,
+        None => false,
+    }
+}
+
+// ---- longer bodies, of which no value is made
+
+// The well-formed events of a transaction, by the texts of its entries.
+fn events_by_texts<V: Verifier>(
+    alloc: Global,
+    scratch: &mut Scratch,
+    body: &[u8],
+    verifier: &V,
+) -> Result<Option<Vec<Offered>>, Fault>
+    ensures ok { IfOk result (λ events. (d : Data) × (definition.body_value body.now ≡ Ok d)
+        × (option_map (λ events. events.items) events
+        ≡ option_map (map (offer_by (V.judges verifier.now))) (definition.events_in d))) }
+    ensures err { IfErr result (λ fault. (fault ≡ Fault.Memory) ⊎ (definition.body_value body.now ≡ Err fault)) }
+{
+    match transaction_texts(alloc, scratch, body, LONGEST_EVENT) {
         Ok(Some(texts)) => {
             let events = events_of_texts(alloc, texts, verifier)?;
             Ok(Some(events))
@@ -46,12 +171,10 @@ pub(crate) fn transaction_events<V: Verifier>(
     }
 }
 
-/// The event that a body is JSON for, as it is offered; none where it is malformed. No value is made of a body that is
-/// longer than an event may be.
-///
-/// `NotJson` as for a body; `Memory`. Source: the Matrix specification, Server-Server API, "Joining Rooms".
-pub(crate) fn event_of_body<V: Verifier>(
+// The event that a body is JSON for, by its text.
+fn event_by_text<V: Verifier>(
     alloc: Global,
+    scratch: &mut Scratch,
     body: &[u8],
     verifier: &V,
 ) -> Result<Option<Offered>, Fault>
@@ -59,7 +182,7 @@ pub(crate) fn event_of_body<V: Verifier>(
         × (event ≡ offered_if_formed (offer_by (V.judges verifier.now)) d)) }
     ensures err { IfErr result (λ fault. (fault ≡ Fault.Memory) ⊎ (definition.body_value body.now ≡ Err fault)) }
 {
-    match event_text(alloc, body, LONGEST_EVENT) {
+    match event_text(alloc, scratch, body, LONGEST_EVENT) {
         Ok(Some(text)) => {
             let event = event_of_text(alloc, &text, verifier)?;
             Ok(event)

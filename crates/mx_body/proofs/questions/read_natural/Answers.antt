@@ -31,7 +31,7 @@ returns-in-Number-clause-ok c =
     record {
       value = number (num_of c.in-Some.number);
       read = here ∙ ap (λ o. option_map (λ b. (b, ts)) (option_map number o)) (sym c.in-Some.ensures.number);
-      readable = c.in-Some.ensures.sign;
+      readable = c.in-Some.ensures.range;
       natural_is = c.natural_in.ensures;
     }
 

@@ -49,7 +49,7 @@ read_from-returns-in_ok-number_piece-in-Some-clause-ok t c =
       value = number (num_of c.in-Some.number);
       read = first ∙ ap (converted of_json) (value_is c.args.depth (Token.number c.in-Number.text.now ∷ c.args.reader.now))
           ∙ ap (λ o. option_map (λ b. (b, c.args.reader.now)) (option_map number o)) (sym c.in-Some.ensures.number);
-      readable = c.in-Some.ensures.sign;
+      readable = c.in-Some.ensures.range;
       text = c.in_ok-number_piece-in-Some.ensures;
     }
 
