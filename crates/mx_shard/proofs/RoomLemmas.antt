@@ -178,5 +178,5 @@ module _ (rooms : List RoomView) (origin : List ℕ) (now : ℕ) (q : Query) (n 
   shown_some (Ok given) same ok = ((get_or rooms n room).id, shown_at ∙ ap ToAsked (sym same))
   shown_some (Err denied) same ok = absurd (false≢true ok)
 
-  pub has_shown : IsTrue (is_ok (query_answer room.kept origin now q)) → HasShown (rows_in rooms) (to_ask origin now q)
+  pub has_shown : IsTrue (is_ok (query_answer room.kept origin now q)) → HasShown (rows_in rooms) (to_ask origin now q) None
   has_shown ok = ((get_or rooms n room).id, ap tells_shown shown_at ∙ ok)

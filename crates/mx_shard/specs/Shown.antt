@@ -14,9 +14,10 @@ IsShown rows call (ToAsked (Err denied)) =
     (denied ≡ NotFound) × ((room : List ℕ) → answer (rows room) call ≡ ToAsked (Err NotFound))
 IsShown rows call other = ⊥
 
--- some room shows what the call asks for
-abbrev pub HasShown : (List ℕ → List Kept) → Call → Type 0
-HasShown rows call = (room : List ℕ) × IsTrue (tells_shown (answer (rows room) call))
+-- the room that the call is put to shows what it asks for, else some room does
+abbrev pub HasShown : (List ℕ → List Kept) → Call → Option (List ℕ) → Type 0
+HasShown rows call (Some room) = IsTrue (tells_shown (answer (rows room) call))
+HasShown rows call None = (room : List ℕ) × IsTrue (tells_shown (answer (rows room) call))
 
 -- the answer of the room that the call is put to, else what some room shows
 abbrev pub IsAnswer : (List ℕ → List Kept) → Call → Option (List ℕ) → Answer → Type 0

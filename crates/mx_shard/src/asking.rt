@@ -29,7 +29,7 @@ pub(crate) fn answer_among(
     requires holding { IsHolding holders.now rooms.now }
     requires ready { All IsReady rooms.now }
     ensures reply { IfOk result (λ reply. IsAnswer (rows_in rooms.now) (to_ask origin.now now query.now) (call_room (to_ask origin.now now query.now)) reply) }
-    ensures memory { OnErr result (HasShown (rows_in rooms.now) (to_ask origin.now now query.now)) }
+    ensures memory { OnErr result (HasShown (rows_in rooms.now) (to_ask origin.now now query.now) (call_room (to_ask origin.now now query.now))) }
 {
     match query.room() {
         Some(id) => answer_of(alloc, rooms, numbers, id, origin, now, query),
@@ -74,7 +74,7 @@ fn shown_in(
     requires ready { All IsReady rooms.now }
     requires alone { room_named query.now ≡ None }
     ensures reply { IfOk result (λ reply. IsShown (rows_in rooms.now) (to_ask origin.now now query.now) reply) }
-    ensures memory { OnErr result (HasShown (rows_in rooms.now) (to_ask origin.now now query.now)) }
+    ensures memory { OnErr result (HasShown (rows_in rooms.now) (to_ask origin.now now query.now) None) }
 {
     match holder_for(holders, query) {
         Some(Holder::Room(number)) => match rooms.get(number) {
@@ -101,7 +101,7 @@ fn first_shown(
     requires ready { All IsReady rooms.now }
     requires alone { room_named query.now ≡ None }
     ensures reply { IfOk result (λ reply. IsShown (rows_in rooms.now) (to_ask origin.now now query.now) reply) }
-    ensures memory { OnErr result (HasShown (rows_in rooms.now) (to_ask origin.now now query.now)) }
+    ensures memory { OnErr result (HasShown (rows_in rooms.now) (to_ask origin.now now query.now) None) }
 {
     for room in rooms {
         let reply = room.ask(alloc, origin, now, query)?;

@@ -312,9 +312,9 @@ impl<K: Keeper<Row = ShardRow>> Shard<K> {
     /// The answer to a server's query, at a moment: that of the room which it names, or what some room of this place
     /// shows.
     ///
-    /// `Memory` where a room gives something and no memory is left for it: it stands in for no denial. `Storage` exactly
-    /// where an earlier call was refused so. A query by an event's id alone is put only to the room that holds the event,
-    /// which one look-up finds.
+    /// `Memory` where that room, or some room, gives something and no memory is left for it: it stands in for no denial.
+    /// `Storage` exactly where an earlier call was refused so. A query by an event's id alone is put only to the room that
+    /// holds the event, which one look-up finds.
     ///
     /// Source: the Matrix specification, Server-Server API, "Retrieving events" and "Backfilling and retrieving missing
     /// events".
@@ -322,7 +322,7 @@ impl<K: Keeper<Row = ShardRow>> Shard<K> {
         ensures reply { IfOk result (λ reply. IsAnswer (record_of self.now.journal) (to_ask origin.now now query.now) (call_room (to_ask origin.now now query.now)) reply) }
         // Each room is of this place.
         ensures here { All (λ entry. IsTrue (is_at self.now.place entry.room)) self.now.journal }
-        ensures memory { result ≡ Err CallError.Memory → HasShown (record_of self.now.journal) (to_ask origin.now now query.now) }
+        ensures memory { result ≡ Err CallError.Memory → HasShown (record_of self.now.journal) (to_ask origin.now now query.now) (call_room (to_ask origin.now now query.now)) }
         ensures storage { IsErrOf result CallError.Storage ↔ (self.now.is_refused ≡ true) }
     {
         if self.is_refused {
