@@ -25,9 +25,9 @@ use std::alloc::{AllocError, Global};
 /// Source: the Matrix specification, Client-Server API, "Size limits".
 const LONGEST_EVENT: usize = 65_536;
 
-/// How many bytes a body has at most of which a JSON value is made. A longer one is read by its tokens to the texts of its
-/// events, which takes longer, and memory of a few times its length. A value takes 130 times the length of its text at
-/// most, so here some 9 MB.
+/// How many bytes a body has at most of which a JSON value is made. A longer one is read by its tokens to the texts of
+/// its events, which takes longer, and memory of a few times its length. A value takes 130 times the length of its text
+/// at most, so here some 9 MB.
 const LONGEST_VALUE: usize = 65_536;
 
 /// The events of a transaction that are well formed, in their order, each with its id and the verifier's answer.
@@ -36,9 +36,9 @@ const LONGEST_VALUE: usize = 65_536;
 /// [`MOST_EPHEMERAL_EVENTS`]. `NotJson` as for a body; `Memory`. Source: the Matrix specification, Server-Server API,
 /// `PUT /_matrix/federation/v1/send/{txnId}`.
 ///
-/// A body of at most [`LONGEST_VALUE`] bytes is read to its value, and each event keeps its own part of that. Of a longer one
-/// no value is made, and one at a time of its events. One contract says of both ways which events they give. The scratch is
-/// kept from body to body.
+/// A body of at most [`LONGEST_VALUE`] bytes is read to its value, and the events are taken out of that. Of a longer one
+/// no value is made, and of its events one at a time. One contract says of both ways which events they give. The
+/// scratch is kept from body to body.
 pub(crate) fn transaction_events<V: Verifier>(
     alloc: Global,
     scratch: &mut Scratch,
@@ -62,7 +62,7 @@ pub(crate) fn transaction_events<V: Verifier>(
 ///
 /// `NotJson` as for a body; `Memory`. Source: the Matrix specification, Server-Server API, "Joining Rooms".
 ///
-/// The body is read as a transaction's is, by its length: to its value, which the event keeps, or to its text.
+/// The body is read as a transaction's is, by its length: to its value or to its text.
 pub(crate) fn event_of_body<V: Verifier>(
     alloc: Global,
     scratch: &mut Scratch,
