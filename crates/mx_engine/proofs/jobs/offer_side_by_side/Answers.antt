@@ -33,26 +33,26 @@ run_all-requires-clause-room g c κs within =
 
 pub put_back-requires-clause-room : goal.put_back-requires-clause-room
 put_back-requires-clause-room g c =
-    let over = c.run_all.ensures c.args.berths.now.items c.take_out.ensures.ready in
+    let over = c.run_all.ensures c.args.berths.now.items (c.take_out.ensures.ready c.args.sender.now.caller c.requires) in
     let same = c.requires.same in
     subst (λ berths. length c.run_all.new.jobs.items ≤ vec_capacity berths) (sym c.take_out.ensures.back)
     (omega (arith, over.long, same, c.in_ok-back.ensures.capacity, c.len-count.ensures, c.args.berths.now.ok.0))
 
 pub put_back-requires-clause-told_room : goal.put_back-requires-clause-told_room
 put_back-requires-clause-told_room g c =
-    let over = c.run_all.ensures c.args.berths.now.items c.take_out.ensures.ready in
+    let over = c.run_all.ensures c.args.berths.now.items (c.take_out.ensures.ready c.args.sender.now.caller c.requires) in
     let same = c.requires.same in
     omega (arith, over.long, same, c.in_ok-told.ensures.capacity, c.len-count.ensures, c.args.berths.now.ok.0)
 
 pub told_in_order-requires-clause-some : goal.told_in_order-requires-clause-some
 told_in_order-requires-clause-some g c =
-    let over = c.run_all.ensures c.args.berths.now.items c.take_out.ensures.ready in
+    let over = c.run_all.ensures c.args.berths.now.items (c.take_out.ensures.ready c.args.sender.now.caller c.requires) in
     let some = c.requires.some in
     omega (arith, some, over.long, length-map c.put_back.new.told.items (λ q. q.items), ap length c.put_back.ensures.told, length-map c.run_all.new.jobs.items (λ job. job.told.items))
 
 pub told_in_order-requires-clause-few : goal.told_in_order-requires-clause-few
 told_in_order-requires-clause-few g c =
-    let over = c.run_all.ensures c.args.berths.now.items c.take_out.ensures.ready in
+    let over = c.run_all.ensures c.args.berths.now.items (c.take_out.ensures.ready c.args.sender.now.caller c.requires) in
     let few = c.requires.few in
     omega (arith, few, over.long, length-map c.put_back.new.told.items (λ q. q.items), ap length c.put_back.ensures.told, length-map c.run_all.new.jobs.items (λ job. job.told.items))
 
@@ -83,7 +83,7 @@ returns-clause-same g c =
 
 pub returns-clause-ok : goal.returns-clause-ok
 returns-clause-ok g c =
-    let over = c.run_all.ensures c.args.berths.now.items c.take_out.ensures.ready in
+    let over = c.run_all.ensures c.args.berths.now.items (c.take_out.ensures.ready c.args.sender.now.caller c.requires) in
     let jobs = c.run_all.new.jobs.items in
     let none = sym (c.lowest_fault-fault.ensures ∙ ap (λ ls. lowest_of (faults_of ls)) c.deref.ensures.value) ∙ c.in-None.is in
     let count = sym (length-map c.put_back.new.told.items (λ q. q.items)) ∙ ap length c.put_back.ensures.told ∙ length-map jobs (λ job. job.told.items) ∙ over.long in
