@@ -1,8 +1,8 @@
 // The replies to requests, by an engine that callers share.
-ghost use Rattle.std.specs.Prelude.{◌≡◌, ◌≢◌, ℕ, IfOk, IfSome, OnErr, None};
+ghost use Rattle.std.specs.Prelude.{◌≡◌, ◌≢◌, ◌⊎◌, ℕ, Err, IfErr, IfOk, IfSome, Ok, OnErr, None};
 ghost use Rattle.mx_engine.specs.Seats.{IsSeatOf, book_views, seat_number, shard_views, verifier_of};
 ghost use Rattle.mx_engine.specs.Views.{AreSameViews};
-ghost use Rattle.mx_requests.specs.Calls.{asks, joins, sends};
+ghost use Rattle.mx_requests.specs.Calls.{asks, call_of, joins, sends};
 ghost use Rattle.mx_requests.specs.CallsShown.{call_shown, request_shown};
 ghost use Rattle.mx_requests.specs.RepliesShown.{reply_shown};
 ghost use Rattle.mx_requests.specs.ReplyBodies.{failure};
@@ -116,8 +116,7 @@ fn reply_or_refusal<
         (shard_views seat.old) (book_views seat.old) (shard_views seat.new) (book_views seat.new) (request_shown request.now)) }
 {
     let verifier = engine.verifier();
-    let mut scratch = Scratch::new(alloc);
-    match read_request(alloc, &mut scratch, server, verifier, request) {
+    match read_alone(alloc, server, verifier, request) {
         Ok(call) => {
             let reply = answer_call(rt, alloc, engine, seat, &server.name, now, call)?;
             Ok(reply)
@@ -127,6 +126,22 @@ fn reply_or_refusal<
             Ok(reply)
         }
     }
+}
+
+// What a request asks for, or its first fault, read over a scratch of its own.
+fn read_alone<V: Verifier>(
+    alloc: Global,
+    server: &WireServer,
+    verifier: &V,
+    request: &WireRequest,
+) -> Result<WireCall, Fault>
+    ensures ok { IfOk result (λ call.
+        call_of (V.judges verifier.now) server.now.name (request_shown request.now) ≡ Ok (call_shown call)) }
+    ensures err { IfErr result (λ fault. (fault ≡ Fault.Memory)
+        ⊎ (call_of (V.judges verifier.now) server.now.name (request_shown request.now) ≡ Err fault)) }
+{
+    let mut scratch = Scratch::new(alloc);
+    read_request(alloc, &mut scratch, server, verifier, request)
 }
 
 // The reply that tells a fault, unless it is want of memory.
