@@ -8,6 +8,7 @@ pub mod CallStepLemmas
 pub mod LogLemmas
 pub mod LogServerLemmas
 pub mod TextMemberLemmas
+pub mod CallMemberLemmas
 pub mod LineRows
 pub mod AnswerLemmas
 pub mod HostLineLemmas

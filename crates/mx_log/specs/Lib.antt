@@ -13,3 +13,4 @@ pub mod TextMembers
 pub mod LineErrors
 pub mod HostLines
 pub mod HostAnswers
+pub mod CallMembers

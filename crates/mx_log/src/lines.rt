@@ -7,6 +7,7 @@ ghost use Rattle.mx_log.specs.LinesShown.{line_shown};
 ghost use Rattle.mx_pdu.specs.Offers.{offer_by};
 
 pub(crate) mod call_forms;
+mod call_texts;
 mod keys;
 mod members;
 pub(crate) mod splitting;
@@ -14,6 +15,7 @@ mod step_forms;
 mod texts;
 
 use crate::lines::call_forms::{CallLine, call_line};
+use crate::lines::call_texts::call_text_line;
 use crate::lines::step_forms::{close_line, host_line, next_line, open_line};
 use crate::lines::texts::text_line;
 use json::Scratch;
@@ -40,8 +42,8 @@ pub(crate) enum Line {
 /// What a line asks for, by the `step` of its object. A key beyond its form makes it bad, and of a key that is repeated
 /// the last value stands.
 ///
-/// `AllocError` where no memory is left. A line that names a transaction and nothing else, as most do, is read without a
-/// JSON value of it. The scratch is kept from line to line.
+/// `AllocError` where no memory is left. A line that names a transaction and nothing else, as most do, and one that holds a
+/// request are read without a JSON value of them. The scratch is kept from line to line.
 pub(crate) fn read_line<V: Verifier>(
     alloc: Global,
     scratch: &mut Scratch,
@@ -53,8 +55,35 @@ pub(crate) fn read_line<V: Verifier>(
 {
     match text_line(alloc, scratch, line)? {
         Some(read) => Ok(read),
+        None => other_line(alloc, scratch, verifier, line),
+    }
+}
+
+// What a line asks for that is not known to go on with a transaction.
+fn other_line<V: Verifier>(
+    alloc: Global,
+    scratch: &mut Scratch,
+    verifier: &V,
+    line: &[u8],
+) -> Result<Line, AllocError>
+    ensures { IfOk result (λ read. line_shown read
+        ≡ definition.read_line (offer_by (V.judges verifier.now)) line.now) }
+{
+    if begins_with_events(line) {
+        return value_line(alloc, scratch, verifier, line);
+    }
+    match call_text_line(alloc, scratch, line)? {
+        Some(read) => Ok(read),
         None => value_line(alloc, scratch, verifier, line),
     }
+}
+
+// Whether a line begins as those that host a room or open a transaction mostly do: it is not tried as a request then.
+fn begins_with_events(line: &[u8]) -> bool {
+    line.starts_with(b"{\"origin\":")
+        || line.starts_with(b"{\"step\":\"open\"")
+        || line.starts_with(b"{\"event\":")
+        || line.starts_with(b"{\"step\":\"host\"")
 }
 
 // What a line asks for, by its JSON value.

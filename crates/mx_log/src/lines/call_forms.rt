@@ -22,7 +22,15 @@ pub(crate) struct CallLine {
     pub request: WireRequest,
 }
 
-const CALL_KEYS: [&str; 6] = ["step", "method", "target", "authorization", "now", "body"];
+/// The keys of a line that holds a request.
+pub(crate) const CALL_KEYS: [&str; 6] = [
+    "step",
+    "method",
+    "target",
+    "authorization",
+    "now",
+    "body",
+];
 
 /// The line that is a request: its `method`, `target` and `now`, and perhaps its `authorization` and `body`.
 pub(crate) fn call_line(alloc: Global, members: Map<String, Value>) -> Result<Line, AllocError>
@@ -93,7 +101,8 @@ fn text_or_none<'m>(members: &'m Map<String, Value>, key: &str) -> Option<Option
     }
 }
 
-fn copy_of(alloc: Global, text: Option<&str>) -> Result<Option<Vec<u8>>, AllocError>
+/// A copy of a text, where there is one. `AllocError` where no memory is left for it.
+pub(crate) fn copy_of(alloc: Global, text: Option<&str>) -> Result<Option<Vec<u8>>, AllocError>
     ensures { IfOk result (λ copy. option_map (λ bytes. bytes.items) copy
         ≡ option_map (λ text. text.now) text.entry) }
 {
