@@ -14,7 +14,7 @@ use Rattle.mx_room.specs.declared.queries.QueryReply.{QueryReply}
 use Rattle.mx_room.specs.declared.queries.Denied.TheVariants.{NotFound}
 use Rattle.mx_shard.specs.LoneRoom.{Call, to_offer, to_ask, answer, record_alone}
 use Rattle.mx_shard.specs.Journal.{record_of}
-use Rattle.mx_shard.specs.Shown.{IsAnswer, IsShown}
+use Rattle.mx_shard.specs.Shown.{HasShown, IsAnswer, IsShown}
 use Rattle.mx_shard.proofs.JournalLaws.{record-elsewhere}
 use Rattle.mx_world.specs.Replies.{outcome_told, outcome_in}
 use Rattle.mx_world.specs.Worlds.{records_of, shard_journals}
@@ -120,6 +120,26 @@ shown-in {K = K} shards n shard origin now query a alone placed l is here h told
     by_answer (ToOffered o) h shown = absurd shown
     by_answer (ToJoined r) h shown = absurd shown
 
+-- and so some room shows what is asked for where a room of one shard does
+pub has_shown-in : {K : Type 0} (shards : List (ShardView K)) (n : ℕ) (shard : ShardView K) (origin : List ℕ) (now : ℕ) (query : Query) → room_named query ≡ None → ArePlaced (shard_places shards) → n < length shards → shard ≡ get_or shards n shard →
+    All (λ entry. IsTrue (is_at shard.place entry.room)) shard.journal → HasShown (record_of shard.journal) (to_ask origin now query) (room_named query) → HasShown (records_of (shard_journals shards)) (to_ask origin now query) None
+has_shown-in {K = K} shards n shard origin now query alone placed l is here shown = in_room (subst (HasShown (record_of shard.journal) (to_ask origin now query)) alone shown)
+  where
+    by_answer : (room : List ℕ) (b : Answer) → answer (record_of shard.journal room) (to_ask origin now query) ≡ b → tells_shown b ≡ true → HasShown (records_of (shard_journals shards)) (to_ask origin now query) None
+    by_answer room (ToAsked (Ok reply)) e h =
+        let there : IsShown (records_of (shard_journals shards)) (to_ask origin now query) (ToAsked (Ok reply)) = shown-in shards n shard origin now query (ToAsked (Ok reply)) alone placed l is here h (room, e) in
+        (there.0, ap tells_shown there.1)
+    by_answer room (ToAsked (Err denied)) e h = absurd (false≢true h)
+    by_answer room NotHosted e h = absurd (false≢true h)
+    by_answer room (Hosted i) e h = absurd (false≢true h)
+    by_answer room (AlreadyHosted i) e h = absurd (false≢true h)
+    by_answer room (NotHost error) e h = absurd (false≢true h)
+    by_answer room (ToOffered o) e h = absurd (false≢true h)
+    by_answer room (ToJoined r) e h = absurd (false≢true h)
+
+    in_room : HasShown (record_of shard.journal) (to_ask origin now query) None → HasShown (records_of (shard_journals shards)) (to_ask origin now query) None
+    in_room (room, h) = by_answer room (answer (record_of shard.journal room) (to_ask origin now query)) refl h
+
 -- ---- a query that names a room
 
 -- it is answered by the journal at the room's place
@@ -129,3 +149,12 @@ named-at {K = K} shards n shard room origin now q a named is l here told =
     subst (λ to. IsAnswer (record_of shard.journal) (to_ask origin now q) to a) named told
     ∙ ap (λ (s : ShardView K). answer (record_of s.journal room) (to_ask origin now q)) here
     ∙ ap (λ j. answer (record_of j room) (to_ask origin now q)) (sym (journal_at-get shards (λ (s : ShardView K). s.journal) n shard room is l))
+
+-- and by that journal the room shows what is asked for
+pub has_shown-at : {K : Type 0} (shards : List (ShardView K)) (n : ℕ) (shard : ShardView K) (room origin : List ℕ) (now : ℕ) (q : Query) → room_named q ≡ Some room → n ≡ place_number (length shards) room → n < length shards → shard ≡ get_or shards n shard →
+    HasShown (record_of shard.journal) (to_ask origin now q) (room_named q) → HasShown (records_of (shard_journals shards)) (to_ask origin now q) (Some room)
+has_shown-at {K = K} shards n shard room origin now q named is l here shown =
+    ap tells_shown
+    (sym (ap (λ (s : ShardView K). answer (record_of s.journal room) (to_ask origin now q)) here
+    ∙ ap (λ j. answer (record_of j room) (to_ask origin now q)) (sym (journal_at-get shards (λ (s : ShardView K). s.journal) n shard room is l))))
+    ∙ subst (HasShown (record_of shard.journal) (to_ask origin now q)) named shown

@@ -5,12 +5,13 @@ use Rattle.serde_json.specs.Data.{Data, string, object, no_members, member, put}
 use Rattle.mx_canon.specs.Canonical.{canonical_text}
 use Rattle.mx_pdu.specs.Event.{room_of}
 use Rattle.mx_room.specs.Offer.{Offered, offer_outcome}
+use Rattle.mx_room.specs.Queries.{room_named}
 use Rattle.mx_auth.specs.Rules.{label_text}
 use Rattle.mx_receipt.specs.Receipt.{Kept}
 use Rattle.mx_receipt.specs.declared.verdicts.Verdict.{Verdict}
 use Rattle.mx_receipt.specs.declared.verdicts.Verdict.TheVariants.{Accepted, SoftFailed, Rejected}
 use Rattle.mx_shard.specs.LoneRoom.{Call, to_host, to_join, to_ask, call_room}
-use Rattle.mx_shard.specs.Shown.{IsAnswer}
+use Rattle.mx_shard.specs.Shown.{IsAnswer, HasShown}
 use Rattle.mx_shard.specs.declared.answers.Answer.{Answer}
 use Rattle.mx_shard.specs.declared.answers.Answer.TheVariants.{ToOffered}
 use Rattle.mx_book.specs.Transactions.{same}
@@ -140,6 +141,11 @@ IsReply rows status (Open p events) reply = reply ≡ open_reply events.items (s
 IsReply rows status (Next p) reply = reply ≡ next_reply rows p.origin (status p)
 IsReply rows status (Close p) reply = reply ≡ close_reply (status p)
 IsReply rows status (Ask origin now q) reply = IsAnswered rows (to_ask origin now q) reply
+
+-- where memory may be wanted: at a query, where the room that it names shows what it asks for, else some room does
+abbrev pub WantsMemory : (List ℕ → List Kept) → Step → Type 0
+WantsMemory rows (Ask origin now q) = HasShown rows (to_ask origin now q) (room_named q)
+WantsMemory rows step = Unit {0}
 
 -- each reply is by the steps before it
 abbrev pub AreReplies : Start → List Step → List Step → List StepReply → Type 0

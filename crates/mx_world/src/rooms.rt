@@ -3,7 +3,7 @@ ghost use Rattle.std.specs.Prelude.{◌≡◌, ℕ, List, None, Some, IfOk, OnOk
 ghost use Rattle.mx_pdu.specs.Event.{room_of};
 ghost use Rattle.mx_shard.specs.LoneRoom.{to_host, to_offer, to_ask, sent_call, answer, record_alone};
 ghost use Rattle.mx_room.specs.Queries.{room_named};
-ghost use Rattle.mx_shard.specs.Shown.{IsAnswer, IsShown};
+ghost use Rattle.mx_shard.specs.Shown.{HasShown, IsAnswer, IsShown};
 ghost use Rattle.mx_world.specs.Replies.{outcome_in};
 ghost use Rattle.mx_world.specs.Calls.{if_put_to};
 ghost use Rattle.mx_world.specs.Worlds.{shard_journals, records_of};
@@ -96,6 +96,7 @@ pub(crate) fn ask_in<K: Keeper<Row = ShardRow>>(
 ) -> Result<Answer, CallError>
     requires { ArePlaced (shard_places shards.now) }
     ensures reply { IfOk result (λ a. IsAnswer (records_of (shard_journals shards.now)) (to_ask origin.now now query.now) (room_named query.now) a) }
+    ensures memory { result ≡ Err CallError.Memory → HasShown (records_of (shard_journals shards.now)) (to_ask origin.now now query.now) (room_named query.now) }
     ensures storage { result ≡ Err CallError.Storage → AskFails K.failed shards.now shards.now (room_named query.now) }
 {
     match query.room() {
@@ -115,6 +116,7 @@ fn ask_named<K: Keeper<Row = ShardRow>>(
     requires placed { ArePlaced (shard_places shards.now) }
     requires named { room_named query.now ≡ Some room.now }
     ensures reply { IfOk result (λ a. a ≡ answer (records_of (shard_journals shards.now) room.now) (to_ask origin.now now query.now)) }
+    ensures memory { result ≡ Err CallError.Memory → HasShown (records_of (shard_journals shards.now)) (to_ask origin.now now query.now) (Some room.now) }
     ensures storage { result ≡ Err CallError.Storage → ShardFails K.failed shards.now shards.now room.now }
 {
     let number = number_for(room.as_str(), shards.len());
@@ -133,6 +135,7 @@ fn ask_each<K: Keeper<Row = ShardRow>>(
     requires placed { ArePlaced (shard_places shards.now) }
     requires alone { room_named query.now ≡ None }
     ensures reply { IfOk result (λ a. IsShown (records_of (shard_journals shards.now)) (to_ask origin.now now query.now) a) }
+    ensures memory { result ≡ Err CallError.Memory → HasShown (records_of (shard_journals shards.now)) (to_ask origin.now now query.now) None }
     ensures storage { result ≡ Err CallError.Storage → SomeShardFails K.failed shards.now shards.now }
 {
     for shard in shards {

@@ -6,7 +6,7 @@ ghost use Rattle.mx_book.specs.Journal.{IsEnded};
 ghost use Rattle.mx_book.specs.declared.transaction_keys.TransactionKey.{TransactionKey};
 ghost use Rattle.mx_world.specs.Losses.{ids_told, not_held};
 ghost use Rattle.mx_world.specs.Calls.{Start, record_after};
-ghost use Rattle.mx_world.specs.Replies.{unopened, status_after, IsReply};
+ghost use Rattle.mx_world.specs.Replies.{unopened, status_after, IsReply, WantsMemory};
 ghost use Rattle.mx_world.specs.Moves.{RecordsMove, StatusesMove, after_abandon};
 ghost use Rattle.mx_world.specs.Worlds.{shard_journals, book_journals, records_of, statuses_of, records_in, status_in, none_open, is_refused, AtTransaction, Stays, Moves, IsAfter};
 ghost use Rattle.mx_world.specs.Storage.{IsStorageFailure, ChangesOwn, OnlyAt, SomeUnfit};
@@ -173,13 +173,17 @@ impl<K: Keeper<Row = ShardRow>, L: Keeper<Row = BookRow>> World<K, L> {
 
     /// One step. After any steps from a start its reply is the one that these steps call for.
     ///
-    /// `Memory` where no memory is left. `Storage` where what keeps the rows of the step's own shard or book failed, now
-    /// or before: the shard of the event's room, or of the room that a query names, the book of the transaction's server,
-    /// or, for a query by an event's id alone, any shard. A step that is refused changes no journal, and so no room's record, and no transaction's status.
+    /// `Memory` where no memory is left: at a query only where the room that it names gives something, or, of a query by
+    /// an event's id alone, some room, so that it stands in for no denial. `Storage` where what keeps the rows of the
+    /// step's own shard or book failed, now or before: the shard of the event's room, or of the room that a query names,
+    /// the book of the transaction's server, or, for a query by an event's id alone, any shard. A step that is refused
+    /// changes no journal, and so no room's record, and no transaction's status.
     pub fn step(&mut self, alloc: Global, step: &Step) -> Result<StepReply, CallError>
         ensures next { IfOk result (λ reply. (s : Start) (earlier : List Step) → IsAfter s earlier self.old →
             IsReply (record_after s earlier) (status_after s earlier) step.now reply × IsAfter s (earlier ++ step.now ∷ []) self.new) }
         ensures err { OnErr result (Stays self.old self.new) }
+        // At a query, it stands in for no denial.
+        ensures memory { result ≡ Err CallError.Memory → WantsMemory (records_in self.old) step.now }
         // Its own shard or book is refused, and was before, or its keeper's count of failures rose in this step.
         ensures storage { result ≡ Err CallError.Storage → IsStorageFailure K.failed L.failed (status_in self.old) self.old self.new step.now }
         ensures refused { result ≡ Err CallError.Storage → IsTrue (is_refused self.new) }
@@ -236,6 +240,7 @@ impl<K: Keeper<Row = ShardRow>, L: Keeper<Row = BookRow>> World<K, L> {
         ensures reply { IfOk result (IsReply (records_in self.old) (status_in self.old) step.now) }
         ensures moves { OnOk result (Moves self.old self.new step.now) }
         ensures err { OnErr result (Stays self.old self.new) }
+        ensures memory { result ≡ Err CallError.Memory → WantsMemory (records_in self.old) step.now }
         ensures storage { result ≡ Err CallError.Storage → IsStorageFailure K.failed L.failed (status_in self.old) self.old self.new step.now }
         ensures refused { result ≡ Err CallError.Storage → IsTrue (is_refused self.new) }
         ensures own { ChangesOwn K.failed L.failed (status_in self.old) self.old self.new step.now }
@@ -266,6 +271,7 @@ fn step_in<K: Keeper<Row = ShardRow>, L: Keeper<Row = BookRow>>(
     ensures err_books { OnErr result (book_journals books.new ≡ book_journals books.old) }
     ensures err_statuses { OnErr result ((p : TransactionKey) → statuses_of going.new.entries (book_journals books.new) p ≡ statuses_of going.old.entries (book_journals books.old) p) }
     ensures sound { IsSound shards.new books.new going.new.entries }
+    ensures memory { result ≡ Err CallError.Memory → WantsMemory (records_of (shard_journals shards.old)) step.now }
     ensures storage { result ≡ Err CallError.Storage → IsStorageFailure K.failed L.failed (statuses_of going.old.entries (book_journals books.old))
         (record { shards = shards.old; books = books.old; going = going.old.entries }) (record { shards = shards.new; books = books.new; going = going.new.entries }) step.now }
     ensures own { ChangesOwn K.failed L.failed (statuses_of going.old.entries (book_journals books.old))

@@ -1,8 +1,8 @@
 use Rattle.std.proofs.Common.{◌∙◌, sym, ap, Err}
 use Rattle.mx_shard.specs.Journal.{record_of}
-use Rattle.mx_world.proofs.RoomLemmas.{alone_shown, none-more, none-shown, shown-in}
+use Rattle.mx_world.proofs.RoomLemmas.{alone_shown, has_shown-in, none-more, none-shown, shown-in}
 use Rattle.mx_world.proofs.StorageLemmas.{some-fails}
-use Rattle.mx_world.proofs.RefusalLemmas.{is-storage}
+use Rattle.mx_world.proofs.RefusalLemmas.{is-memory, is-storage}
 use Rattle.mx_world.proofs.rooms.ask_each.Goals as goal
 
 pub loop-shard-preserved : goal.loop-shard-preserved
@@ -22,3 +22,8 @@ pub returns-in_err-answer-clause-storage : goal.returns-in_err-answer-clause-sto
 returns-in_err-answer-clause-storage g c = λ is.
     some-fails (λ shard. shard.is_refused) (λ shard. g.K.Keeper.failed shard.keeper) c.args.shards.now c.loop-shard.shard-index c.shard-item.result c.shard-item.is c.loop-shard-test.true
     (c.in_err-answer.ensures.storage.0 (ap (λ e. Err e) (is-storage c.from_residual.result c.in_err-answer.field-0.0 c.from_residual.ensures.1 is)))
+
+pub returns-in_err-answer-clause-memory : goal.returns-in_err-answer-clause-memory
+returns-in_err-answer-clause-memory g c = λ is.
+    has_shown-in c.args.shards.now c.loop-shard.shard-index c.shard-item.result c.args.origin.now c.args.now c.args.query.now c.requires.alone c.requires.placed c.loop-shard-test.true c.shard-item.is c.in_err-answer.ensures.here
+    (c.in_err-answer.ensures.memory (ap (λ e. Err e) (is-memory c.from_residual.result c.in_err-answer.field-0.0 c.from_residual.ensures.1 is)))

@@ -1,10 +1,11 @@
-use Rattle.std.proofs.Common.{None, Some, refl, ap, sym, subst}
+use Rattle.std.proofs.Common.{None, Some, Err, refl, ap, sym, subst}
 use Rattle.mx_world.specs.Calls.{concerns}
 use Rattle.mx_room.specs.Queries.{room_named}
 use Rattle.mx_world.specs.Worlds.{shard_journals, book_journals, records_of, holds_of, found, statuses_of}
 use Rattle.mx_world.specs.Parts.{ArePlaced}
 use Rattle.mx_world.proofs.NextEventLemmas.{next-statuses, next-agrees, next-own}
 use Rattle.mx_world.proofs.RoomLemmas.{ask-adds}
+use Rattle.mx_world.proofs.RefusalLemmas.{is-memory}
 use Rattle.mx_world.specs.Crashes.{ShardsLeave, at_error, next_call, step_entry}
 use Rattle.mx_world.specs.declared.steps.Step.TheVariants.{Host, Next, Close, Join, Ask}
 use Rattle.mx_world.proofs.StatusLemmas.{rest-found}
@@ -17,6 +18,10 @@ returns-in_ok-answer-in-Ask-clause-reply g c = rw c.in-Ask.is (c.in_ok-answer-in
 pub returns-in_ok-answer-in-Ask-clause-records : goal.returns-in_ok-answer-in-Ask-clause-records
 returns-in_ok-answer-in-Ask-clause-records g c = λ room.
     rw c.in-Ask.is (ask-adds (records_of (shard_journals c.args.shards.now) room) (concerns room (room_named c.in-Ask.query)) c.in-Ask.origin c.in-Ask.now c.in-Ask.query)
+
+pub returns-in_err-answer-in-Ask-clause-memory : goal.returns-in_err-answer-in-Ask-clause-memory
+returns-in_err-answer-in-Ask-clause-memory g c =
+    rw c.in-Ask.is (λ is. c.in_err-answer-in-Ask.ensures.memory (ap (λ e. Err e) (is-memory c.from_residual-in_err-answer-in-Ask.result c.in_err-answer-in-Ask.field-0.0 c.from_residual-in_err-answer-in-Ask.ensures.1 is)))
 
 pub returns-in-Next-clause-statuses : goal.returns-in-Next-clause-statuses
 returns-in-Next-clause-statuses g c =
