@@ -5,7 +5,7 @@ use Rattle.std.specs.Result.{IsErrAnd}
 use native.Mathlib.Decide.{ℕ_discrete}
 use mathlib.Core.Logic.{dite}
 use Rattle.std.proofs.lemmas.Bool.{eq-eqb, ne_eqb}
-use Rattle.std.proofs.lemmas.List.{length-set, get_or-set_same}
+use Rattle.std.proofs.lemmas.List.{length-map, length-set, get_or-set_same}
 use Rattle.mx_dock.specs.Dock.{own}
 use Rattle.mx_dock.specs.declared.berths.Berth.{Berth}
 use Rattle.mx_dock.proofs.ViewLemmas.{prefix_trans}
@@ -16,14 +16,14 @@ use Rattle.mx_receipt.specs.Receipt.{Kept}
 use Rattle.mx_shard.specs.LoneRoom.{Call, to_ask}
 use Rattle.mx_shard.specs.Told.{tells_shown}
 use Rattle.mx_shard.specs.Journal.{Entry, record_of, IsLegal}
-use Rattle.mx_shard.specs.Shown.{IsShown, IsAnswer}
+use Rattle.mx_shard.specs.Shown.{HasShown, IsShown, IsAnswer}
 use Rattle.mx_shard.specs.declared.answers.Answer.{Answer}
 use Rattle.mx_shard.specs.declared.answers.Answer.TheVariants.{NotHosted, Hosted, AlreadyHosted, NotHost, ToOffered, ToJoined, ToAsked}
 use Rattle.mx_keeper.specs.declared.refusals.CallError.{CallError}
 use Rattle.mx_keeper.specs.declared.refusals.CallError.TheVariants.{Memory, Storage}
 use Rattle.mx_engine.specs.Views.{BerthView, view_at, AddsNothing, AreSameViews}
 use Rattle.mx_engine.specs.Berths.{views_of}
-use Rattle.mx_engine.specs.Calls.{Shows, IsShownBy, IsRefusedBySome}
+use Rattle.mx_engine.specs.Calls.{Shows, HasShownBy, IsShownBy, IsRefusedBySome}
 use Rattle.mx_engine.specs.Calling.{IsTurn, IsAskTurn, found_in, is_storage, told_by}
 use Rattle.mx_engine.proofs.TurnLemmas.{view-eq, view_at-here, views-set, view-set_other, ask_view}
 
@@ -91,6 +91,7 @@ module _ (caller : ℕ) (origin : List ℕ) (now : ℕ) (q : Query) (alone : roo
     seen = ask_view caller origin now q old new (Ok told) t;
     shown = subst (λ room. IsAnswer (record_of t.journal) (to_ask origin now q) room told) alone t.reply;
     told = is;
+    memory = λ memory. absurd (let e : Ok (Some told) ≡ Err Memory = memory in cc);
   }
 
   pub none_turn : (old new : BerthView Entry) (told : Answer) → tells_shown told ≡ false → IsTurn caller (to_ask origin now q) (room_named q) old new (Ok told) → IsAskTurn (to_ask origin now q) old new (Ok None)
@@ -101,11 +102,22 @@ module _ (caller : ℕ) (origin : List ℕ) (now : ℕ) (q : Query) (alone : roo
     seen = ask_view caller origin now q old new (Ok told) t;
     shown = none_shown (record_of t.journal) (to_ask origin now q) told is (subst (λ room. IsAnswer (record_of t.journal) (to_ask origin now q) room told) alone t.reply);
     told = refl;
+    memory = λ memory. absurd (let e : Ok None ≡ Err Memory = memory in cc);
   }
 
   pub refused_turn : (old new : BerthView Entry) (result : Result (Option Answer) CallError) (cause : CallError) → IsErrAnd result (λ e. e ≡ cause) → IsTurn caller (to_ask origin now q) (room_named q) old new (Err cause) → IsAskTurn (to_ask origin now q) old new result
   refused_turn old new (Ok found) cause is t = absurd is
-  refused_turn old new (Err e) cause is t = record { journal = t.journal; legal = t.legal; later = t.later; seen = t.err; shown = tt; told = tt }
+  refused_turn old new (Err e) cause is t = record {
+    journal = t.journal;
+    legal = t.legal;
+    later = t.later;
+    seen = t.err;
+    shown = tt;
+    told = tt;
+    memory = λ memory.
+        let same : e ≡ Memory = cc memory in
+        subst (HasShown (record_of t.journal) (to_ask origin now q)) alone (t.memory (ap (λ k. Err k) (sym is ∙ same)));
+  }
 
 -- what a turn at one shard shows, and what others showed before
 pub shows_here : {T : Type 0} (call : Call) (berths : List (Berth T Entry)) (n : ℕ) (old new : Berth T Entry) (found : Option Answer) → n < length berths →
@@ -217,6 +229,27 @@ never_storage asked (Ok told) cause is found storage = is
 never_storage (Ok found) (Err e) cause is none storage = let h : Ok found ≡ Err cause = none in cc
 never_storage (Err Storage) (Err e) cause is none storage = let h : Ok None ≡ Err cause = none in cc
 never_storage (Err Memory) (Err e) cause is none storage = let h : Err Memory ≡ Err cause = none in let k : e ≡ cause = is in let j : Err e ≡ Err Storage = storage in cc
+
+-- what ends the asking is want of memory
+pub ended_by_memory : (asked : Result (Option Answer) CallError) (cause : CallError) → found_in asked ≡ Err cause → asked ≡ Err Memory
+ended_by_memory (Ok found) cause none = absurd (let h : Ok found ≡ Err cause = none in cc)
+ended_by_memory (Err Memory) cause none = refl
+ended_by_memory (Err Storage) cause none = absurd (let h : Ok None ≡ Err cause = none in cc)
+
+-- and then a room of the shard that was asked shows it
+pub wanted_there : {T : Type 0} (call : Call) (berths : List (Berth T Entry)) (n : ℕ) (old new : Berth T Entry) (result : Result (Option Answer) CallError) → n < length berths →
+    IsAskTurn call (own old) (own new) result → result ≡ Err Memory → HasShownBy call None (views_of (set berths n new))
+wanted_there call berths n old new result l t memory =
+    let k : n < length (set berths n new) = subst (λ m. n < m) (sym (length-set berths n new)) l in
+    let there : (view_at (views_of (set berths n new)) n).seen ≡ t.journal =
+    ap (λ (v : BerthView Entry). v.seen) (view_at-here (set berths n new) n new k ∙ ap own (get_or-set_same berths n new new l) ∙ t.seen) ∙ append-nil t.journal in (
+      n,
+      subst (λ m. n < m) (sym (length-map (set berths n new) own)) k,
+      record {
+        legal = subst IsLegal (sym there) t.legal;
+        shown = subst (λ j. HasShown (record_of j) call None) (sym there) (t.memory memory);
+      },
+    )
 
 -- once all were asked
 module _ (call : Call) (views : List (BerthView Entry)) (count : ℕ) (some_refused : Bool) (asked : AreAsked call views count some_refused) (all : length views ≤ count) where

@@ -18,16 +18,18 @@ use Rattle.mx_receipt.specs.Receipt.{Kept}
 use Rattle.mx_shard.specs.LoneRoom.{Call, call_room, to_ask, sent_call, answer, added}
 use Rattle.mx_shard.specs.Journal.{Entry, entry_of, record_of, journal_after, IsLegal}
 use Rattle.mx_shard.specs.declared.sendings.Sending.{Sending}
+use Rattle.mx_shard.specs.declared.sendings.Sending.TheVariants as sends
 use Rattle.mx_shard.proofs.ChangeLemmas.{sent_room}
 use Rattle.mx_pdu.specs.Event.{room_of}
 use Rattle.mx_room.specs.Offer.{Offered}
-use Rattle.mx_shard.specs.Shown.{IsAnswer}
+use Rattle.mx_shard.specs.Shown.{HasShown, IsAnswer}
 use Rattle.mx_shard.specs.declared.answers.Answer.{Answer}
 use Rattle.mx_keeper.specs.declared.refusals.CallError.{CallError}
+use Rattle.mx_keeper.specs.declared.refusals.CallError.TheVariants.{Memory}
 use Rattle.mx_engine.specs.Views.{BerthView, view_at, after_turn, turned, AddsNothing, IsSameView, AreSameViews}
 use Rattle.mx_engine.specs.Berths.{views_of}
-use Rattle.mx_engine.specs.Calls.{entries_added, IsAnswered}
-use Rattle.mx_engine.specs.Calling.{entries_by, IsHere, IsTurn}
+use Rattle.mx_engine.specs.Calls.{entries_added, HasShownAt, HasShownBy, IsAnswered}
+use Rattle.mx_engine.specs.Calling.{entries_by, IsHere, IsTurn, WantsMemory}
 
 -- ---- one berth
 
@@ -88,22 +90,24 @@ pub turn : (caller : ℕ) (call : Call) (room : Option (List ℕ)) (old taken ne
     (new.number ≡ taken.number) × (new.opening ≡ taken.opening) × (new.place ≡ taken.place) × (new.made ≡ taken.made) →
     new.seen ≡ journal' → new.added ≡ taken.added ++ since taken.seen journal' →
     IfOk result (λ told. IsAnswer (record_of journal) call room told) → OnOk result (journal' ≡ journal ++ entries_by journal caller call room) → OnErr result (journal' ≡ journal) →
-    IsTurn caller call room old new result
-turn caller call room old taken new journal journal' (Ok a) is legal later same seen more reply ok err = record {
+    (result ≡ Err Memory → WantsMemory (record_of journal) call) → IsTurn caller call room old new result
+turn caller call room old taken new journal journal' (Ok a) is legal later same seen more reply ok err memory = record {
   journal = journal;
   legal = legal;
   later = later;
   reply = reply;
   ok = after-put old taken new journal journal' (entries_by journal caller call room) is same seen more ok;
   err = err;
+  memory = memory;
 }
-turn caller call room old taken new journal journal' (Err e) is legal later same seen more reply ok err = record {
+turn caller call room old taken new journal journal' (Err e) is legal later same seen more reply ok err memory = record {
   journal = journal;
   legal = legal;
   later = later;
   reply = reply;
   ok = ok;
   err = after-put old taken new journal journal' [] is same seen more (err ∙ sym (append-nil journal));
+  memory = memory;
 }
 
 -- a query adds nothing
@@ -131,6 +135,11 @@ module _ (s : Sending) (origin : List ℕ) (o : Offered) where
   pub sent_longer : (caller : ℕ) (journal journal' : List Entry) (result : Result Answer CallError) → OnOk result (journal' ≡ journal_after journal caller (room_of o.pdu) (sent_call s origin o)) → OnOk result (journal' ≡ journal ++ entries_by journal caller (sent_call s origin o) (call_room (sent_call s origin o)))
   sent_longer caller journal journal' (Ok told) is = subst (λ room. journal' ≡ journal ++ entries_by journal caller (sent_call s origin o) room) (sym (sent_room s origin o)) is
   sent_longer caller journal journal' (Err e) is = tt
+
+-- an event that is sent is no query
+pub sent_wants : (rows : List ℕ → List Kept) (s : Sending) (origin : List ℕ) (o : Offered) → WantsMemory rows (sent_call s origin o)
+sent_wants rows sends.Offer origin o = tt
+sent_wants rows sends.Join origin o = tt
 
 -- and so nothing but what was seen changes
 pub ask_view : (caller : ℕ) (origin : List ℕ) (now : ℕ) (q : Query) (old new : BerthView Entry) (result : Result Answer CallError) (t : IsTurn caller (to_ask origin now q) (room_named q) old new result) → new ≡ after_turn old t.journal []
@@ -235,3 +244,20 @@ module _ {T : Type 0} where
       IsTurn caller call room (own old) (own new) result → OnErr result (AddsNothing (views_of berths) (views_of (set berths n new)))
   refused_by caller call room berths n old new (Ok told) l is t = tt
   refused_by caller call room berths n old new (Err e) l is t = told_nothing berths n old new t.journal l is t.later t.err
+
+  -- where a query wants memory, its room shows what it asks for
+  pub wanted_by : (caller : ℕ) (call : Call) (origin : List ℕ) (now : ℕ) (q : Query) (room : List ℕ) (berths : List (Berth T Entry)) (n : ℕ) (old new : Berth T Entry) (result : Result Answer CallError) → call ≡ to_ask origin now q → call_room call ≡ Some room → n ≡ place_number (length berths) room → n < length berths →
+      IsTurn caller call (call_room call) (own old) (own new) result → result ≡ Err Memory → HasShownBy (to_ask origin now q) (Some room) (views_of (set berths n new))
+  wanted_by caller call origin now q room berths n old new result is named place l t memory =
+      let views : List (BerthView Entry) = views_of (set berths n new) in
+      let k : n < length (set berths n new) = subst (λ m. n < m) (sym (length-set berths n new)) l in
+      let seen : (view_at views n).seen ≡ t.journal =
+      ap (λ (v : BerthView Entry). v.seen) (view_at-here (set berths n new) n new k ∙ ap own (get_or-set_same berths n new new l) ∙ query_view caller call origin now q is (own old) (own new) result t) ∙ append-nil t.journal in
+      let there : n ≡ place_number (length views) room = place ∙ ap (λ m. place_number m room) (sym (length-map (set berths n new) own ∙ length-set berths n new)) in
+      let wanted : HasShown (record_of t.journal) (to_ask origin now q) (room_named q) = subst (WantsMemory (record_of t.journal)) is (t.memory memory) in
+      subst (HasShownAt (to_ask origin now q) (Some room) views) there
+      (record {
+        legal = subst IsLegal (sym seen) t.legal;
+        shown = subst (λ j. HasShown (record_of j) (to_ask origin now q) (Some room)) (sym seen)
+            (subst (HasShown (record_of t.journal) (to_ask origin now q)) (sym (ap call_room is) ∙ named) wanted);
+      })

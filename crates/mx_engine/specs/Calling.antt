@@ -5,14 +5,16 @@ use Rattle.mx_dock.specs.declared.docks.Dock.{Dock}
 use Rattle.mx_dock.specs.declared.berths.Berth.{Berth}
 use Rattle.mx_dock.specs.Journal.{IsPrefix, since, entries_of}
 use Rattle.mx_keeper.specs.Places.{PlaceView, is_at}
+use Rattle.mx_receipt.specs.Receipt.{Kept}
 use Rattle.mx_keeper.specs.declared.refusals.CallError.{CallError}
 use Rattle.mx_keeper.specs.declared.refusals.CallError.TheVariants.{Memory, Storage}
 use Rattle.mx_shard.specs.LoneRoom.{Call, to_host, to_ask, sent_call}
 use Rattle.mx_shard.specs.Journal.{Entry, record_of, IsLegal}
-use Rattle.mx_shard.specs.Shown.{IsAnswer, IsShown}
+use Rattle.mx_shard.specs.Shown.{HasShown, IsAnswer, IsShown}
 use Rattle.mx_shard.specs.Told.{tells_shown}
 use Rattle.mx_shard.specs.declared.answers.Answer.{Answer}
 use Rattle.mx_shard.specs.declared.answers.Answer.TheVariants.{ToAsked}
+use Rattle.mx_room.specs.Queries.{room_named}
 use Rattle.mx_room.specs.declared.queries.Denied.TheVariants.{NotFound}
 use Rattle.mx_engine.specs.Places.{place_code}
 use Rattle.mx_engine.specs.Views.{BerthView, after_turn}
@@ -49,6 +51,11 @@ pub record IsHeld {T E : Type 0} (Legal : List E → Type 0) (caller_of : E → 
   pub opens : IsPrefix old.opening journal
   pub its : entries_of caller_of caller (since old.opening journal) ≡ old.added
 
+-- where memory may be wanted: at a query, where its room shows what it asks for, else some room does
+abbrev pub WantsMemory : (List ℕ → List Kept) → Call → Type 0
+WantsMemory rows (to_ask origin now q) = HasShown rows (to_ask origin now q) (room_named q)
+WantsMemory rows call = Unit {0}
+
 -- A call of a shard: a legal journal was found, which begins with what was seen, and the answer is by its rooms' records.
 pub record IsTurn (caller : ℕ) (call : Call) (room : Option (List ℕ)) (old new : BerthView Entry) (result : Result Answer CallError) : Type 0 where
   pub journal : List Entry
@@ -57,6 +64,7 @@ pub record IsTurn (caller : ℕ) (call : Call) (room : Option (List ℕ)) (old n
   pub reply : IfOk result (λ told. IsAnswer (record_of journal) call room told)
   pub ok : OnOk result (new ≡ after_turn old journal (entries_by journal caller call room))
   pub err : OnErr result (new ≡ after_turn old journal [])
+  pub memory : result ≡ Err Memory → WantsMemory (record_of journal) call
 
 -- what is told of what some room shows; not found where none shows it
 abbrev pub told_by : Option Answer → Answer
@@ -83,3 +91,4 @@ pub record IsAskTurn (call : Call) (old new : BerthView Entry) (result : Result 
   pub seen : new ≡ after_turn old journal []
   pub shown : IfOk result (λ found. IsShown (record_of journal) call (told_by found))
   pub told : IfOk result (λ found. tells_shown (told_by found) ≡ is_some found)
+  pub memory : result ≡ Err Memory → HasShown (record_of journal) call None

@@ -5,7 +5,7 @@ use Rattle.mx_keeper.specs.Places.{place_number}
 use Rattle.mx_room.specs.declared.queries.Denied.TheVariants.{NotFound}
 use Rattle.mx_shard.specs.LoneRoom.{Call, answer, added}
 use Rattle.mx_shard.specs.Journal.{Entry, entry_of, record_of, IsLegal}
-use Rattle.mx_shard.specs.Shown.{IsShown}
+use Rattle.mx_shard.specs.Shown.{HasShown, IsShown}
 use Rattle.mx_shard.specs.declared.answers.Answer.{Answer}
 use Rattle.mx_shard.specs.declared.answers.Answer.TheVariants.{ToAsked}
 use Rattle.mx_engine.specs.Views.{BerthView, view_at, turned}
@@ -40,6 +40,16 @@ pub record IsRefusedBySome (call : Call) (views : List (BerthView Entry)) : Type
   pub some : (n : ℕ) × (n < length views) × (is_refused n ≡ true)
   pub legal : (n : ℕ) → n < length views → IsLegal (view_at views n).seen
   pub others : (n : ℕ) → n < length views → is_refused n ≡ false → Shows call views (ToAsked (Err NotFound)) n
+
+-- what the caller has now seen of this shard is legal, and by it the room shows what the call asks for, else some room of the shard does
+pub record HasShownAt (call : Call) (room : Option (List ℕ)) (views : List (BerthView Entry)) (n : ℕ) : Type 0 where
+  pub legal : IsLegal (view_at views n).seen
+  pub shown : HasShown (record_of (view_at views n).seen) call room
+
+-- the room that the query names shows what it asks for, at its shard, else some room of some shard does
+abbrev pub HasShownBy : Call → Option (List ℕ) → List (BerthView Entry) → Type 0
+HasShownBy call (Some room) new = HasShownAt call (Some room) new (place_number (length new) room)
+HasShownBy call None new = (n : ℕ) × (n < length new) × HasShownAt call None new n
 
 -- the answer of the room that the query names, else what some room shows
 abbrev pub IsAsked : ℕ → Call → Option (List ℕ) → List (BerthView Entry) → List (BerthView Entry) → Answer → Type 0

@@ -3,7 +3,7 @@ ghost use Rattle.std.specs.Prelude.{◌≡◌, ◌||◌, None, Err, IfOk};
 ghost use Rattle.mx_room.specs.Queries.{room_named};
 ghost use Rattle.mx_shard.specs.LoneRoom.{to_ask};
 ghost use Rattle.mx_engine.specs.Views.{AddsNothing, AreSameViews};
-ghost use Rattle.mx_engine.specs.Calls.{IsShownBy, IsRefusedBySome};
+ghost use Rattle.mx_engine.specs.Calls.{HasShownBy, IsShownBy, IsRefusedBySome};
 ghost use Rattle.mx_engine.specs.Calling.{IsAskTurn, found_in, is_storage};
 ghost use Rattle.mx_dock.specs.Dock.{own};
 ghost use Rattle.mx_engine.specs.Berths.{AreBerthsAt, IsBerthAt, views_of};
@@ -33,6 +33,7 @@ pub(crate) fn ask_each<R: Wait, K: Keeper<Row = ShardRow>, G: Gate>(
     ensures same { AreSameViews (views_of berths.old.items) (views_of berths.new.items) }
     ensures nothing { AddsNothing (views_of berths.old.items) (views_of berths.new.items) }
     ensures shown { IfOk result (IsShownBy (to_ask question.now.origin.now question.now.moment question.now.query.now) (views_of berths.new.items)) }
+    ensures memory { result ≡ Err CallError.Memory → HasShownBy (to_ask question.now.origin.now question.now.moment question.now.query.now) None (views_of berths.new.items) }
     ensures storage { result ≡ Err CallError.Storage → IsRefusedBySome (to_ask question.now.origin.now question.now.moment question.now.query.now) (views_of berths.new.items) }
 {
     let mut is_refused = false;

@@ -1,5 +1,5 @@
 // Calls of rooms, each between a take and a put of its shard.
-ghost use Rattle.std.specs.Prelude.{◌≡◌, ◌++◌, ℕ, List, Some, IfOk, OnOk, OnErr};
+ghost use Rattle.std.specs.Prelude.{◌≡◌, ◌++◌, ℕ, List, Some, Err, IfOk, OnOk, OnErr};
 ghost use Rattle.mx_dock.specs.Dock.{own, number as caller_of};
 ghost use Rattle.mx_room.specs.declared.queries.Query.{Query as QueryOf};
 ghost use Rattle.mx_shard.specs.LoneRoom.{call_room, to_ask};
@@ -7,8 +7,8 @@ ghost use Rattle.mx_shard.specs.Shown.{IsAnswer};
 ghost use Rattle.mx_shard.specs.Journal.{record_of};
 ghost use Rattle.mx_engine.specs.Views.{AddsNothing, AreSameViews};
 ghost use Rattle.mx_engine.specs.Berths.{AreBerthsAt, IsBerthAt, views_of};
-ghost use Rattle.mx_engine.specs.Calls.{IsAnswered};
-ghost use Rattle.mx_engine.specs.Calling.{call_of, entries_by, IsHeld, IsHere, IsTurn};
+ghost use Rattle.mx_engine.specs.Calls.{HasShownBy, IsAnswered};
+ghost use Rattle.mx_engine.specs.Calling.{call_of, entries_by, IsHeld, IsHere, IsTurn, WantsMemory};
 
 use crate::docked::{Docked, DockedShard, PaddedDock};
 use crate::gates::Gate;
@@ -55,6 +55,9 @@ pub(crate) fn call_in<R: Wait, K: Keeper<Row = ShardRow>, G: Gate>(
     ensures err { OnErr result (AddsNothing (views_of berths.old.items) (views_of berths.new.items)) }
     // A query adds nothing.
     ensures asked { (origin : List ℕ) (now : ℕ) (q : QueryOf) → call_of call.now ≡ to_ask origin now q → AddsNothing (views_of berths.old.items) (views_of berths.new.items) }
+    // At a query want of memory stands in for no denial.
+    ensures memory { (origin : List ℕ) (now : ℕ) (q : QueryOf) → call_of call.now ≡ to_ask origin now q → result ≡ Err CallError.Memory
+        → HasShownBy (to_ask origin now q) (Some room.now) (views_of berths.new.items) }
 {
     let place = Place::of(room.as_str(), docks.len());
     let number = place.number();
@@ -94,6 +97,7 @@ fn call_shard<K: Keeper<Row = ShardRow>>(
     ensures reply { IfOk result (IsAnswer (record_of shard.old.journal) (call_of call.now) (call_room (call_of call.now))) }
     ensures journal { OnOk result (shard.new.journal ≡ shard.old.journal ++ entries_by shard.old.journal caller (call_of call.now) (call_room (call_of call.now))) }
     ensures err { OnErr result (shard.new.journal ≡ shard.old.journal) }
+    ensures memory { result ≡ Err CallError.Memory → WantsMemory (record_of shard.old.journal) (call_of call.now) }
     ensures place { shard.new.place ≡ shard.old.place }
 {
     match *call {

@@ -10,7 +10,7 @@ ghost use Rattle.mx_world.specs.Worlds.{shard_journals, book_journals, none_open
 ghost use Rattle.mx_engine.specs.Places.{book_caller};
 ghost use Rattle.mx_engine.specs.Views.{view_at, AddsNothing, AreSameViews};
 ghost use Rattle.mx_world.specs.Offers.{offer_by};
-ghost use Rattle.mx_engine.specs.Calls.{IsAnswered, IsAsked, IsRefusedBySome};
+ghost use Rattle.mx_engine.specs.Calls.{HasShownBy, IsAnswered, IsAsked, IsRefusedBySome};
 ghost use Rattle.mx_engine.specs.Transactions.{IsReplied, IsRefused};
 ghost use Rattle.mx_engine.specs.Seats.{AreAllSeats, BeginsWithFirstSeat, HasFirstSeat, IsSeatOf, seat_number, seats_made, shard_views, book_views, verifier_of};
 ghost use Rattle.mx_engine.specs.Closing.{IsNew, IsWhole, known_at};
@@ -191,8 +191,9 @@ impl<
     /// alone, what some room shows. Such a query is put to the shards in turn, until one shows it.
     ///
     /// Its errors are as of [`host`](Engine::host), of the shard of the room that is named, else of the shards that are
-    /// asked. A query by an event's id goes on behind a shard that is refused for storage, and is answered so only where
-    /// no other one shows it.
+    /// asked. `Memory` only where that room, or some room, gives something, so that it stands in for no denial. A query
+    /// by an event's id goes on behind a shard that is refused for storage, and is answered so only where no other one
+    /// shows it.
     ///
     /// Source: the Matrix specification, Server-Server API, "Retrieving events" and "Backfilling and retrieving missing
     /// events".
@@ -211,6 +212,7 @@ impl<
         ensures ok { IfOk result (IsAsked (seat_number seat.old) (to_ask origin.now now query.now) (room_named query.now)
             (shard_views seat.old) (shard_views seat.new)) }
         ensures nothing { AddsNothing (shard_views seat.old) (shard_views seat.new) }
+        ensures memory { result ≡ Err CallError.Memory → HasShownBy (to_ask origin.now now query.now) (room_named query.now) (shard_views seat.new) }
         ensures storage { room_named query.now ≡ None → result ≡ Err CallError.Storage → IsRefusedBySome (to_ask origin.now now query.now) (shard_views seat.new) }
         ensures books { book_views seat.new ≡ book_views seat.old }
     {

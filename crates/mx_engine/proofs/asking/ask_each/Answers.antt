@@ -5,7 +5,7 @@ use Rattle.mx_shard.specs.LoneRoom.{to_ask}
 use Rattle.mx_engine.specs.Berths.{views_of}
 use Rattle.mx_engine.specs.Calling.{IsAskTurn}
 use Rattle.mx_engine.proofs.TurnLemmas.{told_nothing, nothing_refl}
-use Rattle.mx_engine.proofs.AskingLemmas.{same_refl, same_trans, same_nothing, nothing_trans, shown_found, shows_here, AreAsked, asked_none, asked_more, found_some, never_storage, all_refused, all_unshown}
+use Rattle.mx_engine.proofs.AskingLemmas.{same_refl, same_trans, same_nothing, nothing_trans, shown_found, shows_here, AreAsked, asked_none, asked_more, found_some, never_storage, all_refused, all_unshown, ended_by_memory, wanted_there}
 use Rattle.mx_engine.proofs.BerthLemmas.{seated_set}
 use Rattle.mx_engine.proofs.asking.ask_each.Goals as goal
 
@@ -21,6 +21,15 @@ loop-number-init g c = record {
 pub returns-in_err-answer-clause-storage : goal.returns-in_err-answer-clause-storage
 returns-in_err-answer-clause-storage g c = λ is.
     absurd (never_storage c.ask_one-asked.result c.from_residual.result c.in_err-answer.field-0.0 c.from_residual.ensures.1 (sym c.found.ensures ∙ c.in_err-answer.was) is)
+
+pub returns-in_err-answer-clause-memory : goal.returns-in_err-answer-clause-memory
+returns-in_err-answer-clause-memory g c = λ is.
+    let berths = c.loop-number.berths.items in
+    let n = c.loop-number.number in
+    let call = to_ask c.args.question.now.origin.now c.args.question.now.moment c.args.question.now.query.now in
+    let k : n < length berths = subst (λ j. n < j) (sym c.loop-number.invariant.seated.same) c.loop-number-test.true in
+    wanted_there call berths n c.index_mut-berth.result.now c.ask_one-asked.new.berth c.ask_one-asked.result k c.ask_one-asked.ensures.turn
+    (ended_by_memory c.ask_one-asked.result c.in_err-answer.field-0.0 (sym c.found.ensures ∙ c.in_err-answer.was))
 
 pub returns-in_err-answer-clause-same : goal.returns-in_err-answer-clause-same
 returns-in_err-answer-clause-same g c =

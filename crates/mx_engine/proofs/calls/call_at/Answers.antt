@@ -35,4 +35,4 @@ returns-clause-turn g c =
     let is = c.deref_mut.ensures.value in
     let r = c.call_shard-result in
     turn c.args.caller (call_of c.args.call.now) (call_room (call_of c.args.call.now)) (own c.args.berth.now) (own t.new.berth) (own c.put.new.berth) t.result.shard.value.journal r.new.shard.journal r.result
-    t.ensures.same t.ensures.legal t.ensures.later c.put.ensures.same c.put.ensures.seen c.put.ensures.added (rw is at r.ensures.reply) (rw is at r.ensures.journal) (rw is at r.ensures.err)
+    t.ensures.same t.ensures.legal t.ensures.later c.put.ensures.same c.put.ensures.seen c.put.ensures.added (rw is at r.ensures.reply) (rw is at r.ensures.journal) (rw is at r.ensures.err) (rw is at r.ensures.memory)

@@ -3,7 +3,7 @@ use Rattle.mx_dock.specs.Dock.{own}
 use Rattle.mx_keeper.specs.Places.{place_number}
 use Rattle.mx_shard.specs.LoneRoom.{call_room}
 use Rattle.mx_engine.specs.Calling.{call_of, IsHere, IsTurn}
-use Rattle.mx_engine.proofs.TurnLemmas.{at_place, told_same, answered_by, refused_by, told_nothing, query_view}
+use Rattle.mx_engine.proofs.TurnLemmas.{at_place, told_same, answered_by, refused_by, told_nothing, query_view, wanted_by}
 use Rattle.mx_engine.proofs.calls.call_in.Goals as goal
 
 pub call_at-requires-clause-here : goal.call_at-requires-clause-here
@@ -47,3 +47,13 @@ returns-clause-asked g c = λ origin now q is.
     let t = c.call_at.ensures.turn in
     told_nothing c.args.berths.now.items c.number-number.result c.index_mut-berth.result.now c.call_at.new.berth t.journal l (sym c.index_mut-berth.ensures.value) t.later
     (query_view c.args.caller (call_of c.args.call.now) origin now q is (own c.index_mut-berth.result.now) (own c.call_at.new.berth) c.call_at.result t)
+
+pub returns-clause-memory : goal.returns-clause-memory
+returns-clause-memory g c = λ origin now q is memory.
+    let count : length c.args.berths.now.items ≡ length c.args.docks.now = c.requires.seated.same in
+    let within = c.number-number.ensures.within in
+    let of_count = c.of-place.ensures.count in
+    let l : c.number-number.result < length c.args.berths.now.items = omega (arith, count, within, of_count) in
+    let there : c.number-number.result ≡ place_number (length c.args.berths.now.items) c.args.room.now =
+    c.number-number.ensures.number ∙ c.of-place.ensures.number ∙ ap (place_number (length c.args.docks.now)) c.as_str.ensures.text ∙ ap (λ k. place_number k c.args.room.now) (sym count) in
+    wanted_by c.args.caller (call_of c.args.call.now) origin now q c.args.room.now c.args.berths.now.items c.number-number.result c.index_mut-berth.result.now c.call_at.new.berth c.call_at.result is c.requires.room there l c.call_at.ensures.turn memory

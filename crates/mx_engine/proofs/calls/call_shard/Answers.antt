@@ -3,8 +3,8 @@ use Rattle.std.specs.Prelude.{IfOk, OnOk}
 use Rattle.mx_shard.specs.LoneRoom.{call_room}
 use Rattle.mx_shard.specs.Shown.{IsAnswer}
 use Rattle.mx_shard.specs.Journal.{record_of}
-use Rattle.mx_engine.specs.Calling.{call_of, entries_by, IsHere}
-use Rattle.mx_engine.proofs.TurnLemmas.{sent_here, sent_reply, sent_longer, asked_longer}
+use Rattle.mx_engine.specs.Calling.{call_of, entries_by, IsHere, WantsMemory}
+use Rattle.mx_engine.proofs.TurnLemmas.{sent_here, sent_reply, sent_longer, sent_wants, asked_longer}
 use Rattle.mx_engine.proofs.calls.call_shard.Goals as goal
 
 pub host-requires : goal.host-requires
@@ -41,3 +41,16 @@ returns-in-Ask-clause-journal g c =
     let asked = c.in-Ask.question.now in
     subst (λ call. OnOk c.ask.result (c.args.shard.now.journal ≡ c.args.shard.now.journal ++ entries_by c.args.shard.now.journal c.args.caller (call_of call) (call_room (call_of call)))) (sym c.in-Ask.is)
     (asked_longer c.args.caller asked.origin.now asked.moment asked.query.now c.args.shard.now.journal c.ask.result)
+
+pub returns-in-Host-clause-memory : goal.returns-in-Host-clause-memory
+returns-in-Host-clause-memory g c = λ is.
+    subst (λ call. WantsMemory (record_of c.args.shard.now.journal) (call_of call)) (sym c.in-Host.is) tt
+
+pub returns-in-Send-clause-memory : goal.returns-in-Send-clause-memory
+returns-in-Send-clause-memory g c = λ is.
+    subst (λ call. WantsMemory (record_of c.args.shard.now.journal) (call_of call)) (sym c.in-Send.is)
+    (sent_wants (record_of c.args.shard.now.journal) c.in-Send.sending c.in-Send.origin.now c.in-Send.offered.now)
+
+pub returns-in-Ask-clause-memory : goal.returns-in-Ask-clause-memory
+returns-in-Ask-clause-memory g c = λ is.
+    subst (λ call. WantsMemory (record_of c.args.shard.now.journal) (call_of call)) (sym c.in-Ask.is) (c.ask.ensures.memory is)
