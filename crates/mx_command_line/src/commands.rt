@@ -51,6 +51,8 @@ fn refusal(alloc: Global, error: &Error) -> Result<String, AllocError> {
 }
 
 /// What the words ask for. The first is the program's name.
+///
+/// `Misused`, with the text to print, where they ask for nothing or for help; `Memory` where no memory is left.
 pub fn parse(alloc: Global, words: &[String]) -> Result<Command, CommandLineError> {
     let program = clap::Command::new(alloc, "mx_federd")
         .about("A Matrix federation room server")

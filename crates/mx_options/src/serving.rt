@@ -1,5 +1,5 @@
 // What a server is told when it starts.
-ghost use Rattle.std.specs.Prelude.{◌≤◌};
+ghost use Rattle.std.specs.Prelude.{◌≤◌, ◌<◌, ◌⊎◌, IfNone};
 
 use mx_ident::ServerName;
 use mx_keeper::ShardCount;
@@ -34,7 +34,9 @@ pub struct SeatCount {
 
 impl SeatCount {
     /// So many workers; none where that is 0 or more than 64.
-    pub fn of(count: u32) -> Option<SeatCount> {
+    pub fn of(count: u32) -> Option<SeatCount>
+        ensures none { IfNone result ((count < 1) ⊎ (64 < count)) }
+    {
         if 1 <= count && count <= 64 {
             Some(SeatCount { count })
         } else {
