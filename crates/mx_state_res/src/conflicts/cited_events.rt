@@ -19,25 +19,55 @@ pub(crate) fn cite_within(graph: &Graph, sets: &[Vec<EventNo>], events: &[EventN
     if events.len() > MOST_EVENTS {
         return false;
     }
+    // Often the next event cites the same ones.
+    let mut told: &[EventNo] = &[];
     for event in events {
-        if !are_within(graph, sets, events, graph.auth_events(*event)) {
+        let cited = graph.auth_events(*event);
+        if !are_within(graph, sets, events, told, cited) {
+            return false;
+        }
+        told = cited;
+    }
+    true
+}
+
+// Whether each of some cited events is one of these, or in the auth chains of all sets, where it was told of others.
+fn are_within(
+    graph: &Graph,
+    sets: &[Vec<EventNo>],
+    events: &[EventNo],
+    told: &[EventNo],
+    cited: &[EventNo],
+) -> bool
+    requires { All (λ event.
+        definition.is_within graph.now (map (λ others. others.items) sets.now) events.now event ≡ true) told.now }
+    ensures { IsTrue result → All (λ event.
+        definition.is_within graph.now (map (λ others. others.items) sets.now) events.now event ≡ true) cited.now }
+{
+    for event in cited {
+        if !is_told_within(graph, sets, events, told, *event) {
             return false;
         }
     }
     true
 }
 
-// Whether each of some cited events is one of these, or in the auth chains of all sets.
-fn are_within(graph: &Graph, sets: &[Vec<EventNo>], events: &[EventNo], cited: &[EventNo]) -> bool
-    ensures { IsTrue result → All (λ event.
-        definition.is_within graph.now (map (λ others. others.items) sets.now) events.now event ≡ true) cited.now }
+fn is_told_within(
+    graph: &Graph,
+    sets: &[Vec<EventNo>],
+    events: &[EventNo],
+    told: &[EventNo],
+    event: EventNo,
+) -> bool
+    requires { All (λ event.
+        definition.is_within graph.now (map (λ others. others.items) sets.now) events.now event ≡ true) told.now }
+    ensures { IsTrue result
+        → definition.is_within graph.now (map (λ others. others.items) sets.now) events.now event ≡ true }
 {
-    for event in cited {
-        if !is_within(graph, sets, events, *event) {
-            return false;
-        }
+    if is_one_of(told, event) {
+        return true;
     }
-    true
+    is_within(graph, sets, events, event)
 }
 
 fn is_within(graph: &Graph, sets: &[Vec<EventNo>], events: &[EventNo], event: EventNo) -> bool

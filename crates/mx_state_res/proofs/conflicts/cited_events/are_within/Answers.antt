@@ -10,7 +10,7 @@ pub loop-event-preserved : goal.loop-event-preserved
 loop-event-preserved c =
     let P : ℕ → Type 0 = λ y. is_within c.args.graph.now (map (λ (v : Vec ℕ Global). v.items) c.args.sets.now) c.args.events.now y ≡ true in
     All-more P c.args.cited.now c.loop-event.event-index c.event-item.result (omega arith) c.loop-event.invariant
-    (subst P c.event-item.is (c.is_within.ensures c.if-not-is_within.false))
+    (subst P c.event-item.is (c.is_told_within.ensures c.if-not-is_told_within.false))
 
 pub returns : goal.returns
 returns c =

@@ -5,4 +5,7 @@ use Rattle.mx_state_res.proofs.conflicts.cited_events.cite_within.Given as goal
 
 -- what the events so far cite is so
 abbrev pub invariant-loop-event : goal.invariant-loop-event
-invariant-loop-event l = All (λ x. All (λ y. is_within l.graph (map (λ others. others.items) l.sets) l.events y ≡ true) (cites l.graph x)) (take l.event-index l.events)
+invariant-loop-event l = record {
+  so_far : All (λ x. All (λ y. is_within l.graph (map (λ others. others.items) l.sets) l.events y ≡ true) (cites l.graph x)) (take l.event-index l.events);
+  told : All (λ y. is_within l.graph (map (λ others. others.items) l.sets) l.events y ≡ true) l.told;
+}
