@@ -151,7 +151,7 @@ fn taken_from(
     let mut found = StateMap::new(alloc);
     for entry in taken.entries() {
         let (kind, state_key) = (entry.kind(), entry.state_key());
-        if states.get(number, kind, state_key).is_some() && puts.get(kind, state_key).is_none() {
+        if puts.get(kind, state_key).is_none() && states.get(number, kind, state_key).is_some() {
             found.insert(kind, state_key, entry.event())?;
         }
     }
