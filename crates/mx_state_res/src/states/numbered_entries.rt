@@ -109,15 +109,31 @@ pub(crate) fn put_differing(
         ≡ (is_some (entry_at found.old key) || has_number_in keys.now differing.now key)) }
 {
     for &number in differing {
-        let event = snapshots
-            .get(first, number)
-            .or(snapshots.get(other, number));
+        let event = event_of_either(snapshots, first, other, number);
         if let Some(event) = event {
             let key = keys.key(number);
             found.insert(key.kind(), key.state_key(), event)?;
         }
     }
     Ok(())
+}
+
+// The event that a snapshot has at a key, or else that of the other one.
+fn event_of_either(
+    snapshots: &Snapshots,
+    first: StateNo,
+    other: StateNo,
+    key: KeyNo,
+) -> Option<EventNo>
+    requires first { first < length snapshots.now }
+    requires other { other < length snapshots.now }
+    ensures { result ≡ option_or (find nat_cmp key (snapshot snapshots.now first))
+        (find nat_cmp key (snapshot snapshots.now other)) }
+{
+    match snapshots.get(first, key) {
+        Some(event) => Some(event),
+        None => snapshots.get(other, key),
+    }
 }
 
 // The changes that put the entries of a state, and take the keys of another away, by the numbers of the keys; of two

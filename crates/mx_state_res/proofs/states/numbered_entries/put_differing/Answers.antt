@@ -1,5 +1,6 @@
 use Rattle.std.proofs.Common.{◌≡◌, ◌<◌, ◌+◌, ◌∷◌, drop, get_or, length, ap, sym, subst, ◌∙◌, arith}
-use Rattle.std.specs.FinMap.Entries.{put}
+use Rattle.std.specs.FinMap.Entries.{find, put}
+use Rattle.std.specs.Ordering.{nat_cmp}
 use Rattle.std.proofs.lemmas.List.{drop_more}
 use Rattle.mx_auth.specs.Rules.{Key}
 use Rattle.mx_orders.specs.StateMap.{key_cmp}
@@ -30,5 +31,5 @@ loop-number-preserved c key =
           w.found-is ∙ w.in_ok-insert.ensures.ok ∙ ap (λ k. put key_cmp k w.in-Some.event c.loop-number.found) (sym texts) in
           differing-put keys c.loop-number.found c.match-event.found (drop i numbers) (drop (i + 1) numbers) n w.in-Some.event key d after ∙ c.loop-number.invariant key
       | in_default w ↦
-          absurd (subst (λ m. DifferAt m (snapshot c.args.snapshots.now c.args.first) (snapshot c.args.snapshots.now c.args.other)) (sym c.number-item.is) (c.requires.differing i n (omega arith)) (sym c.get.ensures ∙ none-alike c.get.result c.get-in-loop-number.result (sym c.or-event.ensures ∙ w.in_default.is) ∙ c.get-in-loop-number.ensures))
+          absurd (subst (λ m. DifferAt m (snapshot c.args.snapshots.now c.args.first) (snapshot c.args.snapshots.now c.args.other)) (sym c.number-item.is) (c.requires.differing i n (omega arith)) (none-alike (find nat_cmp n (snapshot c.args.snapshots.now c.args.first)) (find nat_cmp n (snapshot c.args.snapshots.now c.args.other)) (sym c.event_of_either-event.ensures ∙ w.in_default.is)))
     ]
