@@ -1,8 +1,9 @@
 // What a server is told when it starts.
-ghost use Rattle.std.specs.Prelude.{◌≤◌, ◌<◌, ◌⊎◌, IfNone};
+ghost use Rattle.std.specs.Prelude.{◌≡◌, ◌≤◌, ◌<◌, ◌⊎◌, IfNone, IfSome};
 
 use mx_ident::ServerName;
 use mx_keeper::ShardCount;
+use std::marker::Model;
 
 /// What a server is to serve, and how.
 #[derive(Debug, Drop)]
@@ -28,13 +29,24 @@ pub struct ServeOptions {
 #[derive(Clone, Copy, Debug)]
 pub struct SeatCount {
     count: u32,
-    ghost some: { 1 ≤ count },
-    ghost few: { count ≤ 64 },
+}
+
+impl Model for SeatCount {
+    ghost use Rattle.std.specs.Prelude.{ℕ, ◌≤◌};
+
+    ghost Value = { ℕ };
+
+    ghost view = { λ workers. workers.count };
+
+    ghost invariant = { λ workers. (1 ≤ workers.count) × (workers.count ≤ 64) };
+
+    ghost inverse = { λ count. record { count = count } };
 }
 
 impl SeatCount {
     /// So many workers; none where that is 0 or more than 64.
     pub fn of(count: u32) -> Option<SeatCount>
+        ensures workers { IfSome result (λ workers. workers ≡ count) }
         ensures none { IfNone result ((count < 1) ⊎ (64 < count)) }
     {
         if 1 <= count && count <= 64 {
@@ -46,6 +58,7 @@ impl SeatCount {
 
     /// How many they are.
     pub fn get(self) -> u32
+        ensures count { result ≡ self }
         ensures some { 1 ≤ result }
         ensures few { result ≤ 64 }
     {

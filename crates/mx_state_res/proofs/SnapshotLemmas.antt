@@ -7,7 +7,7 @@ use Rattle.std.specs.Ordering.{nat_cmp}
 use Rattle.mx_state_res.specs.declared.snapshots.snapshot_chains.Stored.{Stored}
 use Rattle.mx_state_res.specs.declared.snapshots.snapshot_chains.Stored.TheVariants.{Whole, Rebuilt, Delta}
 use Rattle.mx_state_res.specs.SnapshotEntries.{changed, snapshot}
-use Rattle.mx_state_res.specs.SnapshotChains.{meaning, meanings, step_of, depth_of, depth_at, IsSound, AllSound}
+use Rattle.mx_state_res.specs.SnapshotChains.{meaning, meanings, step_of, left_of, left_at, IsSound, AllSound}
 use Rattle.mx_state_res.proofs.SnapshotEntryLemmas.{Sorted, sorted-changed, find-changed}
 
 abbrev Maps : Type 0
@@ -51,19 +51,19 @@ kept es (t ∷ ss) i h = kept (es ++ meaning es t ∷ []) ss i (omega (arith, le
 IsOver : ℕ → Stored → Type 0
 IsOver n (Whole entries) = Unit {0}
 IsOver n (Rebuilt parent changes entries) = Unit {0}
-IsOver n (Delta parent depth changes) = parent < n
+IsOver n (Delta parent left changes) = parent < n
 
 over : (ss : List Stored) (n : ℕ) (s : Stored) → IsSound ss n s → IsOver n s
 unfolding IsOver
 over ss n (Whole entries) h = tt
 over ss n (Rebuilt parent changes entries) h = tt
-over ss n (Delta parent depth changes) h = h.0
+over ss n (Delta parent left changes) h = h.0
 
 meaning-kept : (es : Maps) (ss : List Stored) (s : Stored) → IsOver (length es) s → meaning (meanings es ss) s ≡ meaning es s
 unfolding IsOver
 meaning-kept es ss (Whole entries) h = refl
 meaning-kept es ss (Rebuilt parent changes entries) h = refl
-meaning-kept es ss (Delta parent depth changes) h = ap (λ m. changed changes.items m) (kept es ss parent h)
+meaning-kept es ss (Delta parent left changes) h = ap (λ m. changed changes.items m) (kept es ss parent h)
 
 same_some : {X : Type 0} (x y : X) → Some x ≡ Some y → x ≡ y
 same_some x y e = cc
@@ -98,13 +98,13 @@ push-sorted (e ∷ es) m h k (suc i) = push-sorted es m (λ j. h (suc j)) k i
 IsOrdered : Stored → Type 0
 IsOrdered (Whole entries) = Sorted entries.items
 IsOrdered (Rebuilt parent changes entries) = Sorted entries.items
-IsOrdered (Delta parent depth changes) = Unit {0}
+IsOrdered (Delta parent left changes) = Unit {0}
 
 ordered : (ss : List Stored) (n : ℕ) (s : Stored) → IsSound ss n s → IsOrdered s
 unfolding IsOrdered
 ordered ss n (Whole entries) h = h
 ordered ss n (Rebuilt parent changes entries) h = h.0
-ordered ss n (Delta parent depth changes) h = tt
+ordered ss n (Delta parent left changes) h = tt
 
 ordered_at : (ss : List Stored) (n : ℕ) (o : Option Stored) → IfSome o (IsSound ss n) → IfSome o IsOrdered
 ordered_at ss n None h = tt
@@ -114,7 +114,7 @@ meaning-sorted : (es : Maps) (s : Stored) → ((i : ℕ) → Sorted (snapshot es
 unfolding IsOrdered
 meaning-sorted es (Whole entries) h k = k
 meaning-sorted es (Rebuilt parent changes entries) h k = k
-meaning-sorted es (Delta parent depth changes) h k = sorted-changed changes.items (snapshot es parent) (h parent)
+meaning-sorted es (Delta parent left changes) h k = sorted-changed changes.items (snapshot es parent) (h parent)
 
 sorted_from : (es : Maps) (ss : List Stored) → ((i : ℕ) → Sorted (snapshot es i)) → ((i : ℕ) → IfSome (slice_get ss i) IsOrdered) → (i : ℕ) → Sorted (snapshot (meanings es ss) i)
 sorted_from es [] h k i = h i
@@ -125,8 +125,8 @@ sorted_at ss h i = sorted_from [] ss (λ j. tt) (λ j. ordered_at ss j (slice_ge
 
 -- ---- one more stays sound
 
-depth-push : (ss : List Stored) (s : Stored) (i : ℕ) → i < length ss → depth_at (ss ++ s ∷ []) i ≡ depth_at ss i
-depth-push ss s i h = ap (λ o. unwrap_or (option_map depth_of o) 0) (get-before_last ss s i h)
+left-push : (ss : List Stored) (s : Stored) (i : ℕ) → i < length ss → left_at (ss ++ s ∷ []) i ≡ left_at ss i
+left-push ss s i h = ap (λ o. unwrap_or (option_map left_of o) 0) (get-before_last ss s i h)
 
 snapshot-push : (ss : List Stored) (s : Stored) (i : ℕ) → i < length ss → snapshot (meanings [] (ss ++ s ∷ [])) i ≡ snapshot (meanings [] ss) i
 snapshot-push ss s i h =
@@ -137,9 +137,9 @@ sound-push ss s n (Whole entries) l h = h
 sound-push ss s n (Rebuilt parent changes entries) l h =
     let below : parent < length ss = omega (arith, h.1) in
     (h.0, h.1, h.2 ∙ ap (changed changes.items) (sym (snapshot-push ss s parent below)))
-sound-push ss s n (Delta parent depth changes) l h =
+sound-push ss s n (Delta parent left changes) l h =
     let below : parent < length ss = omega arith in
-    (h.0, h.1 ∙ ap (λ d. d + 1) (sym (depth-push ss s parent below)), h.2)
+    (h.0, subst (λ d. left < d) (sym (left-push ss s parent below)) h.1)
 
 sound-push_option : (ss : List Stored) (s : Stored) (n : ℕ) (o : Option Stored) → n ≤ length ss → IfSome o (IsSound ss n) → IfSome o (IsSound (ss ++ s ∷ []) n)
 sound-push_option ss s n None l h = tt
@@ -165,11 +165,11 @@ whole_at ss i s entries h l e is =
     let facts = meant ss i (Whole entries) h there in
     record { meant = facts.0; sorted = facts.1 }
 
-pub delta_at : (ss : List Stored) (i : ℕ) (s : Stored) (parent depth : ℕ) (changes : Vec (ℕ × Option ℕ) Global) → AllSound ss → i < length ss → s ≡ get_or ss i s → s ≡ Delta parent depth changes
+pub delta_at : (ss : List Stored) (i : ℕ) (s : Stored) (parent left : ℕ) (changes : Vec (ℕ × Option ℕ) Global) → AllSound ss → i < length ss → s ≡ get_or ss i s → s ≡ Delta parent left changes
     → record { meant : snapshot (meanings [] ss) i ≡ changed changes.items (snapshot (meanings [] ss) parent); below : parent < i }
-delta_at ss i s parent depth changes h l e is =
-    let there : slice_get ss i ≡ Some (Delta parent depth changes) = slice_get_read ss (length ss) i s refl l e ∙ ap Some is in
-    let facts = meant ss i (Delta parent depth changes) h there in
+delta_at ss i s parent left changes h l e is =
+    let there : slice_get ss i ≡ Some (Delta parent left changes) = slice_get_read ss (length ss) i s refl l e ∙ ap Some is in
+    let facts = meant ss i (Delta parent left changes) h there in
     record { meant = facts.0; below = facts.1.0 }
 
 pub rebuilt_at : (ss : List Stored) (i : ℕ) (s : Stored) (parent : ℕ) (changes : Vec (ℕ × Option ℕ) Global) (entries : Vec (ℕ × ℕ) Global) → AllSound ss → i < length ss → s ≡ get_or ss i s → s ≡ Rebuilt parent changes entries
@@ -189,7 +189,7 @@ step_made ss i (Rebuilt p changes entries) parent cs m h e =
       meant = m ∙ h.2 ∙ ap (λ (x : ℕ × List (ℕ × Option ℕ)). changed x.1 (snapshot (meanings [] ss) x.0)) same;
       below = subst (λ (x : ℕ × List (ℕ × Option ℕ)). x.0 < i) same h.1;
     }
-step_made ss i (Delta p depth changes) parent cs m h e =
+step_made ss i (Delta p left changes) parent cs m h e =
     let same : ◌≡◌ {A = ℕ × List (ℕ × Option ℕ)} (p, changes.items) (parent, cs) = same_some (p, changes.items) (parent, cs) e in
     record {
       meant = m ∙ ap (λ (x : ℕ × List (ℕ × Option ℕ)). changed x.1 (snapshot (meanings [] ss) x.0)) same;

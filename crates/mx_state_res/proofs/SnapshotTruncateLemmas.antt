@@ -6,7 +6,7 @@ use Rattle.std.proofs.Math.Seq.{take-append_seam}
 use Rattle.mx_state_res.specs.declared.snapshots.snapshot_chains.Stored.{Stored}
 use Rattle.mx_state_res.specs.declared.snapshots.snapshot_chains.Stored.TheVariants.{Whole, Rebuilt, Delta}
 use Rattle.mx_state_res.specs.SnapshotEntries.{changed, snapshot}
-use Rattle.mx_state_res.specs.SnapshotChains.{meaning, meanings, depth_of, depth_at, IsSound, AllSound}
+use Rattle.mx_state_res.specs.SnapshotChains.{meaning, meanings, left_of, left_at, IsSound, AllSound}
 use Rattle.mx_state_res.proofs.SnapshotLemmas.{length-meanings}
 
 abbrev Maps : Type 0
@@ -76,13 +76,13 @@ meanings-take n ss = by (nat_cases n (length ss))
 snapshot-take : (n : ℕ) (ss : List Stored) (i : ℕ) → i < n → snapshot (meanings [] ss) i ≡ snapshot (meanings [] (take n ss)) i
 snapshot-take n ss i l = sym (ap (λ m. snapshot m i) (meanings-take n ss) ∙ take_or n (meanings [] ss) i [] l)
 
-depth-take : (n : ℕ) (ss : List Stored) (i : ℕ) → i < n → depth_at ss i ≡ depth_at (take n ss) i
-depth-take n ss i l = ap (λ o. unwrap_or (option_map depth_of o) 0) (sym (take_get n ss i l))
+left-take : (n : ℕ) (ss : List Stored) (i : ℕ) → i < n → left_at ss i ≡ left_at (take n ss) i
+left-take n ss i l = ap (λ o. unwrap_or (option_map left_of o) 0) (sym (take_get n ss i l))
 
 sound-take : (n : ℕ) (ss : List Stored) (i : ℕ) (t : Stored) → i < n → IsSound ss i t → IsSound (take n ss) i t
 sound-take n ss i (Whole entries) l h = h
 sound-take n ss i (Rebuilt parent changes entries) l h = (h.0, h.1, h.2 ∙ ap (changed changes.items) (snapshot-take n ss parent (omega (arith, h.1))))
-sound-take n ss i (Delta parent depth changes) l h = (h.0, h.1 ∙ ap (λ d. d + 1) (depth-take n ss parent (omega (arith, h.0))), h.2)
+sound-take n ss i (Delta parent left changes) l h = (h.0, subst (λ d. left < d) (left-take n ss parent (omega (arith, h.0))) h.1)
 
 pub all-sound-take : (n : ℕ) (ss : List Stored) → AllSound ss → AllSound (take n ss)
 all-sound-take n ss h i = by (nat_cases i n)

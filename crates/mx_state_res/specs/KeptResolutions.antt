@@ -6,9 +6,9 @@ use Rattle.std.specs.FinMap.Entries.{put}
 use Rattle.mx_redact.specs.Fields.{is_some_and}
 use Rattle.mx_auth.specs.Rules.{Key, key_of}
 use Rattle.mx_auth.specs.declared.versions.RoomVersion.{RoomVersion}
-use Rattle.mx_graph.specs.Record.{Row, event}
+use Rattle.mx_graph.specs.Record.{Row, event, is_in}
 use Rattle.mx_orders.specs.StateMap.{State, entry, key_cmp}
-use Rattle.mx_state_res.specs.LaterResolution.{checking_order, is_put, stays}
+use Rattle.mx_state_res.specs.LaterResolution.{IsOneMore, checking_order, is_put, stays}
 use Rattle.mx_state_res.specs.Numbered.{AllAlike, AreKnown, state_at, without}
 use Rattle.mx_state_res.specs.Resolution.{after_check, full_conflicted, has_entry, power_events, resolve, unconflicted}
 use Rattle.mx_state_res.specs.declared.kept_resolutions.KeptResolution.{KeptResolution}
@@ -80,3 +80,13 @@ pub record IsKept (v : RoomVersion) (rows : List Row) (states : List State) (kep
   pub checked : AreChecked v rows (unconflicted (states_of states kept)) kept.order.items
   pub below : kept.resolved < length states
   pub resolved : state_at states kept.resolved ≡ resolve v rows (states_of states kept)
+
+-- the newest state is one of those that were resolved, with one event more, at a key at which they differ
+pub record IsAdded (rows : List Row) (states : List State) (kept : KeptResolution) (newest event : ℕ) : Type 0 where
+  pub key : Key
+  pub there : is_some (entry kept.differing key) ≡ true
+  pub before : State
+  pub one : IsOneMore rows (states_of states kept) before key event
+  pub made : state_at states newest ≡ put key_cmp key event before
+  pub new : is_in (events_checked kept.order.items) event ≡ false
+  pub known : event < length rows

@@ -1,11 +1,11 @@
 // What the body of a transaction says.
-ghost use Rattle.std.specs.Prelude.{◌≡◌, ◌⊎◌, Err, IfErr, IfOk, None, Ok, Some, codes, if◌then◌else◌, filter, map, option_and_then, option_map};
-ghost use Rattle.serde_json.specs.Data.{Data, object};
+ghost use Rattle.std.specs.Prelude.{◌≡◌, IfErr, IfOk, None, Ok, Some, codes, if◌then◌else◌, filter, map, option_and_then, option_map};
+ghost use Rattle.serde_json.specs.Data.{object};
 ghost use Rattle.serde_json.specs.View.{view, members_view};
 ghost use Rattle.mx_pdu.specs.Format.{is_well_formed};
 ghost use Rattle.mx_body.specs.Bodies.{texts_of};
 ghost use Rattle.mx_redact.specs.Fields.{field as field_of, is_none_or};
-ghost use Rattle.mx_requests.specs.BodyEvents.{offered_if_formed, offered_in};
+ghost use Rattle.mx_requests.specs.BodyEvents.{AreEventsOf, IsEventOf, IsFaultOf, offered_if_formed, offered_in};
 ghost use Rattle.mx_requests.specs.Requests as definition;
 ghost use Rattle.mx_pdu.specs.Offers.{offer_by};
 
@@ -45,10 +45,9 @@ pub(crate) fn transaction_events<V: Verifier>(
     body: &[u8],
     verifier: &V,
 ) -> Result<Option<Vec<Offered>>, Fault>
-    ensures ok { IfOk result (λ events. (d : Data) × (definition.body_value body.now ≡ Ok d)
-        × (option_map (λ events. events.items) events
-        ≡ option_map (map (offer_by (V.judges verifier.now))) (definition.events_in d))) }
-    ensures err { IfErr result (λ fault. (fault ≡ Fault.Memory) ⊎ (definition.body_value body.now ≡ Err fault)) }
+    ensures ok { IfOk result (λ events.
+        AreEventsOf (offer_by (V.judges verifier.now)) body.now (option_map (λ events. events.items) events)) }
+    ensures err { IfErr result (IsFaultOf body.now) }
 {
     if body.len() > LONGEST_VALUE {
         return events_by_texts(alloc, scratch, body, verifier);
@@ -69,9 +68,8 @@ pub(crate) fn event_of_body<V: Verifier>(
     body: &[u8],
     verifier: &V,
 ) -> Result<Option<Offered>, Fault>
-    ensures ok { IfOk result (λ event. (d : Data) × (definition.body_value body.now ≡ Ok d)
-        × (event ≡ offered_if_formed (offer_by (V.judges verifier.now)) d)) }
-    ensures err { IfErr result (λ fault. (fault ≡ Fault.Memory) ⊎ (definition.body_value body.now ≡ Err fault)) }
+    ensures ok { IfOk result (IsEventOf (offer_by (V.judges verifier.now)) body.now) }
+    ensures err { IfErr result (IsFaultOf body.now) }
 {
     if body.len() > LONGEST_VALUE {
         return event_by_text(alloc, scratch, body, verifier);
@@ -86,7 +84,7 @@ pub(crate) fn event_of_body<V: Verifier>(
 // The value that a body is JSON for. `NotJson`; `Memory`.
 fn value_of_body(alloc: Global, scratch: &mut Scratch, body: &[u8]) -> Result<Value, Fault>
     ensures ok { IfOk result (λ value. definition.body_value body.now ≡ Ok (view value)) }
-    ensures err { IfErr result (λ fault. (fault ≡ Fault.Memory) ⊎ (definition.body_value body.now ≡ Err fault)) }
+    ensures err { IfErr result (IsFaultOf body.now) }
 {
     match body_value(alloc, scratch, body) {
         Ok(value) => Ok(value),
@@ -155,10 +153,9 @@ fn events_by_texts<V: Verifier>(
     body: &[u8],
     verifier: &V,
 ) -> Result<Option<Vec<Offered>>, Fault>
-    ensures ok { IfOk result (λ events. (d : Data) × (definition.body_value body.now ≡ Ok d)
-        × (option_map (λ events. events.items) events
-        ≡ option_map (map (offer_by (V.judges verifier.now))) (definition.events_in d))) }
-    ensures err { IfErr result (λ fault. (fault ≡ Fault.Memory) ⊎ (definition.body_value body.now ≡ Err fault)) }
+    ensures ok { IfOk result (λ events.
+        AreEventsOf (offer_by (V.judges verifier.now)) body.now (option_map (λ events. events.items) events)) }
+    ensures err { IfErr result (IsFaultOf body.now) }
 {
     match transaction_texts(alloc, scratch, body, LONGEST_EVENT) {
         Ok(Some(texts)) => {
@@ -178,9 +175,8 @@ fn event_by_text<V: Verifier>(
     body: &[u8],
     verifier: &V,
 ) -> Result<Option<Offered>, Fault>
-    ensures ok { IfOk result (λ event. (d : Data) × (definition.body_value body.now ≡ Ok d)
-        × (event ≡ offered_if_formed (offer_by (V.judges verifier.now)) d)) }
-    ensures err { IfErr result (λ fault. (fault ≡ Fault.Memory) ⊎ (definition.body_value body.now ≡ Err fault)) }
+    ensures ok { IfOk result (IsEventOf (offer_by (V.judges verifier.now)) body.now) }
+    ensures err { IfErr result (IsFaultOf body.now) }
 {
     match event_text(alloc, scratch, body, LONGEST_EVENT) {
         Ok(Some(text)) => {

@@ -1,13 +1,12 @@
 // The event by which a state differs from one that was resolved.
-ghost use Rattle.std.specs.Prelude.{◌≡◌, ◌<◌, ℕ, All, IfOk, IfSome, Some, T, false, is_some, length, true};
-ghost use Rattle.std.specs.FinMap.Entries.{is_sorted, put};
-ghost use Rattle.mx_auth.specs.Rules.{Key, key_of};
+ghost use Rattle.std.specs.Prelude.{◌≡◌, ◌<◌, ℕ, All, IfOk, IfSome, Some, T, false, length};
+ghost use Rattle.std.specs.FinMap.Entries.{is_sorted};
+ghost use Rattle.mx_auth.specs.Rules.{key_of};
 ghost use Rattle.mx_graph.specs.Record as record_of;
 ghost use Rattle.mx_graph.specs.Record.{auth_events, is_in};
 ghost use Rattle.mx_orders.specs.Lists.{In};
-ghost use Rattle.mx_orders.specs.StateMap.{State, entry as entry_at, key_cmp};
-ghost use Rattle.mx_state_res.specs.KeptResolutions.{DifferAtKeys, events_checked, first_of, states_of};
-ghost use Rattle.mx_state_res.specs.LaterResolution.{IsOneMore};
+ghost use Rattle.mx_orders.specs.StateMap.{entry as entry_at, key_cmp};
+ghost use Rattle.mx_state_res.specs.KeptResolutions.{DifferAtKeys, IsAdded, events_checked, first_of, states_of};
 ghost use Rattle.mx_state_res.specs.Numbered.{AreKnown, state_at};
 ghost use Rattle.mx_state_res.specs.Resolution as definition;
 
@@ -37,12 +36,7 @@ pub(crate) fn added_event(
     requires known { AreKnown graph.now states.now }
     requires numbers { All (λ number. number < length states.now) kept.now.numbers.items }
     requires at_keys { DifferAtKeys graph.now (states_of states.now kept.now) (first_of states.now kept.now) kept.now }
-    ensures event { IfOk result (λ told. IfSome told (λ event.
-        (key : Key) × ((is_some (entry_at kept.now.differing key) ≡ true)
-        × ((s : State) × (IsOneMore graph.now (states_of states.now kept.now) s key event
-        × (state_at states.now newest ≡ put key_cmp key event s)))))) }
-    ensures new { IfOk result (λ told. IfSome told (λ event. is_in (events_checked kept.now.order.items) event ≡ false)) }
-    ensures known { IfOk result (λ told. IfSome told (λ event. event < length graph.now)) }
+    ensures { IfOk result (λ told. IfSome told (IsAdded graph.now states.now kept.now newest)) }
 {
     all_are_sorted(states, &kept.numbers);
     let mut left = kept.numbers.len();
@@ -73,12 +67,7 @@ fn event_beside(
     requires known { AreKnown graph.now states.now }
     requires numbers { All (λ number. number < length states.now) kept.now.numbers.items }
     requires at_keys { DifferAtKeys graph.now (states_of states.now kept.now) (first_of states.now kept.now) kept.now }
-    ensures event { IfOk result (λ told. IfSome told (λ event.
-        (key : Key) × ((is_some (entry_at kept.now.differing key) ≡ true)
-        × ((s : State) × (IsOneMore graph.now (states_of states.now kept.now) s key event
-        × (state_at states.now newest ≡ put key_cmp key event s)))))) }
-    ensures new { IfOk result (λ told. IfSome told (λ event. is_in (events_checked kept.now.order.items) event ≡ false)) }
-    ensures known { IfOk result (λ told. IfSome told (λ event. event < length graph.now)) }
+    ensures { IfOk result (λ told. IfSome told (IsAdded graph.now states.now kept.now newest)) }
 {
     states.state_is_sorted(newest);
     let differing = states.differing(alloc, &[number, newest])?;

@@ -1,7 +1,6 @@
 // One state more among those that were resolved.
 ghost use Rattle.std.specs.Prelude.{◌≡◌, ◌<◌, All, IfOk, IfSome, IsTrue, List, None, Some, false, length};
 ghost use Rattle.std.specs.Ordering.{is_eq};
-ghost use Rattle.std.specs.FinMap.Entries.{put};
 ghost use Rattle.mx_auth.specs.Rules.{Key, key_of};
 ghost use Rattle.mx_graph.specs.Record as record_of;
 ghost use Rattle.mx_graph.specs.Record.{Row};
@@ -58,7 +57,7 @@ pub(crate) fn resolve_one_more(
     Ok(Some(kept))
 }
 
-// What was resolved, with an event of which this becomes.
+// What was resolved, with an event of which this becomes. Where the newest state is that one, it is that.
 fn resolved_by(
     alloc: Global,
     graph: &Graph,
@@ -80,31 +79,9 @@ fn resolved_by(
         → AreAdded rows states.old states.new }
 {
     match outcome {
-        Outcome::Stays => resolved_with(alloc, graph, states, kept, newest, event),
-        Outcome::Refused | Outcome::Replaced => Ok(kept.resolved),
+        Outcome::Stays => {}
+        Outcome::Refused | Outcome::Replaced => return Ok(kept.resolved),
     }
-}
-
-// What was resolved, with an event at its key. Where the newest state is that one, it is that.
-fn resolved_with(
-    alloc: Global,
-    graph: &Graph,
-    states: &mut States,
-    kept: &KeptResolution,
-    newest: StateNo,
-    event: EventNo,
-) -> Result<StateNo, AllocError>
-    requires event { event < length graph.now }
-    requires newest { newest < length states.old }
-    requires below { kept.now.resolved < length states.old }
-    requires there { (key : Key) → key_of (record_of.event graph.now event) ≡ Some key
-        → entry_at (state_at states.old newest) key ≡ Some event }
-    ensures number { IfOk result (λ number. number < length states.new) }
-    ensures resolved { (key : Key) → key_of (record_of.event graph.now event) ≡ Some key → IfOk result (λ number.
-        state_at states.new number ≡ put key_cmp key event (state_at states.old kept.now.resolved)) }
-    ensures added { (rows : List Row) → event < length rows → AreKnown rows states.old
-        → AreAdded rows states.old states.new }
-{
     let row = &graph.row(event).event;
     let kind = row.kind();
     let Some(state_key) = row.state_key() else {

@@ -1,9 +1,9 @@
 // Snapshots as they are kept: whole maps, and changes to earlier ones.
-ghost use Rattle.std.specs.Prelude.{◌≡◌, ◌<◌, [], IfOk, OnOk, T, length, option_map};
+ghost use Rattle.std.specs.Prelude.{◌≡◌, ◌≤◌, ◌<◌, [], IfOk, OnOk, T, length, option_map};
 ghost use Rattle.std.specs.FinMap.Entries.{find, is_sorted};
 ghost use Rattle.std.specs.Ordering.{nat_cmp};
 ghost use Rattle.mx_state_res.specs.SnapshotEntries.{changed, snapshot};
-ghost use Rattle.mx_state_res.specs.SnapshotChains.{depth_of, step_of, IsSound, AllSound, meaning, meanings};
+ghost use Rattle.mx_state_res.specs.SnapshotChains.{left_of, step_of, IsSound, AllSound, meaning, meanings};
 
 use crate::snapshots::snapshot_edits::{change_at, change_entries, value_in};
 use crate::states::key_numbers::KeyNo;
@@ -11,8 +11,12 @@ use crate::states::state_numbers::StateNo;
 use mx_graph::EventNo;
 use std::alloc::{AllocError, Global};
 
-// At most so many deltas follow one another below a snapshot.
-pub(crate) const LONGEST_CHAIN: u8 = 63;
+// At most so many deltas follow one another below a snapshot, however large it is.
+const LONGEST_CHAIN: usize = 63;
+
+// And at most one for so many entries of the whole map, so that a whole map costs its entries' eight bytes eight times over
+// the states that it is made for.
+const ENTRIES_A_DELTA: usize = 8;
 
 #[derive(Debug, Drop)]
 pub(crate) enum Stored {
@@ -24,20 +28,29 @@ pub(crate) enum Stored {
         changes: Vec<(KeyNo, Option<EventNo>)>,
         entries: Vec<(KeyNo, EventNo)>,
     },
-    // Changes to an earlier snapshot, and how many deltas there are down to a whole map.
+    // Changes to an earlier snapshot, and how many deltas may follow until there is a whole map again.
     Delta {
         parent: StateNo,
-        depth: u8,
+        left: u8,
         changes: Vec<(KeyNo, Option<EventNo>)>,
     },
 }
 
-fn depth(stored: &Stored) -> u8
-    ensures { result ≡ depth_of stored.now }
+// How many deltas may follow a whole map.
+fn longest_chain(entries: &[(KeyNo, EventNo)]) -> u8
+    ensures { result ≤ 63 }
+{
+    (entries.len() / ENTRIES_A_DELTA).min(LONGEST_CHAIN) as u8
+}
+
+// How many deltas may follow a stored snapshot.
+fn left(stored: &Stored) -> u8
+    ensures { result ≤ left_of stored.now }
 {
     match stored {
-        Stored::Whole(_) | Stored::Rebuilt { .. } => 0,
-        Stored::Delta { depth, .. } => *depth,
+        Stored::Whole(entries) => longest_chain(entries),
+        Stored::Rebuilt { entries, .. } => longest_chain(entries),
+        Stored::Delta { left, .. } => *left,
     }
 }
 
@@ -110,7 +123,7 @@ pub(crate) fn entries_at(
     }
 }
 
-// What is to be stored next for a snapshot with changes: a delta, or a whole map where the chain is full.
+// What is to be stored next for a snapshot with changes: a delta, or a whole map where no delta may follow.
 pub(crate) fn with_changes(
     alloc: Global,
     stored: &[Stored],
@@ -124,11 +137,11 @@ pub(crate) fn with_changes(
         ≡ changed changes.items (snapshot (meanings [] stored.now) parent)) }
 {
     let place = parent.index();
-    let depth = depth(&stored[place]);
-    if depth < LONGEST_CHAIN {
+    let left = left(&stored[place]);
+    if left > 0 {
         return Ok(Stored::Delta {
             parent,
-            depth: depth + 1,
+            left: left - 1,
             changes,
         });
     }

@@ -25,8 +25,8 @@ differing-requires c =
 pub taking_its_place-requires-clause-number : goal.taking_its_place-requires-clause-number
 taking_its_place-requires-clause-number c = all-at (λ n. n < length c.args.states.now) c.args.kept.now.numbers.items c.requires.numbers c.args.number c.requires.among
 
-pub returns-clause-event : goal.returns-clause-event
-returns-clause-event c =
+pub returns : goal.returns
+returns c =
     let rows = c.args.graph.now in
     let states = c.args.states.now in
     let kept = c.args.kept.now in
@@ -42,29 +42,25 @@ returns-clause-event c =
     let among : is_some (entry kept.differing e.0) ≡ true = ap (λ k. is_some (entry kept.differing k)) (sym key_is) ∙ ap is_some (sym c.get.ensures) ∙ c.is_none.ensures ∙ ap not c.if-is_none.false in
     let sorted : (t : State) → In t ss → Sorted t = at-sorted (state_at states) numbers c.requires.sorted in
     let member : In s ss = in_map (state_at states) c.args.number numbers c.requires.among in
-    if-some _ _ c.taking_its_place.result (λ x h. (
-      e.0,
-      (
-        among,
-        (
-          s,
-          (
-            record {
-              sorted = sorted;
-              member = member;
-              in_conflict = at.apart e.0 among;
-              other = h.5.0;
-              there = h.5.1;
-              same_auth = h.5.2;
-              at_key = h.2;
-              known = h.0;
-              new = sym (order-members rows (agreed_line rows ss) (full_conflicted rows ss) (distinct-full rows ss) x) ∙ ap (λ ps. is_in ps x) (sym at.order) ∙ h.3;
-              no_power = h.4;
-              no_powers = at.no_powers;
-            },
-            put-over s (state_at states c.args.newest) e.0 x (sorted s member) c.state_is_sorted.ensures h.1
-                (λ q o. sym ((c.in_ok-differing.ensures q).0 (only-entry d e q first one o) 0 (state_at states c.args.newest) (omega arith))),
-          ),
-        ),
-      ),
-    )) c.taking_its_place.ensures
+    if-some _ _ c.taking_its_place.result (λ x h. record {
+      key = e.0;
+      there = among;
+      before = s;
+      one = record {
+        sorted = sorted;
+        member = member;
+        in_conflict = at.apart e.0 among;
+        other = h.5.0;
+        there = h.5.1;
+        same_auth = h.5.2;
+        at_key = h.2;
+        known = h.0;
+        new = sym (order-members rows (agreed_line rows ss) (full_conflicted rows ss) (distinct-full rows ss) x) ∙ ap (λ ps. is_in ps x) (sym at.order) ∙ h.3;
+        no_power = h.4;
+        no_powers = at.no_powers;
+      };
+      made = put-over s (state_at states c.args.newest) e.0 x (sorted s member) c.state_is_sorted.ensures h.1
+          (λ q o. sym ((c.in_ok-differing.ensures q).0 (only-entry d e q first one o) 0 (state_at states c.args.newest) (omega arith)));
+      new = h.3;
+      known = h.0;
+    }) c.taking_its_place.ensures

@@ -5,8 +5,8 @@ use Rattle.mx_auth.specs.Rules.{Key}
 use Rattle.mx_graph.proofs.Members.{In}
 use Rattle.mx_orders.specs.Mainline.{mainline_cmp, put_in_order}
 use Rattle.mx_orders.specs.StateMap.{State, entry, key_cmp}
-use Rattle.mx_state_res.specs.KeptResolutions.{IsOutcome, events_checked, states_of}
-use Rattle.mx_state_res.specs.LaterResolution.{IsOneMore, agreed_line}
+use Rattle.mx_state_res.specs.KeptResolutions.{IsAdded, IsOutcome, events_checked, states_of}
+use Rattle.mx_state_res.specs.LaterResolution.{agreed_line}
 use Rattle.mx_state_res.specs.Numbered.{state_at}
 use Rattle.mx_state_res.specs.Resolution.{iterative_auth_checks, unconflicted}
 use Rattle.mx_state_res.specs.declared.kept_resolutions.outcomes.Outcome.{Outcome}
@@ -23,10 +23,9 @@ resolved_by-requires-clause-there c =
     let states = c.args.states.now in
     let x = c.in-Some-2.event in
     λ key at.
-    let told : (k : Key) × ((is_some (entry c.args.kept.differing k) ≡ true) × ((s : State) × (IsOneMore rows (states_of states c.args.kept) s k x × (state_at states c.in-Some.newest.now ≡ put key_cmp k x s)))) =
-    subst (λ o. IfSome o (λ (event : ℕ). (k : Key) × ((is_some (entry c.args.kept.differing k) ≡ true) × ((s : State) × (IsOneMore rows (states_of states c.args.kept) s k event × (state_at states c.in-Some.newest.now ≡ put key_cmp k event s)))))) c.in-Some-2.is c.in_ok-event.ensures.event in
-    let same : told.0 ≡ key = cc (sym told.1.1.1.0.at_key ∙ at) in
-    ap (entry (state_at states c.in-Some.newest.now)) (sym same) ∙ ap (λ t. entry t told.0) told.1.1.1.1 ∙ put-there told.0 x told.1.1.0
+    let told : IsAdded rows states c.args.kept c.in-Some.newest.now x = subst (λ o. IfSome o (IsAdded rows states c.args.kept c.in-Some.newest.now)) c.in-Some-2.is c.in_ok-event.ensures in
+    let same : told.key ≡ key = cc (sym told.one.at_key ∙ at) in
+    ap (entry (state_at states c.in-Some.newest.now)) (sym same) ∙ ap (λ t. entry t told.key) told.made ∙ put-there told.key x told.before
 
 pub returns-clause-numbers : goal.returns-clause-numbers
 returns-clause-numbers c =
@@ -44,14 +43,13 @@ returns-clause-kept c =
     let newest = c.in-Some.newest.now in
     let events = events_checked kept.order.items in
     let below : newest < length states = all-at (λ n. n < length states) c.args.numbers.now c.requires.numbers newest (subst (In newest) (sym c.in-Some.ensures.cases.0) (to-back c.in-Some.before.now newest newest (inl refl))) in
-    let told : (k : Key) × ((is_some (entry kept.differing k) ≡ true) × ((s : State) × (IsOneMore rows ss s k x × (state_at states newest ≡ put key_cmp k x s)))) =
-    subst (λ o. IfSome o (λ (event : ℕ). (k : Key) × ((is_some (entry kept.differing k) ≡ true) × ((s : State) × (IsOneMore rows ss s k event × (state_at states newest ≡ put key_cmp k event s)))))) c.in-Some-2.is c.in_ok-event.ensures.event in
-    let key = told.0 in
-    let one = told.1.1.1.0 in
+    let told : IsAdded rows states kept newest x = subst (λ o. IfSome o (IsAdded rows states kept newest)) c.in-Some-2.is c.in_ok-event.ensures in
+    let key = told.key in
+    let one = told.one in
     let placed : put_in_order (mainline_cmp rows (agreed_line rows ss)) x events ≡ take c.in-Some-3.place events ++ (x ∷ drop c.in-Some-3.place events) =
     subst (λ o. IfSome o (λ (found : ℕ × Outcome). put_in_order (mainline_cmp rows (agreed_line rows ss)) x events ≡ take found.0 events ++ (x ∷ drop found.0 events))) c.in-Some-3.is c.in_ok-place.ensures.placed in
     let outcome : IsOutcome v rows key x (iterative_auth_checks v rows (unconflicted ss) (take c.in-Some-3.place events)) (drop c.in-Some-3.place events) c.in-Some-3.outcome =
     subst (λ o. IfSome o (λ (found : ℕ × Outcome). IsOutcome v rows key x (iterative_auth_checks v rows (unconflicted ss) (take found.0 events)) (drop found.0 events) found.1)) c.in-Some-3.is (c.in_ok-place.ensures.outcome key one.at_key) in
     let added = c.in_ok-resolved.ensures.added rows one.known c.requires.known in
-    kept-one-more v rows c.graph_is_sound.ensures states added.more c.resolved_by.new.states kept _ c.requires.kept newest key x told.1.1.0 c.requires.known below told.1.0 one told.1.1.1.1 c.in-Some-3.place placed c.in-Some-3.outcome outcome
+    kept-one-more v rows c.graph_is_sound.ensures states added.more c.resolved_by.new.states kept _ c.requires.kept newest key x told.before c.requires.known below told.there one told.made c.in-Some-3.place placed c.in-Some-3.outcome outcome
     (record { event = x; is_put = c.is_put-is_put.result }) refl c.is_put-is_put.ensures c.in_ok-push.ensures.items refl refl c.in_ok-insert.ensures.items added.are c.in_ok-resolved.ensures.number (c.in_ok-resolved.ensures.resolved key one.at_key)

@@ -19,7 +19,7 @@ pub returns-in_ok-change_entries-in-Delta : goal.returns-in_ok-change_entries-in
 returns-in_ok-change_entries-in-Delta t c =
     c.in_ok-change_entries-in-Delta.ensures ∙ ap (λ cs. changed cs c.in_ok-entries-in-Delta.entries.items) c.deref-in-Delta.ensures.value
     ∙ ap (changed c.in-Delta.changes.items) (c.in_ok-entries-in-Delta.ensures ∙ ap (snapshot (meanings [] c.args.stored.now)) c.index.ensures)
-    ∙ sym (delta_at c.args.stored.now c.args.place c.index-stored-place.result c.in-Delta.parent c.in-Delta.depth c.in-Delta.changes c.requires.sound c.requires.in_range c.index-stored-place.is c.in-Delta.is).meant
+    ∙ sym (delta_at c.args.stored.now c.args.place c.index-stored-place.result c.in-Delta.parent c.in-Delta.left c.in-Delta.changes c.requires.sound c.requires.in_range c.index-stored-place.is c.in-Delta.is).meant
 
 pub returns-in-Rebuilt : goal.returns-in-Rebuilt
 returns-in-Rebuilt t c =

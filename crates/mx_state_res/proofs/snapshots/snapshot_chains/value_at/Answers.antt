@@ -13,15 +13,15 @@ returns-in-Whole c =
 
 pub returns-in-Some : goal.returns-in-Some
 returns-in-Some c =
-    let here = delta_at c.args.stored.now c.loop-at.at c.index-stored-at.result c.in-Delta.parent c.in-Delta.depth c.in-Delta.changes c.requires.sound c.loop-at.invariant.in_range c.index-stored-at.is c.in-Delta.is in
+    let here = delta_at c.args.stored.now c.loop-at.at c.index-stored-at.result c.in-Delta.parent c.in-Delta.left c.in-Delta.changes c.requires.sound c.loop-at.invariant.in_range c.index-stored-at.is c.in-Delta.is in
     sym (found_in_delta c.args.key c.in-Delta.changes.items _ _ c.in-Some.value here.meant (c.in-Some.ensures ∙ ap (find nat_cmp c.args.key) c.deref-in-Delta.ensures.value)) ∙ c.loop-at.invariant.same
 
 pub loop-at-smaller : goal.loop-at-smaller
-loop-at-smaller c = subst (λ n. n < c.loop-at.at) (sym c.index-at.ensures) (delta_at c.args.stored.now c.loop-at.at c.index-stored-at.result c.in-Delta.parent c.in-Delta.depth c.in-Delta.changes c.requires.sound c.loop-at.invariant.in_range c.index-stored-at.is c.in-Delta.is).below
+loop-at-smaller c = subst (λ n. n < c.loop-at.at) (sym c.index-at.ensures) (delta_at c.args.stored.now c.loop-at.at c.index-stored-at.result c.in-Delta.parent c.in-Delta.left c.in-Delta.changes c.requires.sound c.loop-at.invariant.in_range c.index-stored-at.is c.in-Delta.is).below
 
 pub loop-at-preserved : goal.loop-at-preserved
 loop-at-preserved c =
-    let here = delta_at c.args.stored.now c.loop-at.at c.index-stored-at.result c.in-Delta.parent c.in-Delta.depth c.in-Delta.changes c.requires.sound c.loop-at.invariant.in_range c.index-stored-at.is c.in-Delta.is in
+    let here = delta_at c.args.stored.now c.loop-at.at c.index-stored-at.result c.in-Delta.parent c.in-Delta.left c.in-Delta.changes c.requires.sound c.loop-at.invariant.in_range c.index-stored-at.is c.in-Delta.is in
     record {
       in_range = omega (arith, here.below, c.index-at.ensures, c.loop-at.invariant.in_range);
       same = ap (λ n. find nat_cmp c.args.key (snapshot (meanings [] c.args.stored.now) n)) c.index-at.ensures ∙ sym (passed_by_delta c.args.key c.in-Delta.changes.items _ _ here.meant (c.in_default.ensures ∙ ap (find nat_cmp c.args.key) c.deref-in-Delta.ensures.value)) ∙ c.loop-at.invariant.same;
