@@ -34,7 +34,7 @@ returns-clause-resolved c =
     ap (λ (r : Row). key_of r.event) (sym c.row.ensures) ∙ row-key c.row.result.now.event c.kind-kind.result.now c.in-Some.state_key.now c.kind-kind.ensures c.in-Some.ensures in
     λ key at.
     let is : own ≡ key = cc (sym row_is ∙ at) in
-    subst (λ o. state_at c.with.new.states c.in_ok-number.number ≡ made_by o key c.args.event s) (sym c.in-Stays.is)
+    subst (λ o. state_at c.with.new.self c.in_ok-number.number ≡ made_by o key c.args.event s) (sym c.in-Stays.is)
     (ap₂ state_at c.in_ok-number.ensures.added c.in_ok-number.ensures.number ∙ last-added states (put key_cmp own c.args.event s) ∙ ap (λ k. put key_cmp k c.args.event s) is)
 
 pub returns-clause-added : goal.returns-clause-added
