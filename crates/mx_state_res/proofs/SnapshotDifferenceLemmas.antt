@@ -14,7 +14,7 @@ use Rattle.std.proofs.lemmas.List.Kept.{Contains-dedup_nat, Contains-from_dedup}
 use Rattle.std.proofs.lemmas.List.Sorted.{Contains-permutation, IsPermutation-sym}
 use lib.Dec.{eqb}
 use Rattle.mx_state_res.specs.SnapshotEntries.{AgreeAt, DifferAt, changed, snapshot}
-use Rattle.mx_state_res.proofs.SnapshotLemmas.{passed_by_delta}
+use Rattle.mx_state_res.proofs.StoredLemmas.{found_in_changes}
 
 -- what the keys gathered so far owe: where one and other agree at a key that is not among them, so do first and second
 pub record IsGathered (maps : List (List (ℕ × ℕ))) (first second one other : ℕ) (keys : List ℕ) : Type 0 where
@@ -92,7 +92,7 @@ gathered_delta maps first second one other later earlier parent cs keys g l e me
         → Contains (keys ++ keys_of cs) key ⊎ (AgreeAt key (snapshot maps earlier) (snapshot maps parent) → AgreeAt key (snapshot maps first) (snapshot maps second))
     by key (inl c) k = inl (Contains-append_left keys (keys_of cs) key c)
     by key (inr f) (inl c) = inl (Contains-append_right keys (keys_of cs) key c)
-    by key (inr f) (inr n) = inr (λ h. f (agree_either maps key one other later earlier l e (h ∙ sym (passed_by_delta key cs (snapshot maps later) (snapshot maps parent) meant n))))
+    by key (inr f) (inr n) = inr (λ h. f (agree_either maps key one other later earlier l e (h ∙ sym (found_in_changes key cs (snapshot maps later) (snapshot maps parent) meant n))))
 
 -- whole maps, with all their keys
 pub gathered_whole : (maps : List (List (ℕ × ℕ))) (first second one other later earlier : ℕ) (keys : List ℕ)

@@ -213,3 +213,33 @@ find-changed q [] s = refl
 find-changed q (c ∷ cs) s =
     find-change q c.0 c.1 (changed cs s) ∙ ap (λ r. cond (eq_by_cmp nat_cmp q c.0) c.1 r) (find-changed q cs s)
     ∙ sym (chosen (eq_by_cmp nat_cmp q c.0) c.1 (find nat_cmp q cs) (find nat_cmp q s))
+
+-- ---- for lists of entries at rising keys
+
+pub and-both : (a b : Bool) → T a → T b → T (a && b)
+and-both true b p q = q
+and-both false b p q = absurd p
+
+pub cmp-below : (k q : ℕ) → k < q → nat_cmp k q ≡ Less
+cmp-below k q l = by (nat_cmp k q) refl
+  where
+    by : (r : Ordering) → nat_cmp k q ≡ r → r ≡ Less
+    by Less e = refl
+    by Equal e = absurd (let same : k ≡ q = same_key k q e in omega arith)
+    by Greater e = absurd (apart k q l e)
+      where
+        apart : (a b : ℕ) → a < b → nat_cmp a b ≡ Greater → ⊥
+        apart a b l e = grind arith
+
+pub cmp-above : (q k : ℕ) → k < q → nat_cmp q k ≡ Greater
+cmp-above q k l = key_greater k q (cmp-below k q l)
+
+pub cmp-same : (q k : ℕ) → q ≡ k → nat_cmp q k ≡ Equal
+cmp-same q k e = subst (λ j. nat_cmp q j ≡ Equal) e (key_itself q)
+
+pub below-cons : (k : ℕ) (e : ℕ × ℕ) (s : List (ℕ × ℕ)) → nat_cmp k e.0 ≡ Less → T (below_all nat_cmp k s) → T (below_all nat_cmp k (e ∷ s))
+below-cons k e s l h = and-both _ _ (subst (λ r. T (is_lt r)) (sym l) tt) h
+
+pub find-above : (q : ℕ) (s : List (ℕ × ℕ)) → T (below_all nat_cmp q s) → find nat_cmp q s ≡ None
+find-above q [] h = refl
+find-above q (e ∷ s) h = find-less q e s (less _ (first _ _ h)) ∙ find-above q s (second _ _ h)

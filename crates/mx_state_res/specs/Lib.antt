@@ -6,7 +6,8 @@ pub mod Masks
 pub mod ChainDifference
 pub mod Numbered
 pub mod SnapshotEntries
-pub mod SnapshotChains
+pub mod KeyTrees
+pub mod StoredSnapshots
 pub mod MemberKeys
 pub mod MemberLists
 pub mod KeyNumbers

@@ -5,12 +5,16 @@ ghost use Rattle.std.specs.Ordering.{nat_cmp};
 ghost use Rattle.std.specs.List.Sorted.{IsStrictlyIncreasing};
 ghost use Rattle.mx_state_res.specs.SnapshotEntries.{DifferAt, changed, snapshot};
 
-mod snapshot_chains;
+mod key_trees;
 mod snapshot_differences;
 pub(crate) mod snapshot_edits;
+mod stored_snapshots;
 
-use crate::snapshots::snapshot_chains::{Stored, entries_at, value_at, with_changes};
+use crate::snapshots::key_trees::KeyTree;
 use crate::snapshots::snapshot_differences::differing_keys;
+use crate::snapshots::stored_snapshots::{
+    Stored, entries_at, event_of, push_changed, push_whole, trees_with,
+};
 use crate::states::key_numbers::KeyNo;
 use crate::states::state_numbers::StateNo;
 use mx_graph::EventNo;
@@ -21,18 +25,19 @@ use std::marker::Model;
 #[derive(Debug, Drop)]
 pub(crate) struct Snapshots {
     alloc: Global,
+    trees: Vec<KeyTree>,
     stored: Vec<Stored>,
 }
 
 impl Model for Snapshots {
     ghost use Rattle.std.specs.Prelude.{List, [], ℕ};
-    ghost use Rattle.mx_state_res.specs.SnapshotChains.{AllSound, meanings};
+    ghost use Rattle.mx_state_res.specs.StoredSnapshots.{AllSound, snapshots_of};
 
     ghost Value = { List (List (ℕ × ℕ)) };
 
-    ghost view = { λ table. meanings [] table.stored.items };
+    ghost view = { λ table. snapshots_of table.trees.items table.stored.items };
 
-    ghost invariant = { λ table. AllSound table.stored.items };
+    ghost invariant = { λ table. AllSound table.trees.items table.stored.items };
 }
 
 impl Snapshots {
@@ -42,6 +47,7 @@ impl Snapshots {
     {
         Snapshots {
             alloc,
+            trees: Vec::new(alloc),
             stored: Vec::new(alloc),
         }
     }
@@ -54,17 +60,14 @@ impl Snapshots {
     }
 
     // Adds a snapshot with these entries.
-    pub(crate) fn add_whole(
-        &mut self,
-        entries: Vec<(KeyNo, EventNo)>,
-    ) -> Result<StateNo, AllocError>
+    pub(crate) fn add_whole(&mut self, entries: Vec<(KeyNo, EventNo)>) -> Result<StateNo, AllocError>
         requires { T (is_sorted nat_cmp entries.items) }
         ensures number { IfOk result (λ n. n ≡ length self.old) }
         ensures added { OnOk result (self.new ≡ self.old ++ entries.items ∷ []) }
         ensures err { OnErr result (self.new ≡ self.old) }
     {
         let number = StateNo::at(self.stored.len());
-        self.stored.push(Stored::Whole(entries))?;
+        push_whole(&mut self.trees, &mut self.stored, &entries)?;
         Ok(number)
     }
 
@@ -97,8 +100,13 @@ impl Snapshots {
         ensures err { OnErr result (self.new ≡ self.old) }
     {
         let number = StateNo::at(self.stored.len());
-        let next = with_changes(self.alloc, &self.stored, parent, changes)?;
-        self.stored.push(next)?;
+        push_changed(
+            self.alloc,
+            &mut self.trees,
+            &mut self.stored,
+            parent,
+            changes,
+        )?;
         Ok(number)
     }
 
@@ -107,14 +115,15 @@ impl Snapshots {
         ensures { self.new ≡ take count self.old }
     {
         self.stored.truncate(count);
+        self.trees.truncate(trees_with(&self.stored));
     }
 
-    // The value at a key. It takes no memory, and follows at most 63 deltas.
+    // The value at a key. It takes no memory, and the time is logarithmic in the key's number.
     pub(crate) fn get(&self, number: StateNo, key: KeyNo) -> Option<EventNo>
         requires { number < length self.now }
         ensures { result ≡ find nat_cmp key (snapshot self.now number) }
     {
-        value_at(&self.stored, number.index(), key)
+        event_of(&self.trees, &self.stored, number.index(), key)
     }
 
     // All entries, in the order of their keys.
@@ -128,7 +137,7 @@ impl Snapshots {
         // Each key is there once.
         ensures sorted { IfOk result (λ entries. T (is_sorted nat_cmp entries.items)) }
     {
-        entries_at(alloc, &self.stored, number.index())
+        entries_at(alloc, &self.trees, &self.stored, number.index())
     }
 
     // The keys at which two snapshots differ, rising. It reads whole maps only where the two share none, or where so
@@ -146,6 +155,13 @@ impl Snapshots {
             ↔ DifferAt key (snapshot self.now first) (snapshot self.now second)) }
         ensures rising { IfOk result (λ keys. IsStrictlyIncreasing keys.items) }
     {
-        differing_keys(alloc, &self.stored, first.index(), second.index(), most)
+        differing_keys(
+            alloc,
+            &self.trees,
+            &self.stored,
+            first.index(),
+            second.index(),
+            most,
+        )
     }
 }

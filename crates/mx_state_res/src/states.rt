@@ -41,8 +41,8 @@ use std::marker::Model;
 
 /// A room's states by number. A state stays as it was added.
 ///
-/// The texts of a key are kept once. A state is kept as what it changes of an earlier one, by the numbers of its keys,
-/// and as a whole map too where 63 such changes would follow one another.
+/// The texts of a key are kept once. A state is kept as a tree of its events by the numbers of their keys, which shares
+/// with the tree of an earlier state what both have, and as what it changes of that one.
 ///
 /// Source: the Matrix specification, Server-Server API, "PDUs".
 #[derive(Debug, Drop)]

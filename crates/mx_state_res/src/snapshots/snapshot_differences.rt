@@ -3,9 +3,10 @@ ghost use Rattle.std.specs.Prelude.{◌≡◌, ◌<◌, ◌++◌, ◌↔◌, ◌
 ghost use Rattle.std.specs.List.Sorted.{IsStrictlyIncreasing};
 ghost use Rattle.std.specs.Map.{keys_of};
 ghost use Rattle.mx_state_res.specs.SnapshotEntries.{AgreeAt, DifferAt, snapshot};
-ghost use Rattle.mx_state_res.specs.SnapshotChains.{AllSound, meanings, step_of};
+ghost use Rattle.mx_state_res.specs.StoredSnapshots.{AllSound, snapshots_of, step_of};
 
-use crate::snapshots::snapshot_chains::{Stored, entries_at, step, value_at};
+use crate::snapshots::key_trees::KeyTree;
+use crate::snapshots::stored_snapshots::{Stored, entries_at, event_of, step};
 use crate::states::key_numbers::KeyNo;
 use mx_graph::EventNo;
 use std::alloc::{AllocError, Global};
@@ -34,16 +35,17 @@ fn step_if(stored: &Stored, goes_on: bool) -> Option<(usize, &[(KeyNo, Option<Ev
 // whole maps only where they share none, or where so many changes were met on the way.
 fn candidates(
     alloc: Global,
+    trees: &[KeyTree],
     stored: &[Stored],
     first: usize,
     second: usize,
     most: usize,
 ) -> Result<Vec<KeyNo>, AllocError>
-    requires sound { AllSound stored.now }
+    requires sound { AllSound trees.now stored.now }
     requires first_in_range { first < length stored.now }
     requires second_in_range { second < length stored.now }
     ensures { IfOk result (λ keys. (key : ℕ) → Contains keys.items key
-        ⊎ AgreeAt key (snapshot (meanings [] stored.now) first) (snapshot (meanings [] stored.now) second)) }
+        ⊎ AgreeAt key (snapshot (snapshots_of trees.now stored.now) first) (snapshot (snapshots_of trees.now stored.now) second)) }
 {
     let mut keys = Vec::new(alloc);
     let mut one = first;
@@ -53,9 +55,9 @@ fn candidates(
         let earlier = one.min(other);
         match step_if(&stored[later], keys.len() < most) {
             None => {
-                let entries = entries_at(alloc, stored, later)?;
+                let entries = entries_at(alloc, trees, stored, later)?;
                 push_keys(&mut keys, &entries)?;
-                let others = entries_at(alloc, stored, earlier)?;
+                let others = entries_at(alloc, trees, stored, earlier)?;
                 push_keys(&mut keys, &others)?;
                 return Ok(keys);
             }
@@ -69,14 +71,14 @@ fn candidates(
     Ok(keys)
 }
 
-fn differ_at(stored: &[Stored], first: usize, second: usize, key: KeyNo) -> bool
-    requires sound { AllSound stored.now }
+fn differ_at(trees: &[KeyTree], stored: &[Stored], first: usize, second: usize, key: KeyNo) -> bool
+    requires sound { AllSound trees.now stored.now }
     requires first_in_range { first < length stored.now }
     requires second_in_range { second < length stored.now }
     ensures { IsTrue result
-        ↔ DifferAt key (snapshot (meanings [] stored.now) first) (snapshot (meanings [] stored.now) second) }
+        ↔ DifferAt key (snapshot (snapshots_of trees.now stored.now) first) (snapshot (snapshots_of trees.now stored.now) second) }
 {
-    value_at(stored, first, key) != value_at(stored, second, key)
+    event_of(trees, stored, first, key) != event_of(trees, stored, second, key)
 }
 
 fn push_if(keys: &mut Vec<KeyNo>, key: KeyNo, wanted: bool) -> Result<(), AllocError>
@@ -91,20 +93,21 @@ fn push_if(keys: &mut Vec<KeyNo>, key: KeyNo, wanted: bool) -> Result<(), AllocE
 // Those of the candidates at which two snapshots differ.
 fn kept_keys(
     alloc: Global,
+    trees: &[KeyTree],
     stored: &[Stored],
     first: usize,
     second: usize,
     candidates: &[KeyNo],
 ) -> Result<Vec<KeyNo>, AllocError>
-    requires sound { AllSound stored.now }
+    requires sound { AllSound trees.now stored.now }
     requires first_in_range { first < length stored.now }
     requires second_in_range { second < length stored.now }
     ensures { IfOk result (λ keys. (key : ℕ) → Contains keys.items key ↔ (Contains candidates.now key
-        × DifferAt key (snapshot (meanings [] stored.now) first) (snapshot (meanings [] stored.now) second))) }
+        × DifferAt key (snapshot (snapshots_of trees.now stored.now) first) (snapshot (snapshots_of trees.now stored.now) second))) }
 {
     let mut keys = Vec::new(alloc);
     for &key in candidates {
-        let wanted = differ_at(stored, first, second, key);
+        let wanted = differ_at(trees, stored, first, second, key);
         push_if(&mut keys, key, wanted)?;
     }
     Ok(keys)
@@ -113,20 +116,21 @@ fn kept_keys(
 // The keys at which two snapshots differ, rising. It reads whole maps where so many changes lie between the two.
 pub(crate) fn differing_keys(
     alloc: Global,
+    trees: &[KeyTree],
     stored: &[Stored],
     first: usize,
     second: usize,
     most: usize,
 ) -> Result<Vec<KeyNo>, AllocError>
-    requires sound { AllSound stored.now }
+    requires sound { AllSound trees.now stored.now }
     requires first_in_range { first < length stored.now }
     requires second_in_range { second < length stored.now }
     ensures exact { IfOk result (λ keys. (key : ℕ) → Contains keys.items key
-        ↔ DifferAt key (snapshot (meanings [] stored.now) first) (snapshot (meanings [] stored.now) second)) }
+        ↔ DifferAt key (snapshot (snapshots_of trees.now stored.now) first) (snapshot (snapshots_of trees.now stored.now) second)) }
     ensures rising { IfOk result (λ keys. IsStrictlyIncreasing keys.items) }
 {
-    let candidates = candidates(alloc, stored, first, second, most)?;
-    let mut keys = kept_keys(alloc, stored, first, second, &candidates)?;
+    let candidates = candidates(alloc, trees, stored, first, second, most)?;
+    let mut keys = kept_keys(alloc, trees, stored, first, second, &candidates)?;
     keys.sort_unstable();
     keys.dedup();
     Ok(keys)

@@ -1,8 +1,8 @@
 // Reads and edits of one map: a `Vec` of entries whose keys rise.
-ghost use Rattle.std.specs.Prelude.{◌≡◌, IfErr, IfOk, OnErr, OnOk, T};
+ghost use Rattle.std.specs.Prelude.{◌≡◌, IfErr, IfOk, OnOk, T};
 ghost use Rattle.std.specs.FinMap.Entries.{find, is_sorted};
 ghost use Rattle.std.specs.Ordering.{nat_cmp};
-ghost use Rattle.mx_state_res.specs.SnapshotEntries.{change, changed, IsAt, IsGapFor};
+ghost use Rattle.mx_state_res.specs.SnapshotEntries.{change, IsAt, IsGapFor};
 
 use crate::states::key_numbers::KeyNo;
 use mx_graph::EventNo;
@@ -28,18 +28,6 @@ pub(crate) fn value_in(entries: &[(KeyNo, EventNo)], key: KeyNo) -> Option<Event
     }
 }
 
-// What the first change at a key gives: a value, or that the key goes.
-pub(crate) fn change_at(changes: &[(KeyNo, Option<EventNo>)], key: KeyNo) -> Option<Option<EventNo>>
-    ensures { result ≡ find nat_cmp key changes.now }
-{
-    for &(changed_key, value) in changes {
-        if changed_key == key {
-            return Some(value);
-        }
-    }
-    None
-}
-
 // Puts a value at a key, or takes the key out.
 pub(crate) fn change_entry(
     entries: &mut Vec<(KeyNo, EventNo)>,
@@ -61,23 +49,6 @@ pub(crate) fn change_entry(
                 entries.insert(place, (key, value))?;
             }
         }
-    }
-    Ok(())
-}
-
-// Makes all the changes. Where two are at one key, the first of them counts.
-pub(crate) fn change_entries(
-    entries: &mut Vec<(KeyNo, EventNo)>,
-    changes: &[(KeyNo, Option<EventNo>)],
-) -> Result<(), AllocError>
-    requires { T (is_sorted nat_cmp entries.old.items) }
-    ensures { OnOk result (entries.new.items ≡ changed changes.now entries.old.items) }
-{
-    let mut left = changes.len();
-    while left > 0 {
-        left -= 1;
-        let (key, value) = changes[left];
-        change_entry(entries, key, value)?;
     }
     Ok(())
 }

@@ -1,5 +1,5 @@
 // Numbers of keys.
-ghost use Rattle.std.specs.Prelude.{◌≡◌};
+ghost use Rattle.std.specs.Prelude.{◌≡◌, ◌<◌, ◌^◌};
 
 use std::marker::Model;
 
@@ -29,7 +29,8 @@ impl KeyNo {
 
     // Its place.
     pub(crate) fn index(self) -> usize
-        ensures { result ≡ self }
+        ensures index { result ≡ self }
+        ensures small { result < 2 ^ 32 }
     {
         self.place as usize
     }

@@ -1,5 +1,5 @@
-use Rattle.std.proofs.Common.{◌<◌, ◌+◌, length, []}
-use Rattle.mx_state_res.specs.SnapshotChains.{meanings}
+use Rattle.std.proofs.Common.{◌<◌, ◌+◌, length}
+use Rattle.mx_state_res.specs.StoredSnapshots.{snapshots_of}
 use Rattle.mx_state_res.proofs.SnapshotDifferenceLemmas.{IsGathered}
 use Rattle.mx_state_res.proofs.snapshots.snapshot_differences.candidates.Given as goal
 
@@ -7,7 +7,7 @@ abbrev pub invariant-loop-one : goal.invariant-loop-one
 invariant-loop-one l = record {
   one_in_range : l.one < length l.stored;
   other_in_range : l.other < length l.stored;
-  gathered : IsGathered (meanings [] l.stored) l.first l.second l.one l.other l.keys.items;
+  gathered : IsGathered (snapshots_of l.trees l.stored) l.first l.second l.one l.other l.keys.items;
 }
 
 abbrev pub decreases-loop-one : goal.decreases-loop-one

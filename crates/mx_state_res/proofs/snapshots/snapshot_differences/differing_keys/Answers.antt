@@ -1,4 +1,4 @@
-use Rattle.std.proofs.Common.{◌≡◌, ℕ, [], sym, subst}
+use Rattle.std.proofs.Common.{◌≡◌, ℕ, sym, subst}
 use Rattle.std.specs.Prelude.{Contains, ◌↔◌}
 use Rattle.std.specs.List.{dedup}
 use Rattle.std.specs.List.Sorted.{IsStrictlyIncreasing}
@@ -6,13 +6,13 @@ use Rattle.std.proofs.lemmas.List.Filters.{dedup_is}
 use Rattle.std.proofs.lemmas.Map.Keys.{IsStrictlyIncreasing-dedup}
 use lib.Dec.{eqb}
 use Rattle.mx_state_res.specs.SnapshotEntries.{DifferAt, snapshot}
-use Rattle.mx_state_res.specs.SnapshotChains.{meanings}
+use Rattle.mx_state_res.specs.StoredSnapshots.{snapshots_of}
 use Rattle.mx_state_res.proofs.SnapshotDifferenceLemmas.{kept_in_order, contained_where_differing}
 use Rattle.mx_state_res.proofs.snapshots.snapshot_differences.differing_keys.Goals as goal
 
 pub returns-clause-exact : goal.returns-clause-exact
 returns-clause-exact c =
-    let maps = meanings [] c.args.stored.now in
+    let maps = snapshots_of c.args.trees.now c.args.stored.now in
     let s = snapshot maps c.args.first in
     let t = snapshot maps c.args.second in
     let P : ℕ → Type 0 = λ key. DifferAt key s t in

@@ -1,13 +1,13 @@
 use Rattle.std.proofs.Common.{◌≡◌, ◌+◌, ℕ, take, [], ◌++◌, ◌∷◌, ap, sym, subst, ◌∙◌, arith}
 use Rattle.std.proofs.lemmas.List.{take_more, take_all}
 use Rattle.mx_state_res.specs.SnapshotEntries.{DifferAt, snapshot}
-use Rattle.mx_state_res.specs.SnapshotChains.{meanings}
+use Rattle.mx_state_res.specs.StoredSnapshots.{snapshots_of}
 use Rattle.mx_state_res.proofs.SnapshotDifferenceLemmas.{HasKept, kept_more}
 use Rattle.mx_state_res.proofs.snapshots.snapshot_differences.kept_keys.Goals as goal
 
 pub loop-key-preserved : goal.loop-key-preserved
 loop-key-preserved c =
-    let maps = meanings [] c.args.stored.now in
+    let maps = snapshots_of c.args.trees.now c.args.stored.now in
     let P : ℕ → Type 0 = λ key. DifferAt key (snapshot maps c.args.first) (snapshot maps c.args.second) in
     let all = c.args.candidates.now in
     let x = c.key-item.result in
@@ -17,6 +17,6 @@ loop-key-preserved c =
 
 pub returns : goal.returns
 returns c =
-    let maps = meanings [] c.args.stored.now in
+    let maps = snapshots_of c.args.trees.now c.args.stored.now in
     let P : ℕ → Type 0 = λ key. DifferAt key (snapshot maps c.args.first) (snapshot maps c.args.second) in
     (subst (λ s. HasKept P s c.loop-key.keys.items) (take_all c.loop-key.key-index c.args.candidates.now c.loop-key-test.false) c.loop-key.invariant).exact
