@@ -60,7 +60,10 @@ impl Snapshots {
     }
 
     // Adds a snapshot with these entries.
-    pub(crate) fn add_whole(&mut self, entries: Vec<(KeyNo, EventNo)>) -> Result<StateNo, AllocError>
+    pub(crate) fn add_whole(
+        &mut self,
+        entries: Vec<(KeyNo, EventNo)>,
+    ) -> Result<StateNo, AllocError>
         requires { T (is_sorted nat_cmp entries.items) }
         ensures number { IfOk result (λ n. n ≡ length self.old) }
         ensures added { OnOk result (self.new ≡ self.old ++ entries.items ∷ []) }
