@@ -3,7 +3,8 @@
 
     measure_serve.py rows [--program PATH] [--folder DIR] [--events 10000]
     measure_serve.py requests [--program PATH] [--folder DIR] [--seconds 5] [--constant PATH]
-    measure_serve.py shards [--program PATH] [--folder DIR] [--events 10000]
+    measure_serve.py shards [--program PATH] [--folder DIR] [--events 10000] [--slow-sync MICROSECONDS]
+    measure_serve.py files [--folder DIR]
     measure_serve.py senders [--program PATH] [--folder DIR] [--events 1000]
 
 `rows`: a transaction of 50 messages, beside sqlite3's own command line, which inserts the same rows in 50 transactions
@@ -11,9 +12,11 @@ with a write-ahead log and synchronous FULL; and how long the server takes to op
 same events. `requests`: requests a second by wrk, over 1 and 4 threads, and sends of one event; in a folder of /dev/shm
 the files are in memory. `--constant` names a program that takes a port and a number of threads, and gives each request
 one answer (benchmarks/constant_server.txt). `shards`: a transaction of 50 messages of four rooms, whose shard is one and the
-same, and whose shards are four. `senders`: messages to one room by one sender and by eight at once, one event to a
+same, and whose shards are four; with `--slow-sync` each sync of a file takes so much longer, as on a slower disk. `files`:
+rows by sqlite3 alone, each in a transaction of its own, in one file by one process, and in four by four at once: what the
+disk gains by four files. `senders`: messages to one room by one sender and by eight at once, one event to a
 transaction: events a second, and the server's processor time for each. It wants Debian's packages sqlite3 and wrk,
-`shards` and `senders` neither."""
+`shards` and `senders` neither, `files` sqlite3; `--slow-sync` wants gcc."""
 
 import argparse
 import http.client
@@ -64,12 +67,12 @@ def parts_of(log):
 
 
 class Server:
-    def __init__(self, program, data, *words, hosts=()):
+    def __init__(self, program, data, *words, hosts=(), environment=None):
         rooms = Path(data).with_suffix(".rooms")
         rooms.write_bytes(b"".join(hosts))
         start = time.monotonic()
         words = [program, "serve", "--name", "hub.example", "--data", data, "--port", "0", "--host", rooms, *words]
-        self.process = subprocess.Popen([str(word) for word in words], stdout=subprocess.PIPE)
+        self.process = subprocess.Popen([str(word) for word in words], stdout=subprocess.PIPE, env=environment)
         self.port = int(self.process.stdout.readline().rpartition(b":")[2])
         self.seconds = time.monotonic() - start
         self.connection = http.client.HTTPConnection("127.0.0.1", self.port)
@@ -143,12 +146,21 @@ def mixed_sends(events):
     return hosts, base, [(origin, str(number), body) for number, body in enumerate(bodies)]
 
 
+def slow_disk(folder, microseconds):
+    """The environment of a program whose syncs take so many microseconds longer."""
+    library = folder / "slow_sync.so"
+    subprocess.run(["gcc", "-shared", "-fPIC", "-O1", HERE / "slow_sync.c", "-o", library, "-ldl"], check=True)
+    return dict(os.environ, LD_PRELOAD=str(library), SLOW_SYNC=str(microseconds))
+
+
 def shards(options, folder):
     hosts, base, mixed = mixed_sends(options.events)
+    environment = slow_disk(folder, options.slow_sync) if options.slow_sync else None
     found = {1: [], 4: []}
     for run in range(5):
         for count, medians in found.items():
-            server = Server(options.program, folder / f"{run}-{count}", "--threads", "1", "--shards", str(count), hosts=hosts)
+            words = ["--threads", "1", "--shards", str(count)]
+            server = Server(options.program, folder / f"{run}-{count}", *words, hosts=hosts, environment=environment)
             for send in base:
                 server.send(*send)
             medians.append(statistics.median(server.send(*send) for send in mixed))
@@ -157,6 +169,29 @@ def shards(options, folder):
         told = ", ".join(f"{seconds * 1000:.1f}" for seconds in medians)
         print(f"50 messages of four rooms in {count} shards: {told} ms (medians of {len(mixed)} transactions)")
     print(f"four shards beside one: {statistics.median(found[4]) / statistics.median(found[1]):.2f}")
+
+
+def inserting(folder, name, count):
+    """sqlite3 at work on so many rows of 600 bytes, each in a transaction of its own."""
+    script = SETTINGS + "CREATE TABLE rows (place INTEGER PRIMARY KEY, event TEXT NOT NULL);\n"
+    script += "".join(f"INSERT INTO rows VALUES({place}, '{'x' * 600}');\n" for place in range(count))
+    (folder / f"{name}.sql").write_text(script)
+    with open(folder / f"{name}.sql") as inserts:
+        return subprocess.Popen(["sqlite3", folder / f"{name}.db"], stdin=inserts, stdout=subprocess.DEVNULL)
+
+
+def files(_options, folder):
+    found = {1: [], 4: []}
+    for run in range(5):
+        for count, seconds in found.items():
+            start = time.monotonic()
+            for process in [inserting(folder, f"{run}-{count}-{number}", 4000 // count) for number in range(count)]:
+                if process.wait() != 0:
+                    sys.exit("sqlite3 failed")
+            seconds.append(time.monotonic() - start)
+    for count, seconds in found.items():
+        print(f"50 rows in {count} files by sqlite3: {statistics.median(seconds) / 80 * 1000:.2f} ms (median of five times 4,000)")
+    print(f"four files beside one: {statistics.median(found[4]) / statistics.median(found[1]):.2f}")
 
 
 def processor_seconds(process):
@@ -271,15 +306,17 @@ def requests(options, folder):
 
 def main():
     parser = argparse.ArgumentParser(description=__doc__, formatter_class=argparse.RawDescriptionHelpFormatter)
-    parser.add_argument("what", choices=("rows", "requests", "shards", "senders"))
+    parser.add_argument("what", choices=("rows", "requests", "shards", "files", "senders"))
     parser.add_argument("--program", type=Path, default=PROGRAM)
     parser.add_argument("--folder", type=Path)
     parser.add_argument("--events", type=int, default=10_000)
     parser.add_argument("--seconds", type=int, default=5)
     parser.add_argument("--constant", type=Path)
+    parser.add_argument("--slow-sync", type=int)
     options = parser.parse_args()
     with tempfile.TemporaryDirectory(dir=options.folder) as folder:
-        {"rows": rows, "requests": requests, "shards": shards, "senders": senders}[options.what](options, Path(folder))
+        measures = {"rows": rows, "requests": requests, "shards": shards, "files": files, "senders": senders}
+        measures[options.what](options, Path(folder))
 
 
 main()

@@ -5,22 +5,14 @@
 //! states are. `migrate` brings such files to the current layout.
 #![tactic(auto)]
 
-mod auditing;
-mod checking;
 mod counted_input;
-mod output;
-mod replaying;
 
-use auditing::audit;
-use checking::check_event;
 use counted_input::CountedInput;
 use mx_command_line::{Command, CommandLineError};
+use mx_commands::{Failure, MISUSED, SUCCESS, audit, check, replay, report, report_server};
 use mx_directory::{ProgressLine, migrate};
 use mx_options::{AuditOptions, MigrateOptions, ServeOptions};
 use mx_server::serve;
-use mx_wire::read_all;
-use output::{Failure, MISUSED, SUCCESS, lines_of, report, report_server, write_to};
-use replaying::replay;
 use std::alloc::{AllocError, AllocGlobal, Global};
 use std::env;
 use std::io::{self, ErrorKind, Read, Write};
@@ -56,7 +48,7 @@ pub fn main_with<R: Read, W: Write, E: Write>(
     err: &mut E,
 ) -> Asked {
     match mx_command_line::parse(alloc, words) {
-        Ok(Command::Check) => Asked::Ended(status_of(check_input(alloc, input, out), err)),
+        Ok(Command::Check) => Asked::Ended(status_of(check(alloc, input, out), err)),
         Ok(Command::Replay { name, shards }) => {
             Asked::Ended(status_of(replay(alloc, &name, shards, input, out), err))
         }
@@ -77,23 +69,6 @@ fn status_of<E: Write>(ran: Result<(), Failure>, err: &mut E) -> u8 {
         Ok(()) => SUCCESS,
         Err(failure) => report(failure, err),
     }
-}
-
-// Checks the event that is read.
-fn check_input<R: Read, W: Write>(
-    alloc: Global,
-    input: &mut R,
-    out: &mut W,
-) -> Result<(), Failure> {
-    let bytes = read_all(alloc, input)?;
-    check(alloc, &bytes, out)
-}
-
-// Checks the event that the bytes hold.
-fn check<W: Write>(alloc: Global, bytes: &[u8], out: &mut W) -> Result<(), Failure> {
-    let checked = check_event(alloc, bytes)?;
-    let lines = lines_of(alloc, &checked)?;
-    write_to(out, &lines)
 }
 
 // The words of the command line, or the exit status where they can't be had: 2 where one is no UTF-8.

@@ -3,12 +3,12 @@ ghost use Rattle.std.specs.Prelude.{◌≡◌, ◌↔◌, IfOk};
 ghost use Rattle.std.specs.IoError.{error_kind};
 ghost use Rattle.mx_canon.specs.Canonical.{canonical_text};
 ghost use Rattle.mx_redact.specs.Hashes.{hash_holds};
-ghost use Rattle.mx_federd.specs.Lines.{check_lines};
+ghost use Rattle.mx_commands.specs.Lines.{check_lines};
 
 use crate::checking::{CheckError, Checked};
 use mx_directory::{ServerError, StartError};
 use mx_keeper::KeeperFault;
-use mx_wire::{InputError, LinesError};
+use mx_log::{InputError, LinesError};
 use std::alloc::{AllocError, Global};
 use std::io::{self, ErrorKind, Write};
 use thiserror::Error;
@@ -52,7 +52,7 @@ impl Failure {
     }
 
     /// Why what keeps rows did not give them.
-    pub fn of_keeper(fault: KeeperFault) -> Failure {
+    pub(crate) fn of_keeper(fault: KeeperFault) -> Failure {
         match fault {
             KeeperFault::Memory => Failure::Memory,
             KeeperFault::Store | KeeperFault::Table => Failure::Storage,
@@ -62,7 +62,7 @@ impl Failure {
 
 impl From<AllocError> for Failure {
     ghost use Rattle.std.specs.Prelude.{◌≡◌};
-    ghost use Rattle.mx_federd.specs.declared.output.Failure.TheVariants.{Memory};
+    ghost use Rattle.mx_commands.specs.declared.output.Failure.TheVariants.{Memory};
 
     ghost from_gives = { λ _ e. e ≡ Memory };
 
@@ -73,7 +73,7 @@ impl From<AllocError> for Failure {
 
 impl From<InputError> for Failure {
     ghost use Rattle.std.specs.Prelude.{◌≡◌};
-    ghost use Rattle.mx_federd.specs.Failures.{of_input};
+    ghost use Rattle.mx_commands.specs.Failures.{of_input};
 
     ghost from_gives = { λ error failure. failure ≡ of_input error };
 
@@ -87,7 +87,7 @@ impl From<InputError> for Failure {
 
 impl From<LinesError> for Failure {
     ghost use Rattle.std.specs.Prelude.{◌≡◌};
-    ghost use Rattle.mx_federd.specs.Failures.{of_lines};
+    ghost use Rattle.mx_commands.specs.Failures.{of_lines};
 
     ghost from_gives = { λ error failure. failure ≡ of_lines error };
 
@@ -102,7 +102,7 @@ impl From<LinesError> for Failure {
 
 impl From<CheckError> for Failure {
     ghost use Rattle.std.specs.Prelude.{◌≡◌};
-    ghost use Rattle.mx_federd.specs.declared.output.Failure.TheVariants as variants;
+    ghost use Rattle.mx_commands.specs.declared.output.Failure.TheVariants as variants;
 
     ghost from_gives = { λ error failure. failure ≡ variants.Check error };
 
@@ -161,12 +161,12 @@ pub fn lines_of(alloc: Global, checked: &Checked) -> Result<Vec<u8>, AllocError>
 }
 
 /// Writes all of the bytes.
-pub fn write_to<W: Write>(out: &mut W, bytes: &[u8]) -> Result<(), Failure> {
+pub(crate) fn write_to<W: Write>(out: &mut W, bytes: &[u8]) -> Result<(), Failure> {
     out.write_all(bytes).map_err(Failure::of_io)?;
     flushed(out)
 }
 
 /// Writes out what a writer holds back.
-pub fn flushed<W: Write>(out: &mut W) -> Result<(), Failure> {
+pub(crate) fn flushed<W: Write>(out: &mut W) -> Result<(), Failure> {
     out.flush().map_err(Failure::of_io)
 }

@@ -2,8 +2,8 @@
 -- What the refusals of a reading are to `check`.
 use Rattle.mx_canon.specs.declared.reading.ReadError.{ReadError}
 use Rattle.mx_canon.specs.declared.reading.ReadError.TheVariants as read
-use Rattle.mx_federd.specs.declared.checking.CheckError.{CheckError}
-use Rattle.mx_federd.specs.declared.checking.CheckError.TheVariants.{Memory, NotJson, NotCanonical}
+use Rattle.mx_commands.specs.declared.checking.CheckError.{CheckError}
+use Rattle.mx_commands.specs.declared.checking.CheckError.TheVariants.{Memory, NotJson, NotCanonical}
 
 abbrev pub of_reading : ReadError → CheckError
 of_reading read.Memory = Memory

@@ -2,13 +2,13 @@
 use crate::output::{Failure, flushed};
 use mx_ident::ServerName;
 use mx_keeper::ShardCount;
+use mx_log::run_lines;
 use mx_pdu::PresenceVerifier;
-use mx_wire::run_lines;
 use std::alloc::Global;
 use std::io::{BufWriter, Read, Write};
 
 /// Answers the log as a new server of this name, over so many shards.
-pub(crate) fn replay<R: Read, W: Write>(
+pub fn replay<R: Read, W: Write>(
     alloc: Global,
     name: &ServerName,
     shards: ShardCount,

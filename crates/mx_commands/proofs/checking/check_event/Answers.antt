@@ -1,6 +1,6 @@
 use Rattle.std.proofs.Common.{◌≡◌, Err, Some, ap, ◌∙◌}
 use Rattle.serde_json.specs.View.{view}
-use Rattle.mx_federd.proofs.checking.check_event.Goals as goal
+use Rattle.mx_commands.proofs.checking.check_event.Goals as goal
 
 pub returns-in-Err-NotAnEvent-clause-not_an_event : goal.returns-in-Err-NotAnEvent-clause-not_an_event
 returns-in-Err-NotAnEvent-clause-not_an_event c = λ cause e.

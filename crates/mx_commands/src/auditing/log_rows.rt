@@ -2,8 +2,8 @@
 use crate::output::Failure;
 use mx_ident::ServerName;
 use mx_keeper::{BookRow, Keeper, MemoryKeeper, ShardCount, ShardRow};
+use mx_log::server_after_log;
 use mx_pdu::PresenceVerifier;
-use mx_wire::server_after_log;
 use mx_world::World;
 use std::alloc::{AllocError, Global};
 use std::io::Read;

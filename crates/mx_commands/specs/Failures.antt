@@ -4,8 +4,8 @@ use Rattle.mx_log.specs.declared.input.InputError.{InputError}
 use Rattle.mx_log.specs.declared.input.InputError.TheVariants as input
 use Rattle.mx_log.specs.declared.logs.LinesError.{LinesError}
 use Rattle.mx_log.specs.declared.logs.LinesError.TheVariants as lines
-use Rattle.mx_federd.specs.declared.output.Failure.{Failure}
-use Rattle.mx_federd.specs.declared.output.Failure.TheVariants.{Memory, Storage, ReadOrWrite}
+use Rattle.mx_commands.specs.declared.output.Failure.{Failure}
+use Rattle.mx_commands.specs.declared.output.Failure.TheVariants.{Memory, Storage, ReadOrWrite}
 
 abbrev pub of_input : InputError → Failure
 of_input input.Memory = Memory

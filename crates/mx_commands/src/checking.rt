@@ -11,11 +11,14 @@ ghost use Rattle.mx_redact.specs.Hashes.{event_id};
 ghost use Rattle.mx_pdu.specs.Format.{format_error};
 ghost use Rattle.mx_pdu.specs.declared.refusals.NotAnEvent.{NotAnEvent as Malformed};
 
+use crate::output::{Failure, lines_of, write_to};
 use mx_canon::{NotCanonical, ReadError, read, text_of_canonical};
 use mx_ident::EventId;
+use mx_log::read_all;
 use mx_pdu::{NotAnEvent, Pdu, PduError};
 use serde_json::Value;
 use std::alloc::{AllocError, Global};
+use std::io::{Read, Write};
 use thiserror::Error;
 
 /// Why an event was not checked. Of several causes the first in this order is given.
@@ -32,7 +35,7 @@ pub enum CheckError {
 }
 
 impl From<ReadError> for CheckError {
-    ghost use Rattle.mx_federd.specs.CheckErrors.{of_reading};
+    ghost use Rattle.mx_commands.specs.CheckErrors.{of_reading};
 
     ghost from_gives = { λ cause e. e ≡ of_reading cause };
 
@@ -46,7 +49,7 @@ impl From<ReadError> for CheckError {
 }
 
 impl From<AllocError> for CheckError {
-    ghost use Rattle.mx_federd.specs.declared.checking.CheckError.TheVariants as variants;
+    ghost use Rattle.mx_commands.specs.declared.checking.CheckError.TheVariants as variants;
 
     ghost from_gives = { λ _ e. e ≡ variants.Memory };
 
@@ -60,6 +63,18 @@ impl From<AllocError> for CheckError {
 pub struct Checked {
     pub id: EventId,
     pub event: Pdu,
+}
+
+/// Reads one event from the input, and writes its three lines: its id, whether its content hash holds, and its canonical
+/// text.
+///
+/// `Check` as [`check_event`] refuses the event, `Memory` where none is left for what is read or written, and
+/// `ReadOrWrite` where a read or a write fails.
+pub fn check<R: Read, W: Write>(alloc: Global, input: &mut R, out: &mut W) -> Result<(), Failure> {
+    let bytes = read_all(alloc, input)?;
+    let checked = check_event(alloc, &bytes)?;
+    let lines = lines_of(alloc, &checked)?;
+    write_to(out, &lines)
 }
 
 /// Reads one event: its id, and the event, which tells whether its content hash holds, and its canonical text.
