@@ -12,7 +12,7 @@ with a write-ahead log and synchronous FULL; and how long the server takes to op
 same events. `requests`: requests a second by wrk, over 1 and 4 threads, and sends of one event; in a folder of /dev/shm
 the files are in memory. `--constant` names a program that takes a port and a number of threads, and gives each request
 one answer (benchmarks/constant_server.txt). `shards`: a transaction of 50 messages of four rooms, whose shard is one and the
-same, and whose shards are four; with `--slow-sync` each sync of a file takes so much longer, as on a slower disk. `files`:
+same, and whose shards are four; with `--slow-sync` a sleep follows each sync of a file, as if the disk were slower. `files`:
 rows by sqlite3 alone, each in a transaction of its own, in one file by one process, and in four by four at once: what the
 disk gains by four files. `senders`: messages to one room by one sender and by eight at once, one event to a
 transaction: events a second, and the server's processor time for each. It wants Debian's packages sqlite3 and wrk,
@@ -147,7 +147,7 @@ def mixed_sends(events):
 
 
 def slow_disk(folder, microseconds):
-    """The environment of a program whose syncs take so many microseconds longer."""
+    """The environment of a program in which a sleep of so many microseconds follows each sync."""
     library = folder / "slow_sync.so"
     subprocess.run(["gcc", "-shared", "-fPIC", "-O1", HERE / "slow_sync.c", "-o", library, "-ldl"], check=True)
     return dict(os.environ, LD_PRELOAD=str(library), SLOW_SYNC=str(microseconds))
@@ -185,12 +185,12 @@ def files(_options, folder):
     for run in range(5):
         for count, seconds in found.items():
             start = time.monotonic()
-            for process in [inserting(folder, f"{run}-{count}-{number}", 4000 // count) for number in range(count)]:
+            for process in [inserting(folder, f"{run}-{count}-{number}", 20_000 // count) for number in range(count)]:
                 if process.wait() != 0:
                     sys.exit("sqlite3 failed")
             seconds.append(time.monotonic() - start)
     for count, seconds in found.items():
-        print(f"50 rows in {count} files by sqlite3: {statistics.median(seconds) / 80 * 1000:.2f} ms (median of five times 4,000)")
+        print(f"50 rows in {count} files by sqlite3: {statistics.median(seconds) / 400 * 1000:.2f} ms (median of five times 20,000)")
     print(f"four files beside one: {statistics.median(found[4]) / statistics.median(found[1]):.2f}")
 
 

@@ -1,4 +1,4 @@
-/* A disk that takes longer: each call that brings a file to the disk returns SLOW_SYNC microseconds later than it would.
+/* A disk that takes longer: a sleep of SLOW_SYNC microseconds follows each call that brings a file to the disk.
    measure_serve.py compiles it and has it loaded before the program's libraries. */
 #define _GNU_SOURCE
 #include <dlfcn.h>
