@@ -20,7 +20,7 @@ pub enum ServerError {
     Storage,
     #[error("failed read or write")]
     ReadOrWrite,
-    // A thread can't be started.
+    // A thread can't be started, or has no event loop.
     #[error("thread")]
     Thread,
     // A line of the file of rooms hosts no room. Its answer was written.

@@ -121,7 +121,8 @@ where
 
 /// Answers the requests of all connections that come, side by side on one event loop, each until its client is done, goes
 /// away or is waited for too long, until no more will come. A request that did not come whole is not answered, and
-/// changes nothing. A body of more than `largest_body` bytes is refused by the responder.
+/// changes nothing. A body of more than `largest_body` bytes is refused by the responder. Once connections that come are
+/// served `has_begun` says so.
 ///
 /// Source: RFC 9112.
 pub fn serve_all<R, A>(
@@ -130,6 +131,7 @@ pub fn serve_all<R, A>(
     shared: SharedResponder<A>,
     largest_body: usize,
     patience: Patience,
+    has_begun: &AtomicBool,
 ) -> io::Result<()>
 where
     R: Wait + Clock + Eprint + Net + RandomSource + AllocGlobal + Copy + Drop,
@@ -143,5 +145,5 @@ where
         largest_body,
         patience,
     };
-    serve_each(&rt, arrivals, serving)
+    serve_each(&rt, arrivals, serving, has_begun)
 }

@@ -9,6 +9,7 @@ use std::io;
 use std::net::Net;
 use std::random::RandomSource;
 use std::sync::Wait;
+use std::sync::atomic::{AtomicBool, Ordering};
 use std::time::Clock;
 use tokio::runtime::{Handle, LocalRuntime};
 
@@ -80,8 +81,9 @@ where
     }
 }
 
-/// Serves all that come, side by side on one event loop, until no more will come and each has ended.
-pub fn serve_each<R, S, O>(rt: &R, arrivals: S, opener: O) -> io::Result<()>
+/// Serves all that come, side by side on one event loop, until no more will come and each has ended. Once there is an event
+/// loop `has_begun` says so; an error before that where none can be made, as where no descriptor is left.
+pub fn serve_each<R, S, O>(rt: &R, arrivals: S, opener: O, has_begun: &AtomicBool) -> io::Result<()>
 where
     R: Wait + Clock + Net + RandomSource + AllocGlobal,
     S: Stream,
@@ -92,6 +94,7 @@ where
 {
     let mut runtime = LocalRuntime::new(rt)?;
     let handle = runtime.handle().clone()?;
+    has_begun.store(true, Ordering::SeqCst);
     let served = Served {
         arrivals,
         opener,
