@@ -31,8 +31,8 @@ use std::time::Duration;
 /// `Storage` where a file of rows can't be opened or does not read, where one is missing beside one with rows, where
 /// there are more than are asked for, where replies call events kept that are in no file, unless that loss is accepted,
 /// and at the end of a server that was to end. `NotHosted` where a line hosts no room.
-/// `Thread` where a thread can't be started. `ReadOrWrite` where the directory can't be made, the file of rooms not read,
-/// the port not bound, or the line on `out` not written. `Memory` where no memory is left.
+/// `Thread` where a thread can't be started, or has no event loop. `ReadOrWrite` where the directory can't be made, the
+/// file of rooms not read, the port not bound, or the line on `out` not written. `Memory` where no memory is left.
 pub fn serve<R: ServerRuntime, W: Write, E: Write>(
     rt: &R,
     host: &HostRuntime,
