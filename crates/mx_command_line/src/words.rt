@@ -56,7 +56,7 @@ pub(crate) fn serve_words<'a>(alloc: Global) -> Result<clap::Command<'a>, AllocE
         "How many threads answer requests, 1 to 64",
     );
     let connections = number_word(alloc, "connections", "16", 1, 256).help(
-        "How many connections may be open, 1 to 256; one more takes the place of the one that has been idle longest, if that is five seconds or more, else it is closed unanswered",
+        "How many connections may be open, 1 to 256; one more takes the place of the one that has been idle longest, or else has waited longest for its client, if that is five seconds or more, else it is closed unanswered",
     );
     let host = Arg::new(alloc, "host")
         .long("host")

@@ -2,7 +2,7 @@
 use crate::bodies::{BodyError, WholeBody};
 use crate::endings::Ending;
 use crate::messages::{HttpReply, HttpRequest, Responder};
-use crate::stages::{SharedStage, Stage};
+use crate::stages::{SharedProgress, Stage};
 use bytes::Bytes;
 use futures::task::{Context, Poll};
 use futures::{Future, ready};
@@ -128,7 +128,7 @@ fn respond_by<R: Wait + Clock + Eprint, A: Responder>(
 #[derive(Drop)]
 struct Call<A> {
     shared: SharedResponder<A>,
-    stage: SharedStage,
+    progress: SharedProgress,
     request: HttpRequest,
     // Whether its body comes in a transfer coding other than `chunked`.
     has_other_coding: bool,
@@ -137,7 +137,7 @@ struct Call<A> {
 fn call_of<I, A: Drop>(
     alloc: Global,
     shared: &SharedResponder<A>,
-    stage: &SharedStage,
+    progress: &SharedProgress,
     request: &Request<Incoming<I>>,
 ) -> Result<Call<A>, AllocError> {
     let method = String::from_str(alloc, request.method().as_str())?;
@@ -154,7 +154,7 @@ fn call_of<I, A: Drop>(
     };
     Ok(Call {
         shared: shared.another()?,
-        stage: Rc::clone(stage)?,
+        progress: Rc::clone(progress)?,
         request: asked,
         has_other_coding: has_other_coding(request),
     })
@@ -234,7 +234,8 @@ fn answered<R: Wait + Clock + Eprint + Net, A: Responder>(
     requires { A.can_respond }
 {
     let call = call?;
-    call.stage.set(Stage::Reply);
+    call.progress.enter(Stage::Reply);
+    call.progress.note_answer();
     match body {
         Ok(body) => Ok(call.reply(rt, alloc, body)),
         Err(BodyError::TooLong) => Ok(call.refuse_body(rt, alloc)),
@@ -249,7 +250,7 @@ fn answered<R: Wait + Clock + Eprint + Net, A: Responder>(
 pub struct Answers<R, A> {
     pub rt: R,
     pub shared: SharedResponder<A>,
-    pub stage: SharedStage,
+    pub progress: SharedProgress,
     // How many bytes the body of a request may have.
     pub largest_body: usize,
 }
@@ -270,8 +271,8 @@ where
 
     fn call(&self, request: Request<Incoming<I>>) -> Self::Future {
         let alloc = self.rt.alloc();
-        self.stage.set(Stage::Body);
-        let call = call_of(alloc, &self.shared, &self.stage, &request);
+        self.progress.enter(Stage::Reply);
+        let call = call_of(alloc, &self.shared, &self.progress, &request);
         Answer {
             rt: self.rt,
             call: Some(call),
@@ -280,7 +281,8 @@ where
     }
 }
 
-/// The response to a request, once its body has come or not.
+/// The response to a request, once its body has come or not. Where its connection has answered another one in this turn, it
+/// waits for the next turn, so that all other connections have theirs before.
 #[derive(Drop)]
 pub struct Answer<R, A, F> {
     rt: R,
@@ -301,6 +303,12 @@ where
     ghost needs = { λ answer. F.needs answer.body };
 
     fn poll(&mut self, cx: &mut Context<'_>) -> Poll<Result<Response<Full<Bytes>>, Unanswered>> {
+        if let Some(Ok(call)) = &self.call {
+            if call.progress.has_answered() {
+                return cx.yield_now();
+            }
+            call.progress.enter(Stage::Body);
+        }
         let body = ready!(self.body.poll(cx));
         match self.call.take() {
             Some(call) => Poll::Ready(answered(&self.rt, self.rt.alloc(), call, body)),

@@ -4,14 +4,15 @@ use crate::guards::ConnectionGuard;
 use crate::making::{Opener, serve_alone, serve_each};
 use crate::messages::Responder;
 use crate::quiet::{Patience, Timed};
-use crate::stages::Stage;
+use crate::stages::{Progress, SharedProgress};
 use bytes::Bytes;
+use futures::Future;
+use futures::task::{Context, Poll};
 use http_body_util::Full;
 use hyper::rt::TokioTimer;
 use hyper::server;
 use hyper::server::conn::http1::Connection;
 use std::alloc::{AllocError, AllocGlobal};
-use std::cell::Cell;
 use std::hash::RandomState;
 use std::io;
 use std::net::Net;
@@ -41,6 +42,26 @@ impl Source for std::net::TcpStream {
     }
 }
 
+/// A connection that knows when its event loop gives it a turn.
+#[derive(Drop)]
+pub struct InTurns<C> {
+    connection: C,
+    progress: SharedProgress,
+}
+
+impl<C: Future> Future for InTurns<C> {
+    type Output = C::Output;
+
+    ghost can_poll = { λ turns. C.can_poll turns.connection };
+
+    ghost needs = { λ turns. C.needs turns.connection };
+
+    fn poll(&mut self, cx: &mut Context<'_>) -> Poll<C::Output> {
+        self.progress.begin_turn();
+        self.connection.poll(cx)
+    }
+}
+
 // Serves connections, each of whose requests go to one responder.
 #[derive(Drop)]
 struct Serving<R, A> {
@@ -60,7 +81,7 @@ where
     S: Source,
     A: Responder,
 {
-    type Served = Connection<Timed<S::Io, R>, Answers<R, A>, Full<Bytes>, TokioTimer<R>>;
+    type Served = InTurns<Connection<Timed<S::Io, R>, Answers<R, A>, Full<Bytes>, TokioTimer<R>>>;
 
     ghost can_open = { λ _. A.can_respond };
 
@@ -68,8 +89,8 @@ where
         let (source, guard) = arrival;
         let alloc = self.rt.alloc();
         let io = source.open(handle)?;
-        let stage = Rc::new(alloc, Cell::new(Stage::Idle)).map_err(AllocError::from)?;
-        let mine = Rc::clone(&stage)?;
+        let progress = Rc::new(alloc, Progress::new()).map_err(AllocError::from)?;
+        let mine = Rc::clone(&progress)?;
         let timed = Timed::new(io, self.rt, handle.time(), self.patience, mine, guard)?;
         let timer = TokioTimer::new(self.rt, handle.time().clone()?);
         let mut http = server::conn::http1::Builder::new(alloc, self.keys).timer(timer);
@@ -77,10 +98,13 @@ where
         let service = Answers {
             rt: self.rt,
             shared: self.shared.another()?,
-            stage,
+            progress: Rc::clone(&progress)?,
             largest_body: self.largest_body,
         };
-        Ok(http.serve_connection(timed, service))
+        Ok(InTurns {
+            connection: http.serve_connection(timed, service),
+            progress,
+        })
     }
 }
 

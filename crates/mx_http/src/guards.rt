@@ -1,6 +1,7 @@
 // What the thread that takes connections in and the one that serves one of them know of it together.
 ghost use Rattle.futures.specs.Task.{Keeps};
 
+use crate::stages::Stage;
 use futures::Future;
 use futures::task::{Context, Poll};
 use std::alloc::{AllocError, Global};
@@ -9,24 +10,53 @@ use std::sync::atomic::{AtomicU64, Ordering};
 use std::time::{Clock, Instant};
 use tokio::sync::oneshot;
 
-// The moment since which a connection is idle that is not idle.
+// The moment since which a connection waits that does not wait.
 const BUSY: u64 = u64::MAX;
+
+/// What a connection waits for.
+#[derive(Clone, Copy, Debug, PartialEq, Eq)]
+pub enum Waiting {
+    // That a request begins.
+    Idle,
+    // The rest of a request, or that its client reads a reply.
+    Slow,
+}
+
+// The moments since which a connection waits.
+#[derive(Drop)]
+struct Waits {
+    idle_since: AtomicU64,
+    slow_since: AtomicU64,
+}
+
+impl Waits {
+    // The moment since which it waits so.
+    fn since(&self, waiting: Waiting) -> &AtomicU64 {
+        match waiting {
+            Waiting::Idle => &self.idle_since,
+            Waiting::Slow => &self.slow_since,
+        }
+    }
+}
 
 /// The end of who takes connections in.
 #[derive(Drop)]
 pub struct ConnectionHandle {
-    idle_since: Arc<AtomicU64>,
-    end: oneshot::Sender<()>,
+    waits: Arc<Waits>,
+    end: oneshot::Sender<Waiting>,
 }
 
 /// The end of who serves the connection, which is open as long as there is this end.
 #[derive(Drop)]
 pub struct ConnectionGuard {
-    idle_since: Arc<AtomicU64>,
-    end: oneshot::Receiver<()>,
+    waits: Arc<Waits>,
+    end: oneshot::Receiver<Waiting>,
     // Whether the other end may still tell it to end.
     is_watched: bool,
-    is_idle: bool,
+    // As what it was told to end.
+    told: Option<Waiting>,
+    // The stage in which it waits.
+    waits_in: Option<Stage>,
     start: Instant,
 }
 
@@ -36,16 +66,21 @@ pub fn ends(
     start: Instant,
 ) -> Result<(ConnectionHandle, ConnectionGuard), AllocError> {
     let (tell, told) = oneshot::channel(alloc)?;
-    let idle_since = Arc::new(alloc, AtomicU64::new(BUSY))?;
+    let none = Waits {
+        idle_since: AtomicU64::new(BUSY),
+        slow_since: AtomicU64::new(BUSY),
+    };
+    let waits = Arc::new(alloc, none)?;
     let handle = ConnectionHandle {
-        idle_since: Arc::try_clone(&idle_since)?,
+        waits: Arc::try_clone(&waits)?,
         end: tell,
     };
     let guard = ConnectionGuard {
-        idle_since,
+        waits,
         end: told,
         is_watched: true,
-        is_idle: false,
+        told: None,
+        waits_in: None,
         start,
     };
     Ok((handle, guard))
@@ -64,9 +99,9 @@ impl ConnectionHandle {
         !self.end.is_closed()
     }
 
-    /// For how many milliseconds the connection has been idle; none where it is not.
-    pub fn idle_time(&self, now: u64) -> Option<u64> {
-        let since = self.idle_since.load(Ordering::SeqCst);
+    /// For how many milliseconds the connection has waited so; none where it does not.
+    pub fn time_in(&self, waiting: Waiting, now: u64) -> Option<u64> {
+        let since = self.waits.since(waiting).load(Ordering::SeqCst);
         if since == BUSY {
             None
         } else {
@@ -74,45 +109,57 @@ impl ConnectionHandle {
         }
     }
 
-    /// Tells the connection to end once it is idle.
-    pub fn close(self) {
+    /// Tells the connection to end: as an idle one once it is idle, as a slow one once it waits for its client.
+    pub fn close(self, waiting: Waiting) {
         let ConnectionHandle { end, .. } = self;
-        let _ = end.send(());
+        let _ = end.send(waiting);
+    }
+}
+
+// What a connection waits for in a stage.
+fn waiting_in(stage: Stage) -> Waiting {
+    match stage {
+        Stage::Idle => Waiting::Idle,
+        Stage::Head | Stage::Body | Stage::Reply => Waiting::Slow,
     }
 }
 
 impl ConnectionGuard {
-    /// The connection waits for a request.
-    pub fn begin_idle<C: Clock>(&mut self, clock: &C) {
-        if !self.is_idle {
-            self.is_idle = true;
-            self.idle_since
-                .store(moment(clock, self.start), Ordering::SeqCst);
+    /// The connection waits for its client, in this stage.
+    pub fn begin_wait<C: Clock>(&mut self, clock: &C, stage: Stage) {
+        if self.waits_in != Some(stage) {
+            self.end_wait();
+            self.waits_in = Some(stage);
+            let now = moment(clock, self.start);
+            self.waits
+                .since(waiting_in(stage))
+                .store(now, Ordering::SeqCst);
         }
     }
 
-    /// Something came, or a reply goes.
-    pub fn end_idle(&mut self) {
-        if self.is_idle {
-            self.is_idle = false;
-            self.idle_since.store(BUSY, Ordering::SeqCst);
+    /// A request begins, or a reply goes.
+    pub fn end_wait(&mut self) {
+        if let Some(stage) = self.waits_in.take() {
+            self.waits
+                .since(waiting_in(stage))
+                .store(BUSY, Ordering::SeqCst);
         }
     }
 
-    /// Ready once it is told to end.
+    /// Ready once it is told to end, and waits for its client: where it was told as an idle one, for a request to begin.
     pub fn poll_end(&mut self, cx: &mut Context<'_>) -> Poll<()>
         ensures { Keeps cx.old cx.new }
     {
-        if !self.is_watched {
-            return Poll::Pending;
-        }
-        match self.end.poll(cx) {
-            Poll::Ready(Ok(())) => Poll::Ready(()),
-            Poll::Ready(Err(_gone)) => {
+        if self.is_watched {
+            if let Poll::Ready(told) = self.end.poll(cx) {
                 self.is_watched = false;
-                Poll::Pending
+                self.told = told.ok();
             }
-            Poll::Pending => Poll::Pending,
+        }
+        match self.told {
+            Some(Waiting::Slow) => Poll::Ready(()),
+            Some(Waiting::Idle) if self.waits_in == Some(Stage::Idle) => Poll::Ready(()),
+            Some(Waiting::Idle) | None => Poll::Pending,
         }
     }
 }

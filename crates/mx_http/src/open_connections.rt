@@ -1,13 +1,13 @@
 // The connections that are open.
 ghost use Rattle.std.specs.Prelude.{◌≡◌, ◌+◌, ◌≤◌, ◌<◌, ◌↔◌, IsTrue, false, true};
 
-use crate::guards::ConnectionHandle;
+use crate::guards::{ConnectionHandle, Waiting};
 use std::alloc::Global;
 use std::marker::Model;
 use std::mem;
 
-// For how many milliseconds a connection has been idle that may be closed for another.
-const LEAST_IDLE: u64 = 5000;
+// For how many milliseconds a connection has waited for its client that may be closed for another.
+const LEAST_WAIT: u64 = 5000;
 
 // A connection that is open, and the number of the worker that serves it.
 #[derive(Drop)]
@@ -54,7 +54,7 @@ impl OpenConnections {
     }
 
     /// Makes room where as many are open as may be: tells the one to end that has been idle longest, if that is for five
-    /// seconds or more.
+    /// seconds or more, and else the one whose client has been waited for longest otherwise, if that is for as long.
     pub fn make_room(&mut self, now: u64)
         ensures fewer { self.new.0 ≤ self.old.0 }
         ensures most { self.new.1 ≡ self.old.1 }
@@ -62,11 +62,22 @@ impl OpenConnections {
         if self.taken.len() < self.most {
             return;
         }
-        if let Some(at) = longest_idle(self.taken.as_slice(), now) {
-            if at < self.taken.len() {
-                let OpenConnection { handle, .. } = self.taken.swap_remove(at);
-                handle.close();
-            }
+        let connections = self.taken.as_slice();
+        if let Some(at) = longest_in(Waiting::Idle, connections, now) {
+            self.close(at, Waiting::Idle);
+        } else if let Some(at) = longest_in(Waiting::Slow, connections, now) {
+            self.close(at, Waiting::Slow);
+        }
+    }
+
+    // Tells one to end.
+    fn close(&mut self, at: usize, waiting: Waiting)
+        ensures fewer { self.new.0 ≤ self.old.0 }
+        ensures most { self.new.1 ≡ self.old.1 }
+    {
+        if at < self.taken.len() {
+            let OpenConnection { handle, .. } = self.taken.swap_remove(at);
+            handle.close(waiting);
         }
     }
 
@@ -95,7 +106,7 @@ impl OpenConnections {
         let taken = mem::replace(&mut self.taken, Vec::new(alloc));
         for connection in taken {
             let OpenConnection { handle, .. } = connection;
-            handle.close();
+            handle.close(Waiting::Idle);
         }
     }
 
@@ -111,12 +122,12 @@ impl OpenConnections {
     }
 }
 
-// Which connection has been idle longest, where that is long enough.
-fn longest_idle(connections: &[OpenConnection], now: u64) -> Option<usize> {
+// Which connection has waited so for longest, where that is long enough.
+fn longest_in(waiting: Waiting, connections: &[OpenConnection], now: u64) -> Option<usize> {
     let mut best = None;
-    let mut longest = LEAST_IDLE;
+    let mut longest = LEAST_WAIT;
     for (at, connection) in connections.iter().enumerate() {
-        if let Some(time) = connection.handle.idle_time(now) {
+        if let Some(time) = connection.handle.time_in(waiting, now) {
             if time >= longest {
                 longest = time;
                 best = Some(at);
