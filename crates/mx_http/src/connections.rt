@@ -37,7 +37,10 @@ pub trait Source: Drop {
 impl Source for std::net::TcpStream {
     type Io = TcpStream;
 
+    // Each reply goes at once: without this the second one of two requests that came together would wait until the first one
+    // is acknowledged, up to 40 milliseconds.
     fn open(self, handle: &Handle) -> io::Result<TcpStream> {
+        let _ = self.set_nodelay(true);
         TcpStream::from_std(self, handle.reactor())
     }
 }
