@@ -36,10 +36,10 @@ class Refused(Exception):
 class Server:
     """A running server over a directory."""
 
-    def __init__(self, data, *words, hosts=(), **how):
+    def __init__(self, data, *words, hosts=(), port=0, **how):
         rooms = Path(data).with_suffix(".rooms")
         rooms.write_bytes(b"".join(line + b"\n" for line in hosts))
-        words = [PROGRAM, "serve", "--name", NAME, "--data", data, "--port", "0", "--host", rooms, *words]
+        words = [PROGRAM, "serve", "--name", NAME, "--data", data, "--port", port, "--host", rooms, *words]
         self.process = subprocess.Popen([str(word) for word in words], stdin=subprocess.DEVNULL,
                                         stdout=subprocess.PIPE, stderr=subprocess.PIPE, **how)
         told = self.process.stdout.readline()
