@@ -1,11 +1,13 @@
 // What the words of the command line ask for.
-use crate::words::{audit_words, check_words, migrate_words, replay_words, serve_words};
+use crate::words::{
+    audit_words, check_words, log_words, migrate_words, replay_words, serve_words,
+};
 use clap::error::ErrorKind;
 use clap::{ArgMatches, Error};
 use mx_ident::{EventId, IdError, RoomId, ServerName};
 use mx_keeper::ShardCount;
 use mx_options::{
-    AuditOptions, AuditQuestion, AuditSource, MigrateOptions, SeatCount, ServeOptions,
+    AuditOptions, AuditQuestion, AuditSource, LogOptions, MigrateOptions, SeatCount, ServeOptions,
 };
 use std::alloc::{AllocError, Global};
 
@@ -25,6 +27,8 @@ pub enum Command {
     Audit(AuditOptions),
     // To bring the files of a directory to the current layout.
     Migrate(MigrateOptions),
+    // Events from standard input, to a log of them.
+    Log(LogOptions),
 }
 
 /// Why the words ask for nothing.
@@ -61,7 +65,8 @@ pub fn parse(alloc: Global, words: &[String]) -> Result<Command, CommandLineErro
         .subcommand(replay_words(alloc)?)?
         .subcommand(serve_words(alloc)?)?
         .subcommand(audit_words(alloc)?)?
-        .subcommand(migrate_words(alloc)?)?;
+        .subcommand(migrate_words(alloc)?)?
+        .subcommand(log_words(alloc)?)?;
     match program.try_get_matches_from(words) {
         Ok(matches) => chosen(alloc, &matches),
         Err(error) if error.kind() == ErrorKind::OutOfMemory => Err(CommandLineError::Memory),
@@ -76,6 +81,7 @@ fn chosen(alloc: Global, matches: &ArgMatches) -> Result<Command, CommandLineErr
         Some(("serve", given)) => serve_of(alloc, given),
         Some(("audit", given)) => audit_of(alloc, given),
         Some(("migrate", given)) => migrate_of(alloc, given),
+        Some(("log", given)) => log_options_of(alloc, given),
         _ => misused(alloc, "no subcommand\n"),
     }
 }
@@ -135,6 +141,23 @@ fn migrate_of(alloc: Global, given: &ArgMatches) -> Result<Command, CommandLineE
         Some(data) if !data.is_empty() => Ok(Command::Migrate(MigrateOptions { data, shards })),
         _ => misused(alloc, "the directory has no name\n"),
     }
+}
+
+// `log`, where the room is a room id and the origin a server name, if they are told.
+fn log_options_of(alloc: Global, given: &ArgMatches) -> Result<Command, CommandLineError> {
+    let room = room_of(alloc, given)?;
+    if room.is_none() && given.get_str("room").is_some() {
+        return misused(alloc, "the room is no room id\n");
+    }
+    let origin = server_of(alloc, given, "origin")?;
+    if origin.is_none() && given.get_str("origin").is_some() {
+        return misused(alloc, "the origin is no server name\n");
+    }
+    Ok(Command::Log(LogOptions {
+        room,
+        origin,
+        shows_missing: given.get_flag("missing"),
+    }))
 }
 
 fn room_of(alloc: Global, given: &ArgMatches) -> Result<Option<RoomId>, CommandLineError> {
@@ -264,7 +287,16 @@ fn text_of(alloc: Global, given: &ArgMatches, word: &str) -> Result<Option<Strin
 
 // The name, where it is a server name.
 fn name_of(alloc: Global, given: &ArgMatches) -> Result<Option<ServerName>, CommandLineError> {
-    let Some(name) = given.get_str("name") else {
+    server_of(alloc, given, "name")
+}
+
+// The server name at a word, where it is one.
+fn server_of(
+    alloc: Global,
+    given: &ArgMatches,
+    word: &str,
+) -> Result<Option<ServerName>, CommandLineError> {
+    let Some(name) = given.get_str(word) else {
         return Ok(None);
     };
     match ServerName::parse(alloc, name) {

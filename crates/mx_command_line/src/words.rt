@@ -112,6 +112,23 @@ pub(crate) fn audit_words<'a>(alloc: Global) -> Result<clap::Command<'a>, AllocE
         .arg(flag_word(alloc, "dot").help("The room as a graph for Graphviz"))
 }
 
+pub(crate) fn log_words<'a>(alloc: Global) -> Result<clap::Command<'a>, AllocError> {
+    let room = text_word(alloc, "room").help("The id of the room, where the events are of several");
+    let origin = text_word(alloc, "origin").help(
+        "The server that sends the transactions of the log; the usual one is that of the create event's sender",
+    );
+    let missing = flag_word(alloc, "missing").help(
+        "Tell all ids that are cited and not there, and not the first ten alone",
+    );
+    clap::Command::new(alloc, "log")
+        .about(
+            "Reads events of a room as other servers export them from standard input, in any order, and prints a log of them",
+        )
+        .arg(room)?
+        .arg(origin)?
+        .arg(missing)
+}
+
 pub(crate) fn migrate_words<'a>(alloc: Global) -> Result<clap::Command<'a>, AllocError> {
     let data = text_word(alloc, "data")
         .required(true)

@@ -37,6 +37,12 @@ pub enum Failure {
     NoRoom,
     #[error("refused: no such event")]
     NoEvent,
+    #[error("refused: no events")]
+    NoEvents,
+    #[error("refused: several rooms, of which --room names one")]
+    SeveralRooms,
+    #[error("refused: no create event")]
+    NoCreateEvent,
 }
 
 impl Failure {

@@ -1,6 +1,6 @@
 -- The order in which the events of a log stand (our own): the next is the first of those left that cites none that is
 -- left.
-use Rattle.std.specs.Prelude.{ℕ, zero, suc, Bool, not, List, [], ◌∷◌, Option, Some, None, if◌then◌else◌, option_map, unwrap_or}
+use Rattle.std.specs.Prelude.{ℕ, zero, suc, Bool, true, not, ◌&&◌, List, [], ◌∷◌, ◌++◌, Option, Some, None, if◌then◌else◌, option_map, unwrap_or}
 use Rattle.std.specs.List.{list_any}
 
 -- the first element that passes a test, and the list without it
@@ -25,3 +25,8 @@ arranged cites (suc n) left = unwrap_or (option_map (λ r. r.0 ∷ arranged cite
 abbrev pub unarranged : {A : Type 0} → (A → A → Bool) → ℕ → List A → List A
 unarranged cites zero left = left
 unarranged cites (suc n) left = unwrap_or (option_map (λ r. unarranged cites n r.1) (next cites left)) left
+
+-- each of these cites neither itself nor one after it, nor one of the rest
+abbrev pub follow_cited : {A : Type 0} → (A → A → Bool) → List A → List A → Bool
+follow_cited cites [] rest = true
+follow_cited cites (x ∷ xs) rest = not (list_any (cites x) (x ∷ (xs ++ rest))) && follow_cited cites xs rest

@@ -1,2 +1,5 @@
 pub mod Arrangement
 pub mod Arranging
+pub mod RoomEvents
+pub mod Collecting
+pub mod RoomLogs

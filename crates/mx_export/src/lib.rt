@@ -1,4 +1,22 @@
-//! Events of a room, as other servers export them, as a log.
+//! Events of rooms, as other servers export them, and the logs that put them to a server.
 #![tactic(auto)]
 
 mod arranging;
+mod collecting;
+mod exporting;
+mod finding;
+mod laws;
+mod logging;
+mod missing;
+mod ordering;
+mod rooms;
+mod writing;
+
+pub use exporting::{Input, RefusedEvent, read_input};
+pub use laws::{
+    cited_events_come_first, each_event_has_one_place, events_in_order_stay,
+    left_out_events_cite_in_circles,
+};
+pub use logging::{LogError, RoomLog, log_of_room};
+pub use missing::Missing;
+pub use rooms::{FoundRoom, rooms_of};

@@ -2,14 +2,15 @@
 //! whether its content hash holds, and its canonical text. `replay` reads a log of steps and of other servers' requests
 //! from standard input and prints what a server answers to each. `serve` answers such requests on loopback, and keeps its
 //! rows in files. `audit` tells of a room, of a log or of such files, why its events were accepted or refused, and what its
-//! states are. `migrate` brings such files to the current layout.
+//! states are. `migrate` brings such files to the current layout. `log` reads events as other servers export them, and prints a
+//! log of one room.
 #![tactic(auto)]
 
 mod counted_input;
 
 use counted_input::CountedInput;
 use mx_command_line::{Command, CommandLineError};
-use mx_commands::{Failure, MISUSED, SUCCESS, audit, check, replay, report, report_server};
+use mx_commands::{Failure, MISUSED, SUCCESS, audit, check, log, replay, report, report_server};
 use mx_directory::{ProgressLine, migrate};
 use mx_options::{AuditOptions, MigrateOptions, ServeOptions};
 use mx_server::serve;
@@ -55,6 +56,10 @@ pub fn main_with<R: Read, W: Write, E: Write>(
         Ok(Command::Serve(options)) => Asked::Serve(options),
         Ok(Command::Audit(options)) => Asked::Audit(options),
         Ok(Command::Migrate(options)) => Asked::Migrate(options),
+        Ok(Command::Log(options)) => {
+            let ran = log(alloc, &options, input, out, err);
+            Asked::Ended(status_of(ran, err))
+        }
         Err(CommandLineError::Memory) => Asked::Ended(report(Failure::Memory, err)),
         Err(CommandLineError::Misused(text)) => {
             let _ = err.write_all(text.as_bytes());

@@ -2,9 +2,11 @@
 #![tactic(auto)]
 
 mod auditing;
+mod logging;
 mod migrating;
 mod serving;
 
 pub use auditing::{AuditOptions, AuditQuestion, AuditSource};
+pub use logging::LogOptions;
 pub use migrating::MigrateOptions;
 pub use serving::{SeatCount, ServeOptions};
