@@ -8,7 +8,6 @@ use mx_log::read_all;
 use mx_options::LogOptions;
 use std::alloc::{AllocError, Global};
 use std::collections::BTreeMap;
-use std::fmt::Write as _;
 use std::io::{Read, Write};
 
 // How many of many things are told.
