@@ -1,7 +1,5 @@
 // What the words of the command line ask for.
-use crate::words::{
-    audit_words, check_words, log_words, migrate_words, replay_words, serve_words,
-};
+use crate::words::{audit_words, check_words, log_words, migrate_words, replay_words, serve_words};
 use clap::error::ErrorKind;
 use clap::{ArgMatches, Error};
 use mx_ident::{EventId, IdError, RoomId, ServerName};

@@ -1,8 +1,6 @@
 // `log`: events as other servers export them, to a log of one room.
 use crate::output::{Failure, write_to};
-use mx_export::{
-    FoundRoom, Input, LogError, Missing, RoomLog, log_of_room, read_input, rooms_of,
-};
+use mx_export::{FoundRoom, Input, LogError, Missing, RoomLog, log_of_room, read_input, rooms_of};
 use mx_ident::RoomId;
 use mx_log::read_all;
 use mx_options::LogOptions;
@@ -37,7 +35,10 @@ pub fn log<R: Read, W: Write, E: Write>(
         Err(LogError::NoCreateEvent) => return Err(Failure::NoCreateEvent),
     };
     say(err, &told_log(alloc, room, &log)?);
-    say(err, &told_missing(alloc, &log.missing, options.shows_missing)?);
+    say(
+        err,
+        &told_missing(alloc, &log.missing, options.shows_missing)?,
+    );
     write_to(out, &log.text)
 }
 
@@ -106,10 +107,7 @@ fn tell_rest(text: &mut String, what: &str, count: usize) -> Result<(), AllocErr
 }
 
 // Of which rooms events were read, and which of them can't be hosted.
-fn told_rooms(
-    alloc: Global,
-    rooms: &BTreeMap<RoomId, FoundRoom>,
-) -> Result<String, AllocError> {
+fn told_rooms(alloc: Global, rooms: &BTreeMap<RoomId, FoundRoom>) -> Result<String, AllocError> {
     let mut text = String::new(alloc);
     for (id, room) in rooms.iter() {
         let events = room.events;
@@ -139,7 +137,10 @@ fn told_log(alloc: Global, room: &RoomId, log: &RoomLog) -> Result<String, Alloc
     writeln!(text, "log of {room} events {events}, came again {again}")?;
     if log.circular > 0 {
         let circular = log.circular;
-        writeln!(text, "left out {circular} that cite one another in a circle")?;
+        writeln!(
+            text,
+            "left out {circular} that cite one another in a circle"
+        )?;
     }
     Ok(text)
 }
@@ -152,7 +153,10 @@ fn told_missing(alloc: Global, missing: &Missing, all: bool) -> Result<String, A
     }
     let ids = missing.ids.len();
     let citing = missing.citing;
-    writeln!(text, "partial history: {citing} events cite {ids} that are not there")?;
+    writeln!(
+        text,
+        "partial history: {citing} events cite {ids} that are not there"
+    )?;
     let most = if all { ids } else { MOST_TOLD };
     for id in missing.ids.iter().take(most) {
         writeln!(text, "missing {id}")?;

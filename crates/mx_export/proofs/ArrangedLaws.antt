@@ -100,7 +100,7 @@ module _ {B : Type 0} (d : B) where
   at-places before (x ∷ xs) k e =
       ap (λ y. y ∷ map (λ p. slice_index_or (before ++ x ∷ xs) p d) (range_with_len (k + 1) (length xs))) (ap (λ i. slice_index_or (before ++ x ∷ xs) i d) (sym e) ∙ get_or-append_seam before x xs d)
       ∙ ap (λ ys. x ∷ ys)
-          (ap (λ (zs : List B). map (λ p. slice_index_or zs p d) (range_with_len (k + 1) (length xs))) (sym (append_assoc before (x ∷ []) xs)) ∙ at-places (before ++ x ∷ []) xs (k + 1) (length-append before (x ∷ []) ∙ ap (λ n. n + 1) e))
+      (ap (λ (zs : List B). map (λ p. slice_index_or zs p d) (range_with_len (k + 1) (length xs))) (sym (append_assoc before (x ∷ []) xs)) ∙ at-places (before ++ x ∷ []) xs (k + 1) (length-append before (x ∷ []) ∙ ap (λ n. n + 1) e))
 
   pub at-all-places : (xs : List B) → map (λ p. slice_index_or xs p d) (range_with_len 0 (length xs)) ≡ xs
   at-all-places xs = at-places [] xs 0 refl

@@ -164,7 +164,7 @@ module _ (lists : Lists) (a p : ℕ) (w : Vec ℕ Global) (within : a < length l
           let same : a ≡ b = eqb-true a b k in
           subst (λ i. is_in (listed (set lists a w) i) q ≡ true) same
           (ap (λ xs. is_in xs q) (listed-set_same lists a w within ∙ grown) ∙ in-push (listed lists a) p q
-              ∙ ap (λ r. r || (p == q)) (subst (λ i. is_in (listed lists i) q ≡ true) (sym same) h))
+          ∙ ap (λ r. r || (p == q)) (subst (λ i. is_in (listed lists i) q ≡ true) (sym same) h))
       by false k = ap (λ xs. is_in xs q) (listed-set_other lists a b w (λ e. absurd (cc (sym (eq-eqb a b e) ∙ k)))) ∙ h
 
   pub push-cases : (q b : ℕ) → is_in (listed (set lists a w) b) q ≡ true → ((q ≡ p) × (b ≡ a)) ⊎ (is_in (listed lists b) q ≡ true)

@@ -115,11 +115,7 @@ fn settle_all(
 }
 
 // This place, which is left, is ready, or waits for one that it cites.
-fn settle(
-    arranging: &mut Arranging,
-    cited: &[Vec<usize>],
-    place: usize,
-) -> Result<(), AllocError>
+fn settle(arranging: &mut Arranging, cited: &[Vec<usize>], place: usize) -> Result<(), AllocError>
     requires sound { IsSound cited.now arranging.old }
     requires left { is_left arranging.old.written.items place ≡ true }
     ensures sound { OnOk result (IsSound cited.now arranging.new) }

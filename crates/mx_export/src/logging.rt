@@ -106,5 +106,8 @@ fn text_by(
 fn count_of_room(room: &RoomId, events: &[Pdu]) -> usize
     ensures { result ≡ length (filter (is_in_room room.now) events.now) }
 {
-    events.iter().filter(|event| event.room_id() == room).count()
+    events
+        .iter()
+        .filter(|event| event.room_id() == room)
+        .count()
 }

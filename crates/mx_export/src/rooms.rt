@@ -19,10 +19,7 @@ pub struct FoundRoom {
 /// The rooms that these events are of.
 ///
 /// The one error is that no memory is left.
-pub fn rooms_of(
-    alloc: Global,
-    events: &[Pdu],
-) -> Result<BTreeMap<RoomId, FoundRoom>, AllocError> {
+pub fn rooms_of(alloc: Global, events: &[Pdu]) -> Result<BTreeMap<RoomId, FoundRoom>, AllocError> {
     let mut rooms = BTreeMap::new(alloc);
     for event in events {
         add_event(alloc, &mut rooms, event)?;

@@ -137,11 +137,7 @@ fn write_transaction(
 }
 
 // Writes the line that opens a transaction.
-fn write_open(
-    out: &mut Vec<u8>,
-    name: &TransactionName,
-    events: &[Pdu],
-) -> Result<(), AllocError>
+fn write_open(out: &mut Vec<u8>, name: &TransactionName, events: &[Pdu]) -> Result<(), AllocError>
     ensures { OnOk result (out.new.items
         ≡ out.old.items ++ definition.open_text name.now.origin.items name.now.number.items events.now) }
 {
@@ -179,11 +175,7 @@ fn write_event(out: &mut Vec<u8>, later: bool, event: &Pdu) -> Result<(), AllocE
 }
 
 // The line of a step of a transaction that names the transaction alone.
-fn step_line(
-    alloc: Global,
-    step: &[u8],
-    name: &TransactionName,
-) -> Result<Vec<u8>, AllocError>
+fn step_line(alloc: Global, step: &[u8], name: &TransactionName) -> Result<Vec<u8>, AllocError>
     ensures { IfOk result (λ line. line.items ≡ definition.step_text step.now name.now.origin.items name.now.number.items) }
 {
     let mut line = Vec::new(alloc);

@@ -16,6 +16,6 @@ invariant-loop l = record {
   sound : IsSound l.cited l.arranging;
   held : (p : ℕ) → is_left l.arranging.written.items p ≡ true → IsHeld l.arranging p;
   so_far :
-    l.order.items ++ arranged (cites_place l.cited) (length l.cited - l.counter) (lefts 0 l.arranging.written.items)
-    ≡ arranged (cites_place l.cited) (length l.cited) (range_with_len 0 (length l.cited));
+      l.order.items ++ arranged (cites_place l.cited) (length l.cited - l.counter) (lefts 0 l.arranging.written.items)
+      ≡ arranged (cites_place l.cited) (length l.cited) (range_with_len 0 (length l.cited));
 }
