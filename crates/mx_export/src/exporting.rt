@@ -69,14 +69,27 @@ fn event_of(
     let Some(additions) = additions_in(alloc, &members)? else {
         return Pdu::from_value(alloc, Value::Object(members));
     };
-    if let Some(event) = whole_event(alloc, &members)? {
-        return Ok(event);
-    }
+    let whole = members.clone()?;
     for key in &additions {
         members.remove(key.as_str());
+    }
+    let event = Pdu::from_value(alloc, Value::Object(members));
+    if !is_hashed(&event) {
+        if let Some(event) = hashed_event(alloc, whole)? {
+            return Ok(event);
+        }
+    }
+    for key in &additions {
         count(alloc, let_go, key)?;
     }
-    Pdu::from_value(alloc, Value::Object(members))
+    event
+}
+
+fn is_hashed(event: &Result<Pdu, PduError>) -> bool {
+    match event {
+        Ok(event) => event.hash_holds(),
+        Err(_) => false,
+    }
 }
 
 // The keys of an object that no event has, where it has any.
@@ -97,12 +110,15 @@ fn additions_in(
 }
 
 // The event that an object is with all its keys, where its content hash holds.
-fn whole_event(alloc: Global, members: &Map<String, Value>) -> Result<Option<Pdu>, AllocError> {
-    let copy = members.clone()?;
-    match Pdu::from_value(alloc, Value::Object(copy)) {
-        Ok(event) if event.hash_holds() => Ok(Some(event)),
+fn hashed_event(alloc: Global, members: Map<String, Value>) -> Result<Option<Pdu>, AllocError> {
+    match Pdu::from_value(alloc, Value::Object(members)) {
+        Ok(event) => Ok(if event.hash_holds() {
+            Some(event)
+        } else {
+            None
+        }),
         Err(PduError::Memory) => Err(AllocError),
-        _ => Ok(None),
+        Err(PduError::NotAnEvent(_)) => Ok(None),
     }
 }
 
