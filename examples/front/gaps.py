@@ -16,7 +16,8 @@ from keys import Keys, remember
 from signatures import NotSigned, check_event, event_id
 from texts import Json, say, server_of
 
-SECONDS = 50
+# A sender that waits no longer for its reply ends nothing: it sends the transaction again, and finds the gap healed.
+SECONDS = 110
 SECONDS_OF_A_REPLY = 20
 MOST_REQUESTS = 300
 MOST_EVENTS = 5_000
