@@ -16,15 +16,11 @@ sys.path.insert(0, str(FOLDER.parent / "rows"))
 from row_events import (  # noqa: E402
     A, B, C, ACCEPTED, ROOM, Base, Log, canonical, event, id_of, member, message, rejected,
 )
+from audit_lines import CREATE, LEVELS, RULES, because, entry, own_members  # noqa: E402
 
-CREATE = ("m.room.create", "")
-LEVELS = ("m.room.power_levels", "")
-RULES = ("m.room.join_rules", "")
 COLOURS = {"accepted": "#d5e8d4", "soft failed": "#fff2cc", "rejected": "#f8cecc"}
-BECAUSE = {
-    "A5": "the sender is not joined",
-    "A4.5.3": "a ban whose sender's level is below ban, or is not above the target's",
-}
+# What --resolution says of a step that is not allowed.
+STEP_BECAUSE = {"A4.5.3": "a ban whose sender's level is below ban, or is not above the target's"}
 
 
 def member_of(user):
@@ -96,18 +92,14 @@ def two_bans(log):
     return room, {id_of(both)}, current, both, steps
 
 
-def line_of(made, asked, verdict, check, rule, extremities, current):
-    line = {key: made[key] for key in ("type", "sender", "depth", "prev_events", "auth_events")}
-    if "state_key" in made:
-        line["state_key"] = made["state_key"]
+def line_of(place, made, asked, verdict, check, rule, extremities, current):
+    line = own_members(made)
+    create, power = asked.get(CREATE), asked.get(LEVELS)
     if rule is not None:
-        line.update(check=check, rule=rule, because=BECAUSE[rule])
-    line["judged_by"] = [
-        {"type": kind, "state_key": key, "event_id": None if stood is None else id_of(stood)}
-        for (kind, key), stood in asked.items()
-    ]
+        line.update(check=check, rule=rule, because=because(rule, made, create, power))
+    line["judged_by"] = [entry(made, kind, key, stood, create, power) for (kind, key), stood in asked.items()]
     return {
-        **line, "event_id": id_of(made), "verdict": verdict, "redacted_by": [],
+        **line, "verdict": verdict, "redacted_by": [], "place": place, "version": "6",
         "is_extremity": id_of(made) in extremities, "in_current_state": id_of(made) in current,
     }
 
@@ -128,7 +120,7 @@ def resolution_lines(steps):
 
 def step_line(order, made, rule):
     line = {"order": order, "event_id": id_of(made), "allowed": rule is None}
-    return line if rule is None else {**line, "rule": rule, "because": BECAUSE[rule]}
+    return line if rule is None else {**line, "rule": rule, "because": STEP_BECAUSE[rule]}
 
 
 def picture(told, extremities):
@@ -153,7 +145,7 @@ def main():
     room, extremities, current, both, steps = two_bans(log)
     write("two_bans.jsonl", log.lines)
     write("two_bans.answers.jsonl", log.answers)
-    write("two_bans.lines.jsonl", [canonical(line_of(*told, extremities, current)) for told in room.told])
+    write("two_bans.lines.jsonl", [canonical(line_of(place, *told, extremities, current)) for place, told in enumerate(room.told, 1)])
     write("two_bans.resolution.jsonl", [canonical(line) for line in resolution_lines(steps)])
     write("two_bans.dot", [line.encode() for line in picture(room.told, extremities)])
     print(ROOM, id_of(both))

@@ -2,6 +2,4 @@ pub mod ExplainingLemmas
 pub mod StepLemmas
 pub mod SoundLemmas
 pub mod ResolutionLemmas
-pub mod LineLemmas
 pub mod ToldLemmas
-pub mod WalkLemmas

@@ -5,9 +5,9 @@ pub mod Noting
 pub mod EventsCode
 pub mod AuditErrors
 pub mod SoundTest
-pub mod Lines
 pub mod Written
 pub mod Reasons
 pub mod Told
 pub mod EventLines
+pub mod LineParts
 pub mod Pictures

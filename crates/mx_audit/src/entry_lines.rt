@@ -6,10 +6,12 @@ ghost use Rattle.mx_audit.specs.EventLines as definition;
 ghost use Rattle.mx_audit.specs.Written.{rest_written};
 
 use crate::asking::AskedEntry;
-use crate::line_writing::{open_line, put_comma, write_id};
+use crate::judged_events::standing_event;
 use mx_canon::{TextBuffer, TextSink, write_key, write_string};
 use mx_graph::EventNo;
 use mx_ident::EventId;
+use mx_lines::{open_line, put_comma, write_id};
+use mx_reasons::{JudgedEvent, write_facts};
 use mx_receipt::Timeline;
 use mx_state_res::{StateEntry, StateRef};
 use std::alloc::{AllocError, Global};
@@ -53,32 +55,44 @@ fn write_state_line<S: TextSink>(sink: &mut S, timeline: &Timeline, entry: &Stat
     sink.put(b"\n");
 }
 
-/// Gives the sink what stood at the keys that were asked for, as an array.
-pub(crate) fn write_asked<S: TextSink>(sink: &mut S, timeline: &Timeline, asked: &[AskedEntry])
+/// Gives the sink what stood at the keys that were asked for, with what the rules read there, as an array.
+pub(crate) fn write_asked<S: TextSink>(
+    sink: &mut S,
+    timeline: &Timeline,
+    judged: &JudgedEvent<'_>,
+    asked: &[AskedEntry],
+)
     ensures { (taken : List ℕ) → S.has_taken sink.old taken
-        → S.has_taken sink.new (taken ++ value_text (array (definition.asked_items timeline.now.kept asked.now))) }
+        → S.has_taken sink.new (taken ++ value_text (array (definition.asked_items timeline.now.kept judged.now asked.now))) }
 {
     sink.put(b"[");
     let mut later = false;
     for entry in asked {
         put_comma(sink, later);
-        write_asked_entry(sink, timeline, entry);
+        write_asked_entry(sink, timeline, judged, entry);
         later = true;
     }
     sink.put(b"]");
 }
 
-fn write_asked_entry<S: TextSink>(sink: &mut S, timeline: &Timeline, entry: &AskedEntry)
+fn write_asked_entry<S: TextSink>(
+    sink: &mut S,
+    timeline: &Timeline,
+    judged: &JudgedEvent<'_>,
+    entry: &AskedEntry,
+)
     ensures { (taken : List ℕ) → S.has_taken sink.old taken
-        → S.has_taken sink.new (taken ++ value_text (definition.entry_data timeline.now.kept entry.now.0 entry.now.1)) }
+        → S.has_taken sink.new (taken ++ value_text (definition.asked_data timeline.now.kept judged.now entry.now.0 entry.now.1)) }
 {
-    write_entry(
+    open_line(sink, b"event_id");
+    write_id(sink, id_at(timeline, entry.event()));
+    write_facts(
         sink,
-        timeline,
+        judged,
         entry.kind(),
-        entry.state_key(),
-        entry.event(),
+        standing_event(timeline, entry.event()),
     );
+    write_rest(sink, entry.kind(), entry.state_key());
 }
 
 // Gives the sink an object that tells what stands at a key.

@@ -1,27 +1,33 @@
 // The lines that tell of the events of a room.
-ghost use Rattle.std.specs.Prelude.{◌≡◌, ◌<◌, ◌++◌, ℕ, All, IfOk, List, Some, None, if◌then◌else◌, length, nat_lt, option_map, map, filter};
+ghost use Rattle.std.specs.Prelude.{◌≡◌, ◌<◌, ◌++◌, ℕ, All, IfOk, List, Some, None, codes, if◌then◌else◌, length, nat_lt, option_map, map, filter, suc};
+ghost use Rattle.serde_json.specs.Data.{string};
 ghost use Rattle.mx_canon.specs.Canonical.{value_text};
-ghost use Rattle.mx_graph.specs.Record.{is_in, row as row_at};
-ghost use Rattle.mx_receipt.specs.Receipt.{forward_extremities, is_accepted, kept_at, rows_of};
+ghost use Rattle.mx_pdu.specs.Event.{is_state as is_state_event};
+ghost use Rattle.mx_graph.specs.Record.{event as event_at, is_in, row as row_at};
+ghost use Rattle.mx_receipt.specs.Receipt.{forward_extremities, is_accepted, kept_at, rows_of, version_in};
+ghost use Rattle.mx_lines.specs.Lines.{line_of};
+ghost use Rattle.mx_lines.specs.Written.{with_member, with_members};
 ghost use Rattle.mx_audit.specs.EventLines as definition;
-ghost use Rattle.mx_audit.specs.Lines.{line_of};
+ghost use Rattle.mx_audit.specs.LineParts.{AreParts};
 ghost use Rattle.mx_audit.specs.Reasons.{check_text};
 ghost use Rattle.mx_audit.specs.Told.{told_shown};
-ghost use Rattle.mx_audit.specs.Written.{head_written, tail_written, with_members};
+ghost use Rattle.mx_audit.specs.Written.{head_written};
 
 use crate::checks::Check;
 use crate::entry_lines::write_asked;
 use crate::explaining::Explanation;
-use crate::line_writing::{
-    end_line, open_line, write_flag, write_ids, write_number, write_text_if,
-};
-use crate::reasons::{label_of, refusal_of, sentence_of, verdict_name};
+use crate::judged_events::{because_of, judged_event};
+use crate::reasons::{label_of, refusal_of, verdict_name};
 use crate::room_audits::RoomAudit;
-use mx_canon::{TextBuffer, TextSink, write_key, write_string};
-use mx_graph::EventNo;
+use mx_canon::{TextBuffer, TextSink, write_key};
+use mx_graph::{EventNo, GraphRow};
 use mx_ident::EventId;
+use mx_lines::{
+    content_text, end_line, hash_name, membership_told, open_line, write_content, write_flag,
+    write_ids, write_ids_member, write_number_member, write_text_if, write_text_member, write_time,
+};
 use mx_pdu::Pdu;
-use mx_receipt::{Timeline, Verdict};
+use mx_receipt::Timeline;
 use mx_state_res::StateRef;
 use std::alloc::{AllocError, Global};
 
@@ -55,14 +61,43 @@ fn line_of_event(
 ) -> Result<Vec<u8>, AllocError>
     requires { number < length timeline.now.kept }
     ensures { IfOk result (λ line. line.items ≡ line_of (definition.event_members timeline.now.kept number
-        (option_map (λ e. told_shown e.now) explanation.entry)
-        (definition.redacted_by timeline.now.kept (row_at (rows_of timeline.now.kept) number).id))) }
+        (option_map (λ e. told_shown e.now) explanation.entry))) }
 {
-    let redactions = accepted_redactions(alloc, timeline, &timeline.row(number).id)?;
+    let parts = parts_of(alloc, timeline, number, explanation)?;
     let mut line = TextBuffer::with_capacity(alloc, USUAL_LINE)?;
-    write_event_line(&mut line, timeline, number, explanation, &redactions);
+    write_event_line(&mut line, timeline, number, explanation, &parts);
     let bytes = line.into_bytes()?;
     Ok(bytes)
+}
+
+// What of a line takes memory before it is written: the accepted redactions, the text of the content, and why the rules do
+// not allow the event.
+#[derive(Drop)]
+struct LineParts {
+    redactions: Vec<EventId>,
+    content: Vec<u8>,
+    because: Option<Vec<u8>>,
+}
+
+fn parts_of(
+    alloc: Global,
+    timeline: &Timeline,
+    number: EventNo,
+    explanation: Option<&Explanation>,
+) -> Result<LineParts, AllocError>
+    requires { number < length timeline.now.kept }
+    ensures { IfOk result (AreParts timeline.now.kept number (option_map (λ e. told_shown e.now) explanation.entry)) }
+{
+    let row = timeline.row(number);
+    let redactions = accepted_redactions(alloc, timeline, &row.id)?;
+    let content = content_text(alloc, &row.event)?;
+    let refusal = refusal_of(timeline.verdict(number));
+    let because = because_of(alloc, &judged_event(timeline, number, explanation), refusal)?;
+    Ok(LineParts {
+        redactions,
+        content,
+        because,
+    })
 }
 
 // The ids of the accepted redactions that name an id.
@@ -99,40 +134,72 @@ fn write_event_line<S: TextSink>(
     timeline: &Timeline,
     number: EventNo,
     explanation: Option<&Explanation>,
-    redactions: &[EventId],
+    parts: &LineParts,
 )
-    requires { number < length timeline.now.kept }
+    requires number { number < length timeline.now.kept }
+    requires parts { AreParts timeline.now.kept number (option_map (λ e. told_shown e.now) explanation) parts.now }
     ensures { (taken : List ℕ) → S.has_taken sink.old taken
         → S.has_taken sink.new (taken ++ line_of (definition.event_members timeline.now.kept number
-        (option_map (λ e. told_shown e.now) explanation.entry) redactions.now)) }
+        (option_map (λ e. told_shown e.now) explanation.entry))) }
 {
     let row = timeline.row(number);
-    let verdict = timeline.verdict(number);
-    write_head(sink, &row.event, verdict, failed_name(explanation));
-    write_key(sink, true, b"event_id");
-    write_string(sink, row.id.as_str().as_bytes());
+    write_head(sink, &row.event, parts, failed_name(explanation));
+    write_content(sink, is_state(&row.event), &parts.content);
+    write_middle(sink, row);
     write_standing(sink, timeline, number);
     write_key(sink, true, b"judged_by");
-    write_judged(sink, timeline, explanation);
-    write_tail(sink, &row.event, verdict, redactions);
+    write_judged(sink, timeline, number, explanation);
+    write_place(sink, &row.event, number, &parts.redactions);
+    write_tail(sink, timeline, number);
 }
 
-// The first members: what comes before the id.
+// The first members: what comes before the content.
 fn write_head<S: TextSink>(
     sink: &mut S,
     event: &Pdu,
-    verdict: Verdict,
+    parts: &LineParts,
     failed: Option<&'static str>,
 )
     ensures { (taken : List ℕ) → S.has_taken sink.old taken
-        → S.has_taken sink.new (head_written taken event.now verdict (option_map (λ text. text.now) failed.entry)) }
+        → S.has_taken sink.new (head_written taken event.now (option_map (λ t. t.items) parts.now.because)
+        (option_map (λ text. text.now) failed.entry)) }
 {
     open_line(sink, b"auth_events");
     write_ids(sink, event.auth_events());
-    write_text_if(sink, b"because", sentence_of(refusal_of(verdict)));
+    write_because(sink, &parts.because);
     write_text_if(sink, b"check", failed);
-    write_key(sink, true, b"depth");
-    write_number(sink, event.depth());
+}
+
+fn write_because<S: TextSink>(sink: &mut S, because: &Option<Vec<u8>>)
+    ensures { (taken : List ℕ) → S.has_taken sink.old taken
+        → S.has_taken sink.new (with_member taken (codes "because", option_map string (option_map (λ t. t.items) because.now))) }
+{
+    if let Some(text) = because {
+        write_text_member(sink, b"because", text);
+    }
+}
+
+// What comes between the content and the standing.
+fn write_middle<S: TextSink>(sink: &mut S, row: &GraphRow)
+    ensures { (taken : List ℕ) → S.has_taken sink.old taken
+        → S.has_taken sink.new (with_members taken (definition.middle_members row.now.event row.now.id)) }
+{
+    write_text_member(
+        sink,
+        b"content_hash",
+        hash_name(row.event.hash_holds()).as_bytes(),
+    );
+    write_number_member(sink, b"depth", row.event.depth());
+    write_text_member(sink, b"event_id", row.id.as_str().as_bytes());
+}
+
+fn is_state(event: &Pdu) -> bool
+    ensures { result ≡ is_state_event event.now }
+{
+    match event.state_key() {
+        Some(_) => true,
+        None => false,
+    }
 }
 
 // What is of the event now: whether it is in the current state, and an extremity.
@@ -149,34 +216,59 @@ fn write_standing<S: TextSink>(sink: &mut S, timeline: &Timeline, number: EventN
 }
 
 // What stood in the state that decided. Nothing was asked of a create event.
-fn write_judged<S: TextSink>(sink: &mut S, timeline: &Timeline, explanation: Option<&Explanation>)
+fn write_judged<S: TextSink>(
+    sink: &mut S,
+    timeline: &Timeline,
+    number: EventNo,
+    explanation: Option<&Explanation>,
+)
+    requires { number < length timeline.now.kept }
     ensures { (taken : List ℕ) → S.has_taken sink.old taken
         → S.has_taken sink.new (taken ++ value_text (definition.judged_by timeline.now.kept
+        (definition.judged_event timeline.now.kept number (option_map (λ e. told_shown e.now) explanation.entry))
         (option_map (λ e. told_shown e.now) explanation.entry))) }
 {
+    let judged = judged_event(timeline, number, explanation);
     match explanation {
-        Some(explanation) => write_asked(sink, timeline, &explanation.asked),
+        Some(explanation) => write_asked(sink, timeline, &judged, &explanation.asked),
         None => sink.put(b"[]"),
     }
 }
 
-// The last members, and the end of the line.
-fn write_tail<S: TextSink>(sink: &mut S, event: &Pdu, verdict: Verdict, redactions: &[EventId])
+// What comes behind the entries, up to the redactions.
+fn write_place<S: TextSink>(sink: &mut S, event: &Pdu, number: EventNo, redactions: &[EventId])
     ensures { (taken : List ℕ) → S.has_taken sink.old taken
-        → S.has_taken sink.new (tail_written taken event.now verdict redactions.now) }
+        → S.has_taken sink.new (with_members taken (definition.place_members event.now number redactions.now)) }
 {
-    write_key(sink, true, b"prev_events");
-    write_ids(sink, event.prev_events());
-    write_key(sink, true, b"redacted_by");
-    write_ids(sink, redactions);
+    write_text_if(sink, b"membership", membership_told(event));
+    write_time(sink, event);
+    write_number_member(sink, b"place", place_of(number));
+    write_ids_member(sink, b"prev_events", event.prev_events());
+    write_ids_member(sink, b"redacted_by", redactions);
+}
+
+// The place of an event in the order of arrival, from 1.
+fn place_of(number: EventNo) -> u64
+    ensures { result ≡ suc number }
+{
+    number.index() as u64 + 1
+}
+
+// The last members, and the end of the line.
+fn write_tail<S: TextSink>(sink: &mut S, timeline: &Timeline, number: EventNo)
+    requires { number < length timeline.now.kept }
+    ensures { (taken : List ℕ) → S.has_taken sink.old taken
+        → S.has_taken sink.new (with_members taken (definition.tail_members (event_at (rows_of timeline.now.kept) number)
+        (kept_at timeline.now.kept number).verdict (version_in (rows_of timeline.now.kept))) ++ codes "}\n") }
+{
+    let event = &timeline.row(number).event;
+    let verdict = timeline.verdict(number);
     write_text_if(sink, b"rule", label_of(refusal_of(verdict)));
-    write_key(sink, true, b"sender");
-    write_string(sink, event.sender().as_str().as_bytes());
+    write_text_member(sink, b"sender", event.sender().as_str().as_bytes());
     write_text_if(sink, b"state_key", event.state_key());
-    write_key(sink, true, b"type");
-    write_string(sink, event.kind().as_bytes());
-    write_key(sink, true, b"verdict");
-    write_string(sink, verdict_name(verdict).as_bytes());
+    write_text_member(sink, b"type", event.kind().as_bytes());
+    write_text_member(sink, b"verdict", verdict_name(verdict).as_bytes());
+    write_text_member(sink, b"version", timeline.version().text().as_bytes());
     end_line(sink);
 }
 

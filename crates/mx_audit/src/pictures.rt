@@ -4,10 +4,10 @@ ghost use Rattle.mx_audit.specs.Pictures as definition;
 ghost use Rattle.mx_audit.specs.Reasons.{colour_text};
 
 use crate::event_lines::is_extremity;
-use crate::line_writing::write_number;
 use crate::room_audits::RoomAudit;
 use mx_canon::{TextBuffer, TextSink};
 use mx_graph::EventNo;
+use mx_lines::write_number;
 use mx_receipt::{Timeline, Verdict};
 use std::alloc::{AllocError, Global};
 

@@ -4,10 +4,10 @@ ghost use Rattle.mx_orders.specs.StateMap.{State};
 ghost use Rattle.mx_audit.specs.EventLines as definition;
 
 use crate::entry_lines::{id_at, write_rest};
-use crate::line_writing::{end_line, open_line, write_flag, write_id, write_number, write_text_if};
 use crate::reasons::{label_of, sentence_of};
 use crate::steps::{ResolutionStep, ResolutionSteps};
 use mx_canon::{TextBuffer, TextSink, write_key, write_string};
+use mx_lines::{end_line, open_line, write_flag, write_id, write_number, write_text_if};
 use mx_receipt::Timeline;
 use mx_state_res::{StateEntry, StateMap};
 use std::alloc::{AllocError, Global};

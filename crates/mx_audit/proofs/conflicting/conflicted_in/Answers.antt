@@ -5,7 +5,7 @@ use Rattle.mx_orders.specs.StateMap.{key_cmp}
 use Rattle.mx_state_res.specs.Resolution.{has_entry, overwritten}
 use Rattle.mx_state_res.proofs.KeyLemmas.{Sorted, sorted-filter}
 use Rattle.mx_state_res.proofs.AgreedLemmas.{overwritten-empty, put-kept, put-other}
-use Rattle.mx_audit.proofs.WalkLemmas.{left-at}
+use Rattle.mx_lines.proofs.WalkLemmas.{left-at}
 use Rattle.mx_audit.proofs.conflicting.conflicted_in.Goals as goal
 use Rattle.mx_audit.proofs.conflicting.conflicted_in.Goals.{then-lacks+in_ok-insert, else-lacks}
 

@@ -9,4 +9,4 @@ abbrev pub invariant-loop-entry : goal.invariant-loop-entry
 invariant-loop-entry g l =
     (taken : List ℕ) → g.S.TextSink.has_taken l.initial.sink taken
     → (out : List ℕ) × g.S.TextSink.has_taken l.sink out
-    × (out ++ left l.later (item_texts (asked_items l.timeline.kept (drop l.entry-index l.asked))) ≡ taken ++ join_with_byte 44 (item_texts (asked_items l.timeline.kept l.asked)))
+    × (out ++ left l.later (item_texts (asked_items l.timeline.kept l.judged (drop l.entry-index l.asked))) ≡ taken ++ join_with_byte 44 (item_texts (asked_items l.timeline.kept l.judged l.asked)))

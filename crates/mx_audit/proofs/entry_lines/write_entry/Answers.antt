@@ -4,9 +4,10 @@ use Rattle.serde_json.specs.Data.{string}
 use Rattle.mx_canon.specs.Canonical.{value_text}
 use Rattle.mx_auth.specs.Rules.{Key}
 use Rattle.mx_audit.specs.EventLines.{id_of}
-use Rattle.mx_audit.specs.Lines.{text_or_null}
-use Rattle.mx_audit.specs.Written.{opened, rest_written}
-use Rattle.mx_audit.proofs.LineLemmas.{object-written}
+use Rattle.mx_lines.specs.Lines.{text_or_null}
+use Rattle.mx_lines.specs.Written.{opened}
+use Rattle.mx_audit.specs.Written.{rest_written}
+use Rattle.mx_lines.proofs.LineLemmas.{object-written}
 use Rattle.mx_audit.proofs.entry_lines.write_entry.Goals as goal
 
 pub returns : goal.returns

@@ -1,6 +1,6 @@
 use Rattle.std.proofs.Common.{◌++◌, arith, subst}
 use Rattle.mx_audit.specs.EventLines.{state_line}
-use Rattle.mx_audit.proofs.WalkLemmas.{walked-on, walked-all}
+use Rattle.mx_lines.proofs.WalkLemmas.{walked-on, walked-all}
 use Rattle.mx_audit.proofs.entry_lines.write_state.Goals as goal
 
 pub loop-entry-preserved : goal.loop-entry-preserved

@@ -1,7 +1,7 @@
 use Rattle.std.proofs.Common.{◌++◌, Some, codes, subst, ◌∙◌, append_assoc}
 use Rattle.mx_canon.specs.Canonical.{canonical_text, value_text}
 use Rattle.mx_audit.specs.EventLines.{entry_data}
-use Rattle.mx_audit.specs.Lines.{line_of}
+use Rattle.mx_lines.specs.Lines.{line_of}
 use Rattle.mx_audit.proofs.entry_lines.write_state_line.Goals as goal
 
 pub returns : goal.returns

@@ -1,7 +1,7 @@
 use Rattle.std.proofs.Common.{◌++◌, codes, decimal, subst, ◌∙◌}
 use Rattle.std.specs.Str.{chars}
 use Rattle.mx_canon.specs.Canonical.{canonical_text}
-use Rattle.mx_audit.proofs.WalkLemmas.{five}
+use Rattle.mx_lines.proofs.WalkLemmas.{five}
 use Rattle.mx_audit.proofs.pictures.write_arrow.Goals as goal
 
 pub returns : goal.returns

@@ -1,6 +1,6 @@
 use Rattle.std.proofs.Common.{◌++◌, arith, subst}
 use Rattle.mx_audit.specs.Pictures.{arrow_text}
-use Rattle.mx_audit.proofs.WalkLemmas.{walked-on, walked-all}
+use Rattle.mx_lines.proofs.WalkLemmas.{walked-on, walked-all}
 use Rattle.mx_audit.proofs.pictures.write_arrows.Goals as goal
 
 pub loop-prev-preserved : goal.loop-prev-preserved

@@ -7,7 +7,7 @@ use Rattle.mx_graph.specs.Record.{Row, event, is_in, row}
 use Rattle.mx_receipt.specs.Receipt.{forward_extremities, kept_at, rows_of}
 use Rattle.mx_audit.specs.Pictures.{beginning, label}
 use Rattle.mx_audit.specs.Reasons.{colour_text}
-use Rattle.mx_audit.proofs.WalkLemmas.{thirteen}
+use Rattle.mx_lines.proofs.WalkLemmas.{thirteen}
 use Rattle.mx_audit.proofs.pictures.write_box.Goals as goal
 
 pub returns : goal.returns

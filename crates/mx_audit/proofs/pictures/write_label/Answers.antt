@@ -1,6 +1,6 @@
 use Rattle.std.proofs.Common.{◌++◌, get_or, refl, arith, subst}
 use Rattle.mx_audit.specs.Pictures.{label_character}
-use Rattle.mx_audit.proofs.WalkLemmas.{walked-on, walked-all}
+use Rattle.mx_lines.proofs.WalkLemmas.{walked-on, walked-all}
 use Rattle.mx_audit.proofs.pictures.write_label.Goals as goal
 
 pub loop-character-preserved : goal.loop-character-preserved

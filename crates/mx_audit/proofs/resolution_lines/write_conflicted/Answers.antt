@@ -3,9 +3,9 @@ use Rattle.std.specs.Str.{chars}
 use Rattle.serde_json.specs.Data.{number, string, unsigned}
 use Rattle.mx_canon.specs.Canonical.{canonical_text, value_text}
 use Rattle.mx_audit.specs.EventLines.{entry_members, id_of}
-use Rattle.mx_audit.specs.Lines.{text_or_null}
-use Rattle.mx_audit.specs.Written.{opened, with_members}
-use Rattle.mx_audit.proofs.LineLemmas.{line-written}
+use Rattle.mx_lines.specs.Lines.{text_or_null}
+use Rattle.mx_lines.specs.Written.{opened, with_members}
+use Rattle.mx_lines.proofs.LineLemmas.{line-written}
 use Rattle.mx_audit.proofs.resolution_lines.write_conflicted.Goals as goal
 
 pub returns : goal.returns

@@ -2,7 +2,7 @@ use Rattle.std.proofs.Common.{◌≡◌, ◌+◌, ◌++◌, suc, drop, sym, ap, 
 use Rattle.std.proofs.lemmas.List.{drop_all}
 use Rattle.mx_orders.specs.StateMap.{State}
 use Rattle.mx_audit.specs.EventLines.{conflict_text, conflicts_text}
-use Rattle.mx_audit.proofs.WalkLemmas.{left-at}
+use Rattle.mx_lines.proofs.WalkLemmas.{left-at}
 use Rattle.mx_audit.proofs.resolution_lines.write_conflicts.Goals as goal
 
 pub loop-place-preserved : goal.loop-place-preserved

@@ -5,11 +5,11 @@ use Rattle.serde_json.specs.Data.{boolean, string}
 use Rattle.mx_canon.specs.Canonical.{value_text}
 use Rattle.mx_auth.specs.Rules.{label_text}
 use Rattle.mx_audit.specs.EventLines.{id_of}
-use Rattle.mx_audit.specs.Reasons.{reason_text}
-use Rattle.mx_audit.specs.Lines.{text_or_null}
-use Rattle.mx_audit.specs.Written.{opened, with_members}
-use Rattle.mx_audit.proofs.LineLemmas.{line-written}
-use Rattle.mx_audit.proofs.WalkLemmas.{twice}
+use Rattle.mx_reasons.specs.Reasons.{reason_text}
+use Rattle.mx_lines.specs.Lines.{text_or_null}
+use Rattle.mx_lines.specs.Written.{opened, with_members}
+use Rattle.mx_lines.proofs.LineLemmas.{line-written}
+use Rattle.mx_lines.proofs.WalkLemmas.{twice}
 use Rattle.mx_audit.proofs.resolution_lines.write_step.Goals as goal
 
 pub returns : goal.returns

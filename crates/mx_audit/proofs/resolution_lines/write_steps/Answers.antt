@@ -1,6 +1,6 @@
 use Rattle.std.proofs.Common.{◌++◌, arith, subst}
 use Rattle.mx_audit.specs.EventLines.{step_text}
-use Rattle.mx_audit.proofs.WalkLemmas.{walked-on, walked-all}
+use Rattle.mx_lines.proofs.WalkLemmas.{walked-on, walked-all}
 use Rattle.mx_audit.proofs.resolution_lines.write_steps.Goals as goal
 
 pub loop-step-preserved : goal.loop-step-preserved

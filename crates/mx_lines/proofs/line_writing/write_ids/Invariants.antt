@@ -2,8 +2,8 @@ use Rattle.std.proofs.Common.{◌≡◌, ◌++◌, List, ℕ, drop}
 use Rattle.std.specs.List.{join_with_byte}
 use Rattle.mx_canon.specs.Canonical.{item_texts}
 use Rattle.mx_canon.proofs.PieceLemmas.{left}
-use Rattle.mx_audit.specs.Lines.{text_items}
-use Rattle.mx_audit.proofs.line_writing.write_ids.Given as goal
+use Rattle.mx_lines.specs.Lines.{text_items}
+use Rattle.mx_lines.proofs.line_writing.write_ids.Given as goal
 
 abbrev pub invariant-loop-id : goal.invariant-loop-id
 invariant-loop-id g l =

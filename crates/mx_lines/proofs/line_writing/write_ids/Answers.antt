@@ -4,9 +4,9 @@ use Rattle.std.specs.List.{join_with_byte}
 use Rattle.mx_canon.specs.Pieces.{comma_if}
 use Rattle.mx_canon.specs.Canonical.{canonical_text, string_text, item_texts}
 use Rattle.mx_canon.proofs.PieceLemmas.{left, left-step, ended}
-use Rattle.mx_audit.specs.Lines.{text_items}
-use Rattle.mx_audit.proofs.WalkLemmas.{left-at}
-use Rattle.mx_audit.proofs.line_writing.write_ids.Goals as goal
+use Rattle.mx_lines.specs.Lines.{text_items}
+use Rattle.mx_lines.proofs.WalkLemmas.{left-at}
+use Rattle.mx_lines.proofs.line_writing.write_ids.Goals as goal
 
 pub loop-id-preserved : goal.loop-id-preserved
 unfolding canonical_text

@@ -8,9 +8,16 @@ use Rattle.serde_json.specs.Data.{Data, object}
 use Rattle.mx_canon.specs.Canonical.{canonical_text, value_text, member_text, sorted_members}
 use Rattle.mx_canon.specs.KeyOrder.{text_cmp}
 use Rattle.mx_canon.proofs.PieceLemmas.{after_commas, joined}
-use Rattle.mx_audit.proofs.SoundLemmas.{and_left, and_right}
-use Rattle.mx_audit.specs.Lines.{present, line_of}
-use Rattle.mx_audit.specs.Written.{opened, with_member, with_members}
+use Rattle.mx_lines.specs.Lines.{present, line_of}
+use Rattle.mx_lines.specs.Written.{opened, with_member, with_members}
+
+pub and_left : (a b : Bool) → (a && b) ≡ true → a ≡ true
+and_left true b e = refl
+and_left false b e = e
+
+pub and_right : (a b : Bool) → (a && b) ≡ true → b ≡ true
+and_right true b e = e
+and_right false b e = absurd (cc e)
 
 -- each key is below those after it
 abbrev pub is_below : List ℕ → List ℕ → Bool

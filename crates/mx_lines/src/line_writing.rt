@@ -3,15 +3,15 @@ ghost use Rattle.std.specs.Prelude.{◌≡◌, ℕ, ◌++◌, List, codes, optio
 ghost use Rattle.serde_json.specs.Data.{Data, boolean, number, string, unsigned};
 ghost use Rattle.mx_canon.specs.Canonical.{canonical_text, value_text};
 ghost use Rattle.mx_canon.specs.Pieces.{comma_if};
-ghost use Rattle.mx_audit.specs.Lines.{text_array, text_or_null};
-ghost use Rattle.mx_audit.specs.Written.{opened, with_member};
+ghost use Rattle.mx_lines.specs.Lines.{text_array, text_or_null};
+ghost use Rattle.mx_lines.specs.Written.{opened, with_member};
 
 use mx_canon::{TextSink, write_key, write_string, write_text};
 use mx_ident::EventId;
 use serde_json::{Number, Value};
 
 /// Gives the sink the beginning of a line, up to the value of its first member.
-pub(crate) fn open_line<S: TextSink>(sink: &mut S, key: &[u8])
+pub fn open_line<S: TextSink>(sink: &mut S, key: &[u8])
     ensures { (taken : List ℕ) → S.has_taken sink.old taken → S.has_taken sink.new (opened taken key.now) }
 {
     sink.put(b"{");
@@ -19,14 +19,14 @@ pub(crate) fn open_line<S: TextSink>(sink: &mut S, key: &[u8])
 }
 
 /// Gives the sink the end of a line.
-pub(crate) fn end_line<S: TextSink>(sink: &mut S)
+pub fn end_line<S: TextSink>(sink: &mut S)
     ensures { (taken : List ℕ) → S.has_taken sink.old taken → S.has_taken sink.new (taken ++ codes "}\n") }
 {
     sink.put(b"}\n");
 }
 
 /// Gives the sink a later member whose value is a text, where there is one.
-pub(crate) fn write_text_if<S: TextSink>(sink: &mut S, key: &[u8], text: Option<&str>)
+pub fn write_text_if<S: TextSink>(sink: &mut S, key: &[u8], text: Option<&str>)
     ensures { (taken : List ℕ) → S.has_taken sink.old taken
         → S.has_taken sink.new (with_member taken (key.now, option_map string (option_map (λ t. t.now) text.entry))) }
 {
@@ -37,7 +37,7 @@ pub(crate) fn write_text_if<S: TextSink>(sink: &mut S, key: &[u8], text: Option<
 }
 
 /// Gives the sink a truth value.
-pub(crate) fn write_flag<S: TextSink>(sink: &mut S, flag: bool)
+pub fn write_flag<S: TextSink>(sink: &mut S, flag: bool)
     ensures { (taken : List ℕ) → S.has_taken sink.old taken
         → S.has_taken sink.new (taken ++ value_text (boolean flag)) }
 {
@@ -48,7 +48,7 @@ pub(crate) fn write_flag<S: TextSink>(sink: &mut S, flag: bool)
 }
 
 /// Gives the sink a number.
-pub(crate) fn write_number<S: TextSink>(sink: &mut S, value: u64)
+pub fn write_number<S: TextSink>(sink: &mut S, value: u64)
     ensures { (taken : List ℕ) → S.has_taken sink.old taken
         → S.has_taken sink.new (taken ++ canonical_text (number (unsigned value))) }
 {
@@ -57,7 +57,7 @@ pub(crate) fn write_number<S: TextSink>(sink: &mut S, value: u64)
 }
 
 /// Gives the sink an id, or null where there is none.
-pub(crate) fn write_id<S: TextSink>(sink: &mut S, id: Option<&EventId>)
+pub fn write_id<S: TextSink>(sink: &mut S, id: Option<&EventId>)
     ensures { (taken : List ℕ) → S.has_taken sink.old taken
         → S.has_taken sink.new (taken ++ value_text (text_or_null (option_map (λ i. i.now) id.entry))) }
 {
@@ -68,7 +68,7 @@ pub(crate) fn write_id<S: TextSink>(sink: &mut S, id: Option<&EventId>)
 }
 
 /// Gives the sink an array of ids.
-pub(crate) fn write_ids<S: TextSink>(sink: &mut S, ids: &[EventId])
+pub fn write_ids<S: TextSink>(sink: &mut S, ids: &[EventId])
     ensures { (taken : List ℕ) → S.has_taken sink.old taken
         → S.has_taken sink.new (taken ++ value_text (text_array ids.now)) }
 {
@@ -83,7 +83,7 @@ pub(crate) fn write_ids<S: TextSink>(sink: &mut S, ids: &[EventId])
 }
 
 /// Gives the sink a comma, where one is wanted.
-pub(crate) fn put_comma<S: TextSink>(sink: &mut S, wanted: bool)
+pub fn put_comma<S: TextSink>(sink: &mut S, wanted: bool)
     ensures { (taken : List ℕ) → S.has_taken sink.old taken → S.has_taken sink.new (taken ++ comma_if wanted) }
 {
     if wanted {

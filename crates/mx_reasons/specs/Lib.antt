@@ -1,0 +1,4 @@
+pub mod JudgedView
+pub mod Reasons
+pub mod Because
+pub mod Facts
