@@ -118,16 +118,47 @@ fn write_label<S: TextSink>(sink: &mut S, text: &[u8])
     ensures { (taken : List ℕ) → S.has_taken sink.old taken
         → S.has_taken sink.new (taken ++ definition.label text.now) }
 {
-    for character in text {
-        write_character(sink, *character);
+    for place in 0..text.len() {
+        write_label_at(sink, text, place);
     }
+}
+
+// Gives the sink what stands in a label for one byte of a text.
+fn write_label_at<S: TextSink>(sink: &mut S, text: &[u8], place: usize)
+    requires { place < length text.now }
+    ensures { (taken : List ℕ) → S.has_taken sink.old taken
+        → S.has_taken sink.new (taken ++ definition.label_at text.now place) }
+{
+    if begins_noncharacter(&text[place..]) {
+        sink.put(b" ");
+    } else if !continues_noncharacter(text, place) {
+        write_character(sink, text[place]);
+    }
+}
+
+// Whether a text begins with U+FFFE or U+FFFF.
+fn begins_noncharacter(text: &[u8]) -> bool
+    ensures { result ≡ definition.begins_noncharacter text.now }
+{
+    text.starts_with(b"\xef\xbf\xbe") || text.starts_with(b"\xef\xbf\xbf")
+}
+
+// Whether a byte of a text is the second or the third of such a character.
+fn continues_noncharacter(text: &[u8], place: usize) -> bool
+    requires { place < length text.now }
+    ensures { result ≡ definition.continues_noncharacter text.now place }
+{
+    (place > 0 && begins_noncharacter(&text[place - 1..]))
+        || (place > 1 && begins_noncharacter(&text[place - 2..]))
 }
 
 fn write_character<S: TextSink>(sink: &mut S, character: u8)
     ensures { (taken : List ℕ) → S.has_taken sink.old taken
         → S.has_taken sink.new (taken ++ definition.label_character character) }
 {
-    if character == b'"' || character == b'\\' {
+    if character == b'&' {
+        sink.put(b"&amp;");
+    } else if character == b'"' || character == b'\\' {
         sink.put(&[b'\\', character]);
     } else if character < 32 {
         sink.put(b" ");

@@ -1,21 +1,15 @@
-use Rattle.std.proofs.Common.{◌++◌, get_or, refl, arith, subst}
-use Rattle.mx_audit.specs.Pictures.{label_character}
-use Rattle.mx_lines.proofs.WalkLemmas.{walked-on, walked-all}
+use Rattle.std.proofs.Common.{◌≡◌, ◌+◌, ◌++◌, ℕ, suc, List, subst, sym, ap, ◌∙◌, arith, append_assoc}
+use Rattle.mx_audit.specs.Pictures.{label_at, label_first}
 use Rattle.mx_audit.proofs.pictures.write_label.Goals as goal
 
-pub loop-character-preserved : goal.loop-character-preserved
-loop-character-preserved g c = λ taken had.
-    let l = c.loop-character in
-    let xs = c.args.text.now in
-    let x = get_or xs l.character-index 0 in
-    let (out, has, is) = l.invariant taken had in (
-      out ++ label_character x,
-      c.write_character.ensures _ has,
-      walked-on label_character out _ xs l.character-index 0 x (omega arith) refl is,
-    )
+-- a byte more
+label-more : (text : List ℕ) (p : ℕ) → label_first text p ++ label_at text p ≡ label_first text (p + 1)
+label-more text p = let next : suc p ≡ p + 1 = omega arith in ap (label_first text) next
 
-pub returns : goal.returns
-returns g c = λ taken had.
-    let l = c.loop-character in
-    let (out, has, is) = l.invariant taken had in
-    subst (g.S.TextSink.has_taken l.sink) (walked-all label_character out _ c.args.text.now l.character-index (omega arith) is) has
+pub loop-place-preserved : goal.loop-place-preserved
+loop-place-preserved g c = λ taken had.
+    let text = c.args.text.now in
+    let place = c.loop-place.place in
+    subst (g.S.TextSink.has_taken c.write_label_at.new.sink)
+    (append_assoc taken (label_first text place) (label_at text place) ∙ ap (λ ys. taken ++ ys) (label-more text place))
+    (c.write_label_at.ensures _ (c.loop-place.invariant taken had))
