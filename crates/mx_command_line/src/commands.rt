@@ -1,5 +1,7 @@
 // What the words of the command line ask for.
-use crate::words::{audit_words, check_words, log_words, migrate_words, replay_words, serve_words};
+use crate::words::{
+    VERSION, audit_words, check_words, log_words, migrate_words, replay_words, serve_words,
+};
 use clap::error::ErrorKind;
 use clap::{ArgMatches, Error};
 use mx_ident::{EventId, IdError, RoomId, ServerName};
@@ -27,6 +29,8 @@ pub enum Command {
     Migrate(MigrateOptions),
     // Events from standard input, to a log of them.
     Log(LogOptions),
+    // This text of the program's version.
+    Version(String),
 }
 
 /// Why the words ask for nothing.
@@ -58,6 +62,7 @@ fn refusal(alloc: Global, error: &Error) -> Result<String, AllocError> {
 pub fn parse(alloc: Global, words: &[String]) -> Result<Command, CommandLineError> {
     let program = clap::Command::new(alloc, "mx_federd")
         .about("A Matrix federation room server")
+        .version(VERSION)
         .subcommand_required(true)
         .subcommand(check_words(alloc))?
         .subcommand(replay_words(alloc)?)?
@@ -68,6 +73,9 @@ pub fn parse(alloc: Global, words: &[String]) -> Result<Command, CommandLineErro
     match program.try_get_matches_from(words) {
         Ok(matches) => chosen(alloc, &matches),
         Err(error) if error.kind() == ErrorKind::OutOfMemory => Err(CommandLineError::Memory),
+        Err(error) if error.kind() == ErrorKind::DisplayVersion => {
+            Ok(Command::Version(refusal(alloc, &error)?))
+        }
         Err(error) => Err(CommandLineError::Misused(refusal(alloc, &error)?)),
     }
 }

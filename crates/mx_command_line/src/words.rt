@@ -4,6 +4,9 @@ use clap::{Arg, ArgAction};
 use mx_keeper::MOST_PLACES;
 use std::alloc::{AllocError, Global};
 
+// The program's version, and the layouts of files that it reads. CHANGELOG.md has a part on each version.
+pub(crate) const VERSION: &str = "1.0.0\nlayouts of files: 1, 2";
+
 pub(crate) fn check_words<'a>(alloc: Global) -> clap::Command<'a> {
     clap::Command::new(alloc, "check").about(
         "Reads one event from standard input, and prints its id, whether its content hash holds, and its canonical text",

@@ -60,12 +60,19 @@ pub fn main_with<R: Read, W: Write, E: Write>(
             let ran = log(alloc, &options, input, out, err);
             Asked::Ended(status_of(ran, err))
         }
+        Ok(Command::Version(text)) => Asked::Ended(status_of(told(out, &text), err)),
         Err(CommandLineError::Memory) => Asked::Ended(report(Failure::Memory, err)),
         Err(CommandLineError::Misused(text)) => {
             let _ = err.write_all(text.as_bytes());
             Asked::Ended(MISUSED)
         }
     }
+}
+
+// Writes a text.
+fn told<W: Write>(out: &mut W, text: &str) -> Result<(), Failure> {
+    out.write_all(text.as_bytes()).map_err(Failure::of_io)?;
+    out.flush().map_err(Failure::of_io)
 }
 
 // The exit status of a run that gave so.
