@@ -1,0 +1,23 @@
+# Completion of the words of mx_federd for bash.
+
+_mx_federd() {
+    local word=${COMP_WORDS[COMP_CWORD]} before=${COMP_WORDS[COMP_CWORD - 1]} subcommand=${COMP_WORDS[1]} words
+    case $before in
+    --data)
+        mapfile -t COMPREPLY < <(compgen -d -- "$word")
+        return
+        ;;
+    --host)
+        mapfile -t COMPREPLY < <(compgen -f -- "$word")
+        return
+        ;;
+    esac
+    if [ "$COMP_CWORD" = 1 ]; then
+        words=$(mx_federd --help 2>&1 | sed -n '/^Commands:/,/^$/s/^  \([a-z]*\).*/\1/p')
+    else
+        words=$(mx_federd "$subcommand" --help 2>&1 | grep -o -- '--[a-z-]*' | sort -u)
+    fi
+    mapfile -t COMPREPLY < <(compgen -W "$words" -- "$word")
+}
+
+complete -F _mx_federd mx_federd
