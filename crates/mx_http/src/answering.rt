@@ -1,16 +1,17 @@
 // The replies to the requests of a connection of HTTP/1.1.
 use crate::bodies::{BodyError, WholeBody};
 use crate::endings::Ending;
+use crate::heads::{head_fault, target_of};
 use crate::messages::{HttpReply, HttpRequest, Responder};
 use crate::stages::{SharedProgress, Stage};
 use bytes::Bytes;
 use futures::task::{Context, Poll};
 use futures::{Future, ready};
 use http_body_util::Full;
-use hyper::body::Incoming;
+use hyper::body::{Body, Incoming};
 use hyper::header::{self, HeaderValue};
 use hyper::service::Service;
-use hyper::{Request, Response, StatusCode, Uri};
+use hyper::{Request, Response, StatusCode};
 use std::alloc::{AllocError, AllocGlobal, Global};
 use std::net::Net;
 use std::rc::Rc;
@@ -27,6 +28,9 @@ pub enum Unanswered {
     // The client went away before its body had come.
     #[error("failed read or write")]
     Cut,
+    // Its connection was closed for another one.
+    #[error("connection closed")]
+    GivenUp,
 }
 
 impl From<AllocError> for Unanswered {
@@ -100,13 +104,19 @@ impl<A: Responder> SharedResponder<A> {
 
     // The response with a reply. Where the listener is to end, the connection is closed behind it.
     fn response(&self, alloc: Global, reply: HttpReply) -> Response<Full<Bytes>> {
-        let mut response = response(alloc, reply);
+        let response = response(alloc, reply);
         if self.is_ending() {
-            let close = HeaderValue::from_static("close");
-            let _ = response.headers_mut().insert(header::CONNECTION, close);
+            return closing(response);
         }
         response
     }
+}
+
+// A response behind which the connection is closed.
+fn closing(mut response: Response<Full<Bytes>>) -> Response<Full<Bytes>> {
+    let close = HeaderValue::from_static("close");
+    let _ = response.headers_mut().insert(header::CONNECTION, close);
+    response
 }
 
 // The reply of a responder, and whether it wants no more requests.
@@ -160,22 +170,6 @@ fn call_of<I, A: Drop>(
     })
 }
 
-// The target as it was sent: with its scheme and its host, where it has them. hyper gives no fragment.
-fn target_of(alloc: Global, uri: &Uri) -> Result<Vec<u8>, AllocError> {
-    let mut target = Vec::new(alloc);
-    if let Some(scheme) = uri.scheme_str() {
-        target.extend_from_slice(scheme.as_bytes())?;
-        target.extend_from_slice(b"://")?;
-    }
-    if let Some(authority) = uri.authority() {
-        target.extend_from_slice(authority.as_str().as_bytes())?;
-    }
-    if let Some(path) = uri.path_and_query() {
-        target.extend_from_slice(path.as_str().as_bytes())?;
-    }
-    Ok(target)
-}
-
 // Whether the body comes in a transfer coding other than `chunked`.
 fn has_other_coding<I>(request: &Request<Incoming<I>>) -> bool {
     match request.headers().get(header::TRANSFER_ENCODING) {
@@ -209,18 +203,19 @@ impl<A: Responder> Call<A> {
         shared.response(alloc, reply)
     }
 
-    // The response to a request whose body is too long.
+    // The response to a request whose body is too long. The connection is closed behind it.
     fn refuse_body<R: Wait>(self, rt: &R, alloc: Global) -> Response<Full<Bytes>> {
-        let Call { shared, .. } = self;
-        let reply = shared.responder.lock(rt).refuse_body(alloc);
-        shared.response(alloc, reply)
+        self.progress.note_left_body();
+        let reply = self.shared.responder.lock(rt).refuse_body(alloc);
+        closing(response(alloc, reply))
     }
 
-    // The response to a request whose body does not come in its coding.
+    // The response to a request whose body does not come in its coding, or whose `Host` is no host and port. The
+    // connection is closed behind it.
     fn refuse_framing<R: Wait>(self, rt: &R, alloc: Global) -> Response<Full<Bytes>> {
-        let Call { shared, .. } = self;
-        let reply = shared.responder.lock(rt).refuse_framing(alloc);
-        shared.response(alloc, reply)
+        self.progress.note_left_body();
+        let reply = self.shared.responder.lock(rt).refuse_framing(alloc);
+        closing(response(alloc, reply))
     }
 }
 
@@ -234,6 +229,9 @@ fn answered<R: Wait + Clock + Eprint + Net, A: Responder>(
     requires { A.can_respond }
 {
     let call = call?;
+    if !call.progress.end_wait() {
+        return Err(Unanswered::GivenUp);
+    }
     call.progress.enter(Stage::Reply);
     call.progress.note_answer();
     match body {
@@ -271,12 +269,17 @@ where
 
     fn call(&self, request: Request<Incoming<I>>) -> Self::Future {
         let alloc = self.rt.alloc();
-        self.progress.enter(Stage::Reply);
+        self.progress.enter(if request.body().is_end_stream() {
+            Stage::Turn
+        } else {
+            Stage::Body
+        });
         let call = call_of(alloc, &self.shared, &self.progress, &request);
+        let fault = head_fault(&request, self.largest_body);
         Answer {
             rt: self.rt,
             call: Some(call),
-            body: WholeBody::new(alloc, request.into_body(), self.largest_body),
+            body: WholeBody::new(alloc, request.into_body(), self.largest_body, fault),
         }
     }
 }
@@ -305,6 +308,7 @@ where
     fn poll(&mut self, cx: &mut Context<'_>) -> Poll<Result<Response<Full<Bytes>>, Unanswered>> {
         if let Some(Ok(call)) = &self.call {
             if call.progress.has_answered() {
+                call.progress.enter(Stage::Turn);
                 return cx.yield_now();
             }
             call.progress.enter(Stage::Body);

@@ -1,5 +1,5 @@
 // The bodies of requests.
-ghost use Rattle.std.specs.Prelude.{◌≡◌};
+ghost use Rattle.std.specs.Prelude.{◌≡◌, Err, IfSome};
 
 use bytes::Bytes;
 use futures::task::{Context, Poll};
@@ -10,8 +10,9 @@ use std::mem;
 
 // How many pieces of a body one poll takes.
 const MOST_PIECES: usize = 64;
-// Of a body that is longer than it may be, so many times the most bytes are read, so that its client comes to read the reply.
-const READ_ON: usize = 8;
+/// Of a body that is longer than it may be, so many times the most bytes are read, so that its client comes to read the
+/// reply.
+pub const READ_ON: usize = 8;
 
 /// Why a body was not had.
 #[derive(Clone, Copy, Debug, PartialEq, Eq, Drop)]
@@ -88,13 +89,16 @@ impl Gathered {
 pub struct WholeBody<B> {
     alloc: Global,
     body: B,
+    // Why it is not read, as its head says.
+    fault: Option<BodyError>,
     gathered: Gathered,
 }
 
 impl<B> WholeBody<B> {
-    /// The whole of this body, which may have so many bytes.
-    pub fn new(alloc: Global, body: B, largest: usize) -> WholeBody<B>
-        ensures { result.body ≡ body }
+    /// The whole of this body, which may have so many bytes; or, where its head has a fault, that, and no byte is read.
+    pub fn new(alloc: Global, body: B, largest: usize, fault: Option<BodyError>) -> WholeBody<B>
+        ensures body { result.body ≡ body }
+        ensures fault { result.fault ≡ fault }
     {
         let gathered = Gathered {
             bytes: Vec::new(alloc),
@@ -104,6 +108,7 @@ impl<B> WholeBody<B> {
         WholeBody {
             alloc,
             body,
+            fault,
             gathered,
         }
     }
@@ -116,7 +121,12 @@ impl<B: Body<Data = Bytes, Error = hyper::Error>> Future for WholeBody<B> {
 
     ghost needs = { λ whole. B.needs whole.body };
 
+    ghost gives = { λ whole r. IfSome whole.fault (λ fault. r ≡ Err fault) };
+
     fn poll(&mut self, cx: &mut Context<'_>) -> Poll<Result<Vec<u8>, BodyError>> {
+        if let Some(fault) = self.fault {
+            return Poll::Ready(Err(fault));
+        }
         for _ in 0..MOST_PIECES {
             let frame = match ready!(self.body.poll_frame(cx)) {
                 Some(Ok(frame)) => frame,

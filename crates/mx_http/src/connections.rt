@@ -1,17 +1,17 @@
 // Connections of HTTP/1.1, by hyper.
 use crate::answering::{Answers, SharedResponder};
+use crate::bodies::READ_ON;
 use crate::guards::ConnectionGuard;
 use crate::making::{Opener, serve_alone, serve_each};
 use crate::messages::Responder;
 use crate::quiet::{Patience, Timed};
-use crate::stages::{Progress, SharedProgress};
+use crate::stages::Progress;
+use crate::turns::InTurns;
 use bytes::Bytes;
-use futures::Future;
-use futures::task::{Context, Poll};
 use http_body_util::Full;
 use hyper::rt::TokioTimer;
 use hyper::server;
-use hyper::server::conn::http1::Connection;
+use hyper::server::conn::http1::WithoutShutdown;
 use std::alloc::{AllocError, AllocGlobal};
 use std::hash::RandomState;
 use std::io;
@@ -45,26 +45,6 @@ impl Source for std::net::TcpStream {
     }
 }
 
-/// A connection that knows when its event loop gives it a turn.
-#[derive(Drop)]
-pub struct InTurns<C> {
-    connection: C,
-    progress: SharedProgress,
-}
-
-impl<C: Future> Future for InTurns<C> {
-    type Output = C::Output;
-
-    ghost can_poll = { λ turns. C.can_poll turns.connection };
-
-    ghost needs = { λ turns. C.needs turns.connection };
-
-    fn poll(&mut self, cx: &mut Context<'_>) -> Poll<C::Output> {
-        self.progress.begin_turn();
-        self.connection.poll(cx)
-    }
-}
-
 // Serves connections, each of whose requests go to one responder.
 #[derive(Drop)]
 struct Serving<R, A> {
@@ -84,7 +64,10 @@ where
     S: Source,
     A: Responder,
 {
-    type Served = InTurns<Connection<Timed<S::Io, R>, Answers<R, A>, Full<Bytes>, TokioTimer<R>>>;
+    type Served = InTurns<
+        WithoutShutdown<Timed<S::Io, R>, Answers<R, A>, Full<Bytes>, TokioTimer<R>>,
+        Timed<S::Io, R>,
+    >;
 
     ghost can_open = { λ _. A.can_respond };
 
@@ -92,7 +75,11 @@ where
         let (source, guard) = arrival;
         let alloc = self.rt.alloc();
         let io = source.open(handle)?;
-        let progress = Rc::new(alloc, Progress::new()).map_err(AllocError::from)?;
+        let activity = match &guard {
+            Some(guard) => Some(guard.activity()?),
+            None => None,
+        };
+        let progress = Rc::new(alloc, Progress::new(activity)).map_err(AllocError::from)?;
         let mine = Rc::clone(&progress)?;
         let timed = Timed::new(io, self.rt, handle.time(), self.patience, mine, guard)?;
         let timer = TokioTimer::new(self.rt, handle.time().clone()?);
@@ -104,10 +91,9 @@ where
             progress: Rc::clone(&progress)?,
             largest_body: self.largest_body,
         };
-        Ok(InTurns {
-            connection: http.serve_connection(timed, service),
-            progress,
-        })
+        let serving = http.serve_connection(timed, service).without_shutdown();
+        let read_on = self.largest_body.saturating_mul(READ_ON);
+        Ok(InTurns::new(serving, progress, read_on))
     }
 }
 

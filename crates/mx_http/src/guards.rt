@@ -1,7 +1,8 @@
 // What the thread that takes connections in and the one that serves one of them know of it together.
 ghost use Rattle.futures.specs.Task.{Keeps};
 
-use crate::stages::Stage;
+use crate::activities::Activity;
+use crate::stages::{Progress, Stage};
 use futures::Future;
 use futures::task::{Context, Poll};
 use std::alloc::{AllocError, Global};
@@ -10,77 +11,79 @@ use std::sync::atomic::{AtomicU64, Ordering};
 use std::time::{Clock, Instant};
 use tokio::sync::oneshot;
 
-// The moment since which a connection waits that does not wait.
-const BUSY: u64 = u64::MAX;
-
-/// What a connection waits for.
-#[derive(Clone, Copy, Debug, PartialEq, Eq)]
-pub enum Waiting {
-    // That a request begins.
-    Idle,
-    // The rest of a request, or that its client reads a reply.
-    Slow,
-}
-
-// The moments since which a connection waits.
+/// What a connection does, to both threads. It is changed in one step from what was seen, so that a connection which was
+/// given up stays so, and none is given up that has become busy.
 #[derive(Drop)]
-struct Waits {
-    idle_since: AtomicU64,
-    slow_since: AtomicU64,
+pub struct SharedActivity {
+    number: AtomicU64,
 }
 
-impl Waits {
-    // The moment since which it waits so.
-    fn since(&self, waiting: Waiting) -> &AtomicU64 {
-        match waiting {
-            Waiting::Idle => &self.idle_since,
-            Waiting::Slow => &self.slow_since,
+impl SharedActivity {
+    fn new(activity: Activity) -> SharedActivity {
+        SharedActivity {
+            number: AtomicU64::new(activity.number()),
         }
+    }
+
+    pub fn load(&self) -> Activity {
+        Activity::of_number(self.number.load(Ordering::SeqCst))
+    }
+
+    /// The connection does something else, as who serves it says. False where it was given up.
+    pub fn change(&self, to: Activity) -> bool {
+        let seen = self.number.load(Ordering::SeqCst);
+        !matches!(Activity::of_number(seen), Activity::GivenUp) && self.replace(seen, to.number())
+    }
+
+    /// Gives the connection up, where it still does what was seen.
+    fn give_up(&self, seen: Activity) -> bool {
+        self.replace(seen.number(), Activity::GivenUp.number())
+    }
+
+    fn replace(&self, seen: u64, next: u64) -> bool {
+        seen == next
+            || self
+                .number
+                .compare_exchange(seen, next, Ordering::SeqCst, Ordering::SeqCst)
+                .is_ok()
     }
 }
 
 /// The end of who takes connections in.
 #[derive(Drop)]
 pub struct ConnectionHandle {
-    waits: Arc<Waits>,
-    end: oneshot::Sender<Waiting>,
+    activity: Arc<SharedActivity>,
+    end: oneshot::Sender<()>,
 }
 
 /// The end of who serves the connection, which is open as long as there is this end.
 #[derive(Drop)]
 pub struct ConnectionGuard {
-    waits: Arc<Waits>,
-    end: oneshot::Receiver<Waiting>,
+    activity: Arc<SharedActivity>,
+    end: oneshot::Receiver<()>,
     // Whether the other end may still tell it to end.
     is_watched: bool,
-    // As what it was told to end.
-    told: Option<Waiting>,
-    // The stage in which it waits.
-    waits_in: Option<Stage>,
+    is_told: bool,
     start: Instant,
 }
 
-/// Both ends for a connection. Moments are milliseconds from `start`.
+/// Both ends for a connection that is idle since now. Moments are milliseconds from `start`.
 pub fn ends(
     alloc: Global,
     start: Instant,
+    now: u64,
 ) -> Result<(ConnectionHandle, ConnectionGuard), AllocError> {
     let (tell, told) = oneshot::channel(alloc)?;
-    let none = Waits {
-        idle_since: AtomicU64::new(BUSY),
-        slow_since: AtomicU64::new(BUSY),
-    };
-    let waits = Arc::new(alloc, none)?;
+    let activity = Arc::new(alloc, SharedActivity::new(Activity::IdleSince(now)))?;
     let handle = ConnectionHandle {
-        waits: Arc::try_clone(&waits)?,
+        activity: Arc::try_clone(&activity)?,
         end: tell,
     };
     let guard = ConnectionGuard {
-        waits,
+        activity,
         end: told,
         is_watched: true,
-        told: None,
-        waits_in: None,
+        is_told: false,
         start,
     };
     Ok((handle, guard))
@@ -89,7 +92,7 @@ pub fn ends(
 /// The milliseconds from `start`; none where the clock can't be read.
 pub fn moment<C: Clock>(clock: &C, start: Instant) -> u64 {
     match Instant::now(clock) {
-        Ok(now) => u64::try_from(now.duration_since(start).as_millis()).unwrap_or(BUSY),
+        Ok(now) => u64::try_from(now.duration_since(start).as_millis()).unwrap_or(u64::MAX),
         Err(_error) => 0,
     }
 }
@@ -99,67 +102,67 @@ impl ConnectionHandle {
         !self.end.is_closed()
     }
 
-    /// For how many milliseconds the connection has waited so; none where it does not.
-    pub fn time_in(&self, waiting: Waiting, now: u64) -> Option<u64> {
-        let since = self.waits.since(waiting).load(Ordering::SeqCst);
-        if since == BUSY {
-            None
-        } else {
-            Some(now.saturating_sub(since))
-        }
+    /// What the connection does now.
+    pub fn activity(&self) -> Activity {
+        self.activity.load()
     }
 
-    /// Tells the connection to end: as an idle one once it is idle, as a slow one once it waits for its client.
-    pub fn close(self, waiting: Waiting) {
-        let ConnectionHandle { end, .. } = self;
-        let _ = end.send(waiting);
+    /// Gives the connection up, where it still does what was seen: from then on it serves no request.
+    pub fn give_up(&self, seen: Activity) -> bool {
+        self.activity.give_up(seen)
+    }
+
+    /// Tells the connection to end: now where it was given up, and else once it is idle.
+    pub fn close(self) -> LeavingConnection {
+        let ConnectionHandle { activity, end } = self;
+        let _ = end.send(());
+        LeavingConnection { activity }
     }
 }
 
-// What a connection waits for in a stage.
-fn waiting_in(stage: Stage) -> Waiting {
-    match stage {
-        Stage::Idle => Waiting::Idle,
-        Stage::Head | Stage::Body | Stage::Reply => Waiting::Slow,
+/// A connection that was told to end.
+#[derive(Drop)]
+pub struct LeavingConnection {
+    activity: Arc<SharedActivity>,
+}
+
+impl LeavingConnection {
+    /// Whether who serves it has yet to close it.
+    pub fn is_open(&self) -> bool {
+        Arc::strong_count(&self.activity) > 1
     }
 }
 
 impl ConnectionGuard {
-    /// The connection waits for its client, in this stage.
-    pub fn begin_wait<C: Clock>(&mut self, clock: &C, stage: Stage) {
-        if self.waits_in != Some(stage) {
-            self.end_wait();
-            self.waits_in = Some(stage);
-            let now = moment(clock, self.start);
-            self.waits
-                .since(waiting_in(stage))
-                .store(now, Ordering::SeqCst);
-        }
+    /// What the connection does, to its progress.
+    pub fn activity(&self) -> Result<Arc<SharedActivity>, AllocError> {
+        Ok(Arc::try_clone(&self.activity)?)
     }
 
-    /// A request begins, or a reply goes.
-    pub fn end_wait(&mut self) {
-        if let Some(stage) = self.waits_in.take() {
-            self.waits
-                .since(waiting_in(stage))
-                .store(BUSY, Ordering::SeqCst);
-        }
+    /// The connection waits for its client. False where it was given up.
+    pub fn begin_wait<C: Clock>(&self, clock: &C, progress: &Progress) -> bool {
+        let now = match progress.since() {
+            Some(since) => since,
+            None => moment(clock, self.start),
+        };
+        progress.begin_wait(now)
     }
 
-    /// Ready once it is told to end, and waits for its client: where it was told as an idle one, for a request to begin.
-    pub fn poll_end(&mut self, cx: &mut Context<'_>) -> Poll<()>
+    /// Ready once it is told to end, and was given up or is idle.
+    pub fn poll_end(&mut self, stage: Stage, cx: &mut Context<'_>) -> Poll<()>
         ensures { Keeps cx.old cx.new }
     {
         if self.is_watched {
             if let Poll::Ready(told) = self.end.poll(cx) {
                 self.is_watched = false;
-                self.told = told.ok();
+                self.is_told = told.is_ok();
             }
         }
-        match self.told {
-            Some(Waiting::Slow) => Poll::Ready(()),
-            Some(Waiting::Idle) if self.waits_in == Some(Stage::Idle) => Poll::Ready(()),
-            Some(Waiting::Idle) | None => Poll::Pending,
+        let is_given_up = matches!(self.activity.load(), Activity::GivenUp);
+        if is_given_up || (self.is_told && stage == Stage::Idle) {
+            Poll::Ready(())
+        } else {
+            Poll::Pending
         }
     }
 }

@@ -2,11 +2,14 @@
 //! request is answered is the responder's.
 #![tactic(auto)]
 
+mod activities;
 mod answering;
 mod bodies;
 mod connections;
 mod endings;
+mod giving_way;
 mod guards;
+mod heads;
 mod listening;
 mod making;
 mod messages;
@@ -14,6 +17,7 @@ mod open_connections;
 mod quiet;
 mod runtimes;
 mod stages;
+mod turns;
 
 pub use answering::Unanswered;
 pub use connections::{Source, serve_one};

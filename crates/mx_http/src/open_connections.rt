@@ -1,35 +1,39 @@
 // The connections that are open.
-ghost use Rattle.std.specs.Prelude.{◌≡◌, ◌+◌, ◌≤◌, ◌<◌, ◌↔◌, IsTrue, false, true};
+ghost use Rattle.std.specs.Prelude.{◌≡◌, ◌+◌, ◌≤◌, ◌<◌, ◌↔◌, ◌++◌, ◌∷◌, [], Some, None, IfSome, IsTrue, false, true, length};
+ghost use Rattle.std.specs.List.{remove};
+ghost use Rattle.mx_http.specs.Places.{gives_way};
 
-use crate::guards::{ConnectionHandle, Waiting};
+use crate::activities::Activity;
+use crate::giving_way::gives_way;
+use crate::guards::{ConnectionHandle, LeavingConnection};
 use std::alloc::Global;
 use std::marker::Model;
 use std::mem;
 
-// For how many milliseconds a connection has waited for its client that may be closed for another.
-const LEAST_WAIT: u64 = 5000;
-
-// A connection that is open, and the number of the worker that serves it.
+/// A connection that is open, and the number of the worker that serves it.
 #[derive(Drop)]
-struct OpenConnection {
+pub struct OpenConnection {
     handle: ConnectionHandle,
     worker: usize,
 }
 
-/// The connections that are open: at most so many. Those that were told to end are not among them.
+/// The connections that may still serve a request, in the order in which they came: at most so many. Those that were given
+/// up are not among them; of these at most as many may have yet to be closed by who serves them.
 #[derive(Drop)]
 pub struct OpenConnections {
     taken: Vec<OpenConnection>,
+    leaving: Vec<LeavingConnection>,
     most: usize,
 }
 
 impl Model for OpenConnections {
-    ghost use Rattle.std.specs.Prelude.{ℕ, ◌≤◌, length};
+    ghost use Rattle.std.specs.Prelude.{List, ℕ, ◌≤◌, length};
+    ghost use Rattle.mx_http.specs.declared.open_connections.OpenConnection.{OpenConnection};
 
-    // How many are open, and how many may be.
-    ghost Value = { ℕ × ℕ };
+    // Those that are open, and how many may be.
+    ghost Value = { List OpenConnection × ℕ };
 
-    ghost view = { λ connections. (length connections.taken.items, connections.most) };
+    ghost view = { λ connections. (connections.taken.items, connections.most) };
 
     ghost invariant = { λ connections. length connections.taken.items ≤ connections.most };
 }
@@ -37,61 +41,79 @@ impl Model for OpenConnections {
 impl OpenConnections {
     /// None is open.
     pub fn new(alloc: Global, most: usize) -> OpenConnections
-        ensures { result ≡ (0, most) }
+        ensures { result ≡ ([], most) }
     {
         OpenConnections {
             taken: Vec::new(alloc),
+            leaving: Vec::new(alloc),
             most,
         }
     }
 
     /// Leaves out those that are closed.
     pub fn forget_closed(&mut self)
-        ensures fewer { self.new.0 ≤ self.old.0 }
+        ensures fewer { length self.new.0 ≤ length self.old.0 }
         ensures most { self.new.1 ≡ self.old.1 }
     {
         self.taken.retain(|connection| connection.handle.is_open());
+        self.leaving.retain(|connection| connection.is_open());
     }
 
-    /// Makes room where as many are open as may be: tells the one to end that has been idle longest, if that is for five
-    /// seconds or more, and else the one whose client has been waited for longest otherwise, if that is for as long.
-    pub fn make_room(&mut self, now: u64)
-        ensures fewer { self.new.0 ≤ self.old.0 }
+    /// Makes room where as many are open as may be: one that waits for its client is given up, and its place told. None
+    /// where there is room, where none waits for its client, and where too many have yet to be closed.
+    pub fn make_room(&mut self, alloc: Global) -> Option<usize>
+        ensures none { length self.old.0 < self.old.1 → result ≡ None }
+        ensures one { IfSome result (λ place. self.new.0 ≡ remove self.old.0 place) }
+        ensures fewer { IfSome result (λ _. length self.new.0 + 1 ≡ length self.old.0) }
+        ensures same { result ≡ None → self.new.0 ≡ self.old.0 }
         ensures most { self.new.1 ≡ self.old.1 }
     {
-        if self.taken.len() < self.most {
-            return;
+        if self.has_room() || self.leaving.len() >= self.most {
+            return None;
         }
-        let connections = self.taken.as_slice();
-        if let Some(at) = longest_in(Waiting::Idle, connections, now) {
-            self.close(at, Waiting::Idle);
-        } else if let Some(at) = longest_in(Waiting::Slow, connections, now) {
-            self.close(at, Waiting::Slow);
-        }
+        let activities = self.seen_activities(alloc)?;
+        self.give_up_longest(activities.as_slice())
     }
 
-    // Tells one to end.
-    fn close(&mut self, at: usize, waiting: Waiting)
-        ensures fewer { self.new.0 ≤ self.old.0 }
+    // What each does now. None where no memory is left.
+    fn seen_activities(&self, alloc: Global) -> Option<Vec<Activity>> {
+        let mut activities = Vec::new(alloc);
+        for connection in &self.taken {
+            activities.push(connection.handle.activity()).ok()?;
+        }
+        Some(activities)
+    }
+
+    // Of connections that were seen to do so, gives up the one that gives way, where it still waits, and tells its place.
+    fn give_up_longest(&mut self, activities: &[Activity]) -> Option<usize>
+        ensures longest { IfSome result (λ place. gives_way activities.now ≡ Some place) }
+        ensures one { IfSome result (λ place. self.new.0 ≡ remove self.old.0 place) }
+        ensures fewer { IfSome result (λ _. length self.new.0 + 1 ≡ length self.old.0) }
+        ensures same { result ≡ None → self.new.0 ≡ self.old.0 }
         ensures most { self.new.1 ≡ self.old.1 }
     {
-        if at < self.taken.len() {
-            let OpenConnection { handle, .. } = self.taken.swap_remove(at);
-            handle.close(waiting);
+        let place = gives_way(activities)?;
+        let connection = self.taken.get(place)?;
+        let activity = activities.get(place)?;
+        if !connection.handle.give_up(*activity) {
+            return None;
         }
+        let OpenConnection { handle, .. } = self.taken.remove(place);
+        let _ = self.leaving.push(handle.close());
+        Some(place)
     }
 
     /// Whether one more may be open.
     pub fn has_room(&self) -> bool
-        ensures { IsTrue result ↔ (self.now.0 < self.now.1) }
+        ensures { IsTrue result ↔ (length self.now.0 < self.now.1) }
     {
         self.taken.len() < self.most
     }
 
-    /// Takes in a connection that a worker serves, and tells whether it is open now. It is not where as many are open as
-    /// may be, or no memory is left.
+    /// Takes in a connection that a worker serves, behind the others, and tells whether it is open now. It is not where as
+    /// many are open as may be, or no memory is left.
     pub fn add(&mut self, handle: ConnectionHandle, worker: usize) -> bool
-        ensures open { result ≡ true → self.new.0 ≡ self.old.0 + 1 }
+        ensures open { result ≡ true → self.new.0 ≡ self.old.0 ++ record { handle = handle; worker = worker } ∷ [] }
         ensures closed { result ≡ false → self.new.0 ≡ self.old.0 }
         ensures most { self.new.1 ≡ self.old.1 }
     {
@@ -100,13 +122,13 @@ impl OpenConnections {
 
     /// Tells all to end once they are idle.
     pub fn close_all(&mut self, alloc: Global)
-        ensures none { self.new.0 ≡ 0 }
+        ensures none { self.new.0 ≡ [] }
         ensures most { self.new.1 ≡ self.old.1 }
     {
         let taken = mem::replace(&mut self.taken, Vec::new(alloc));
         for connection in taken {
             let OpenConnection { handle, .. } = connection;
-            handle.close(Waiting::Idle);
+            let _ = handle.close();
         }
     }
 
@@ -120,19 +142,4 @@ impl OpenConnections {
         }
         count
     }
-}
-
-// Which connection has waited so for longest, where that is long enough.
-fn longest_in(waiting: Waiting, connections: &[OpenConnection], now: u64) -> Option<usize> {
-    let mut best = None;
-    let mut longest = LEAST_WAIT;
-    for (at, connection) in connections.iter().enumerate() {
-        if let Some(time) = connection.handle.time_in(waiting, now) {
-            if time >= longest {
-                longest = time;
-                best = Some(at);
-            }
-        }
-    }
-    best
 }
