@@ -1,1 +1,3 @@
+pub mod LogDamage
 pub mod ServerErrors
+pub mod ServerFile

@@ -70,6 +70,18 @@ impl StartError {
         }
     }
 
+    /// A read, a write or a call of the system that failed on this file of a server.
+    pub(crate) fn of_storage(alloc: Global, what: &str, error: &io::Error) -> StartError
+        ensures memory { (result.error ≡ ServerError.Memory) ↔ (error_kind error.now ≡ ErrorKind.OutOfMemory) }
+        ensures other { (result.error ≡ ServerError.Storage) ↔ ¬ (error_kind error.now ≡ ErrorKind.OutOfMemory) }
+    {
+        let kind = match error.kind() {
+            ErrorKind::OutOfMemory => ServerError::Memory,
+            _ => ServerError::Storage,
+        };
+        StartError::about(alloc, kind, what, error)
+    }
+
     /// A read, a write or a call of the system that failed on this.
     pub fn of_io(alloc: Global, what: &str, error: &io::Error) -> StartError
         ensures memory { (result.error ≡ ServerError.Memory) ↔ (error_kind error.now ≡ ErrorKind.OutOfMemory) }

@@ -3,10 +3,17 @@
 
 mod directories;
 mod errors;
+mod log_damage;
+mod losses;
+mod made_for;
+mod presence;
 mod progress_lines;
 mod row_files;
+mod row_openings;
+mod server_file;
 
-pub use directories::{FileRows, ServerFiles, migrate, open_directory};
+pub use directories::{ServerFiles, migrate, open_directory};
 pub use errors::{ServerError, StartError};
 pub use progress_lines::ProgressLine;
 pub use row_files::{RowFile, RowFiles};
+pub use row_openings::FileRows;
