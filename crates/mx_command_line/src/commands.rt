@@ -99,17 +99,17 @@ fn replay_of(alloc: Global, given: &ArgMatches) -> Result<Command, CommandLineEr
     };
     match name_of(alloc, given)? {
         Some(name) => Ok(Command::Replay { name, shards }),
-        None => misused(alloc, "the name is no server name\n"),
+        None => misused(alloc, "--name takes a server name, such as hub.example\n"),
     }
 }
 
 // `serve`, where the name is a server name.
 fn serve_of(alloc: Global, given: &ArgMatches) -> Result<Command, CommandLineError> {
     let Some(name) = name_of(alloc, given)? else {
-        return misused(alloc, "the name is no server name\n");
+        return misused(alloc, "--name takes a server name, such as hub.example\n");
     };
     if given.get_str("data") == Some("") {
-        return misused(alloc, "the directory has no name\n");
+        return misused(alloc, "--data takes a directory, whose name is not empty\n");
     }
     match options_of(alloc, given, name)? {
         Some(options) => Ok(Command::Serve(options)),
@@ -117,25 +117,26 @@ fn serve_of(alloc: Global, given: &ArgMatches) -> Result<Command, CommandLineErr
     }
 }
 
-// `audit`, where it is told a room, where its events are, and at most one question.
+// `audit`, where it is told a room and where its events are.
 fn audit_of(alloc: Global, given: &ArgMatches) -> Result<Command, CommandLineError> {
     let Some(room) = room_of(alloc, given)? else {
-        return misused(alloc, "the room is no room id\n");
+        return misused(
+            alloc,
+            "--room takes a room ID, which begins with ! and ends with a server name\n",
+        );
     };
     let Some(source) = source_of(alloc, given)? else {
         return misused(
             alloc,
-            "either --name, a server name, or --data, a directory\n",
+            "--name takes a server name, for a log on standard input; --data takes a directory; one of them is needed\n",
         );
     };
-    match question_of(alloc, given)? {
-        Some(question) => Ok(Command::Audit(AuditOptions {
-            source,
-            room,
-            question,
-        })),
-        None => misused(alloc, "at most one question, with an event id\n"),
-    }
+    let question = question_of(alloc, given)?;
+    Ok(Command::Audit(AuditOptions {
+        source,
+        room,
+        question,
+    }))
 }
 
 // `migrate`, where the directory has a name.
@@ -145,7 +146,7 @@ fn migrate_of(alloc: Global, given: &ArgMatches) -> Result<Command, CommandLineE
     };
     match text_of(alloc, given, "data")? {
         Some(data) if !data.is_empty() => Ok(Command::Migrate(MigrateOptions { data, shards })),
-        _ => misused(alloc, "the directory has no name\n"),
+        _ => misused(alloc, "--data takes a directory, whose name is not empty\n"),
     }
 }
 
@@ -153,11 +154,14 @@ fn migrate_of(alloc: Global, given: &ArgMatches) -> Result<Command, CommandLineE
 fn log_options_of(alloc: Global, given: &ArgMatches) -> Result<Command, CommandLineError> {
     let room = room_of(alloc, given)?;
     if room.is_none() && given.get_str("room").is_some() {
-        return misused(alloc, "the room is no room id\n");
+        return misused(
+            alloc,
+            "--room takes a room ID, which begins with ! and ends with a server name\n",
+        );
     }
     let origin = server_of(alloc, given, "origin")?;
     if origin.is_none() && given.get_str("origin").is_some() {
-        return misused(alloc, "the origin is no server name\n");
+        return misused(alloc, "--origin takes a server name, such as hub.example\n");
     }
     Ok(Command::Log(LogOptions {
         room,
@@ -202,55 +206,44 @@ fn log_of(name: Option<ServerName>, shards: Option<ShardCount>) -> Option<AuditS
     Some(AuditSource::Log { name, shards })
 }
 
-// What is asked, where it is one thing.
-fn question_of(
-    alloc: Global,
-    given: &ArgMatches,
-) -> Result<Option<AuditQuestion>, CommandLineError> {
-    let words = ["event", "state-before", "state-after", "resolution"];
-    let asked = words
-        .iter()
-        .filter(|word| given.get_str(word).is_some())
-        .count();
-    match (asked, given.get_flag("dot")) {
-        (0, false) => Ok(Some(AuditQuestion::Events)),
-        (0, true) => Ok(Some(AuditQuestion::Picture)),
-        (1, false) => question_on_event(alloc, given),
-        _ => Ok(None),
+// What is asked. Of the options that ask, at most one is given.
+fn question_of(alloc: Global, given: &ArgMatches) -> Result<AuditQuestion, CommandLineError> {
+    if given.get_flag("dot") {
+        return Ok(AuditQuestion::Picture);
     }
-}
-
-// The question that is asked about an event.
-fn question_on_event(
-    alloc: Global,
-    given: &ArgMatches,
-) -> Result<Option<AuditQuestion>, CommandLineError> {
+    if given.get_flag("html") {
+        return Ok(AuditQuestion::Page);
+    }
     if let Some(id) = event_of(alloc, given, "event")? {
-        return Ok(Some(AuditQuestion::Event(id)));
+        return Ok(AuditQuestion::Event(id));
     }
     if let Some(id) = event_of(alloc, given, "state-before")? {
-        return Ok(Some(AuditQuestion::StateBefore(id)));
+        return Ok(AuditQuestion::StateBefore(id));
     }
     if let Some(id) = event_of(alloc, given, "state-after")? {
-        return Ok(Some(AuditQuestion::StateAfter(id)));
+        return Ok(AuditQuestion::StateAfter(id));
     }
-    let id = event_of(alloc, given, "resolution")?;
-    Ok(id.map(AuditQuestion::Resolution))
+    match event_of(alloc, given, "resolution")? {
+        Some(id) => Ok(AuditQuestion::Resolution(id)),
+        None => Ok(AuditQuestion::Events),
+    }
 }
 
-// The event id at a word, where it is one.
+// The event ID at an option, if it is given. `Misused` where what is given is none.
 fn event_of(
     alloc: Global,
     given: &ArgMatches,
-    word: &str,
+    option: &str,
 ) -> Result<Option<EventId>, CommandLineError> {
-    let Some(id) = given.get_str(word) else {
+    let Some(id) = given.get_str(option) else {
         return Ok(None);
     };
     match EventId::parse(alloc, id) {
         Ok(id) => Ok(Some(id)),
         Err(IdError::Memory) => Err(CommandLineError::Memory),
-        Err(IdError::NotAnId(_)) => Ok(None),
+        Err(IdError::NotAnId(_)) => Err(CommandLineError::Misused(format!(in alloc;
+            "--{option} {id} is no event ID, which begins with $\n"
+        )?)),
     }
 }
 
@@ -270,7 +263,7 @@ fn options_of(
     let Some(data) = text_of(alloc, given, "data")? else {
         return Ok(None);
     };
-    let rooms = text_of(alloc, given, "host")?;
+    let rooms = text_of(alloc, given, "rooms")?;
     Ok(Some(ServeOptions {
         name,
         data,

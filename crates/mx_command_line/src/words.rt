@@ -1,6 +1,6 @@
 // The words that each subcommand takes.
 use clap::builder::ValueParser;
-use clap::{Arg, ArgAction};
+use clap::{Arg, ArgAction, ArgGroup};
 use mx_keeper::MOST_PLACES;
 use std::alloc::{AllocError, Global};
 
@@ -8,22 +8,23 @@ use std::alloc::{AllocError, Global};
 pub(crate) const VERSION: &str = "1.0.0\nlayouts of files: 1, 2";
 
 pub(crate) fn check_words<'a>(alloc: Global) -> clap::Command<'a> {
-    clap::Command::new(alloc, "check").about(
-        "Reads one event from standard input, and prints its id, whether its content hash holds, and its canonical text",
-    )
+    clap::Command::new(alloc, "check")
+        .about(
+            "Reads one event from standard input, and prints its ID, whether its content hash holds, and its canonical text",
+        )
+        .after_help("Example: mx_federd check < event.json\nPage: docs/LOG.md")
 }
 
 fn name_word<'a>(alloc: Global) -> Arg<'a> {
-    Arg::new(alloc, "name")
-        .long("name")
+    text_word(alloc, "name", "SERVER")
         .required(true)
-        .action(ArgAction::Set)
         .help("The name of the server")
 }
 
 fn number_word<'a>(alloc: Global, name: &'a str, usual: &'a str, least: u64, most: u64) -> Arg<'a> {
     Arg::new(alloc, name)
         .long(name)
+        .value_name("NUMBER")
         .default_value(usual)
         .action(ArgAction::Set)
         .value_parser(ValueParser::unsigned(least, most))
@@ -34,36 +35,36 @@ fn flag_word<'a>(alloc: Global, name: &'a str) -> Arg<'a> {
 }
 
 fn shards_word<'a>(alloc: Global) -> Arg<'a> {
-    number_word(alloc, "shards", "1", 1, MOST_PLACES as u64).help(
-        "How many shards hold the rooms, 1 to 64; no answer depends on it",
-    )
+    number_word(alloc, "shards", "1", 1, MOST_PLACES as u64)
+        .value_name("1-64")
+        .help("How many shards hold the rooms; no answer depends on it")
 }
 
 pub(crate) fn replay_words<'a>(alloc: Global) -> Result<clap::Command<'a>, AllocError> {
     clap::Command::new(alloc, "replay")
         .about("Reads a log from standard input, and prints what a server answers to each line")
+        .after_help("Example: mx_federd replay --name hub.example < log.jsonl\nPage: docs/LOG.md")
         .arg(name_word(alloc))?
         .arg(shards_word(alloc))
 }
 
 pub(crate) fn serve_words<'a>(alloc: Global) -> Result<clap::Command<'a>, AllocError> {
-    let data = Arg::new(alloc, "data")
-        .long("data")
-        .required(true)
-        .action(ArgAction::Set)
-        .help("The directory of the server's files, which is made where it is not there");
-    let port = number_word(alloc, "port", "8008", 0, 65_535).help(
-        "The port on 127.0.0.1; 0 takes a free one",
+    let data = text_word(alloc, "data", "DIR").required(true).help(
+        "The directory of the server's files, which is made where it is not there",
     );
-    let threads = number_word(alloc, "threads", "1", 1, 64).help(
-        "How many threads answer requests, 1 to 64",
-    );
-    let connections = number_word(alloc, "connections", "16", 1, 256).help(
-        "How many connections may be open, 1 to 256; one more takes the place of the one that has been idle longest, or else has waited longest for its client, if that is five seconds or more, else it is closed unanswered",
-    );
-    let host = Arg::new(alloc, "host")
-        .long("host")
-        .action(ArgAction::Set)
+    let port = number_word(alloc, "port", "8008", 0, 65_535)
+        .value_name("PORT")
+        .help("The port on 127.0.0.1; 0 takes a free one");
+    let threads = number_word(alloc, "threads", "1", 1, 64)
+        .value_name("1-64")
+        .help("How many threads answer requests");
+    let connections = number_word(alloc, "connections", "16", 1, 256)
+        .value_name("1-256")
+        .help(
+            "How many connections may be open; one more takes the place of the one that has been idle longest, or else the one that has been waited for longest within a request; where none waits for its client, it is closed unanswered",
+        );
+    let rooms = text_word(alloc, "rooms", "FILE")
+        .visible_alias("host")?
         .help("A file of lines of a log, each of which hosts a room at the start");
     let stop = flag_word(alloc, "stop-on-storage").help(
         "End with status 1 once a file of rows has failed, so that a supervisor starts it again",
@@ -73,73 +74,103 @@ pub(crate) fn serve_words<'a>(alloc: Global) -> Result<clap::Command<'a>, AllocE
     );
     clap::Command::new(alloc, "serve")
         .about("Answers other servers' requests on 127.0.0.1")
+        .after_help(
+            "Example: mx_federd serve --name hub.example --data /var/lib/mx_federd --rooms rooms.jsonl\nPage: docs/OPERATION.md",
+        )
         .arg(name_word(alloc))?
         .arg(data)?
         .arg(port)?
         .arg(threads)?
         .arg(shards_word(alloc))?
         .arg(connections)?
-        .arg(host)?
+        .arg(rooms)?
         .arg(stop)?
         .arg(accept)
 }
 
-fn text_word<'a>(alloc: Global, name: &'a str) -> Arg<'a> {
-    Arg::new(alloc, name).long(name).action(ArgAction::Set)
+fn text_word<'a>(alloc: Global, name: &'a str, value: &'a str) -> Arg<'a> {
+    Arg::new(alloc, name)
+        .long(name)
+        .value_name(value)
+        .action(ArgAction::Set)
+}
+
+// The options that each ask a question: at most one of them is given.
+fn questions<'a>(alloc: Global) -> Result<ArgGroup<'a>, AllocError> {
+    ArgGroup::new(alloc, "question")
+        .arg("event")?
+        .arg("state-before")?
+        .arg("state-after")?
+        .arg("resolution")?
+        .arg("dot")?
+        .arg("html")
+}
+
+fn question_word<'a>(alloc: Global, name: &'a str) -> Arg<'a> {
+    text_word(alloc, name, "EVENT_ID")
 }
 
 pub(crate) fn audit_words<'a>(alloc: Global) -> Result<clap::Command<'a>, AllocError> {
-    let name = text_word(alloc, "name").help(
+    let name = text_word(alloc, "name", "SERVER").help(
         "The name of the server that answers the log on standard input, whose room is told of",
     );
-    let data = text_word(alloc, "data").help(
+    let data = text_word(alloc, "data", "DIR").help(
         "The directory of the files of a server that is stopped, in place of a log; they are only read",
     );
-    let room = text_word(alloc, "room")
+    let room = text_word(alloc, "room", "ROOM_ID")
         .required(true)
-        .help("The id of the room");
+        .help("The ID of the room");
     clap::Command::new(alloc, "audit")
         .about(
             "Tells of each event of a room why it was accepted or refused, and what its states are",
+        )
+        .after_help(
+            "Example: mx_federd log < events.json | mx_federd audit --name hub.example --room '!r:a.example'\nPage: docs/AUDIT.md",
         )
         .arg(name)?
         .arg(data)?
         .arg(room)?
         .arg(shards_word(alloc))?
-        .arg(text_word(alloc, "event").help("The id of the one event to tell of"))?
-        .arg(text_word(alloc, "state-before").help("The id of an event: the state before it"))?
-        .arg(text_word(alloc, "state-after").help("The id of an event: the state after it"))?
-        .arg(text_word(alloc, "resolution").help(
-            "The id of an event: how the states after its prev events were resolved",
+        .arg(question_word(alloc, "event").help("The ID of the one event to tell of"))?
+        .arg(question_word(alloc, "state-before").help("The ID of an event: the state before it"))?
+        .arg(question_word(alloc, "state-after").help("The ID of an event: the state after it"))?
+        .arg(question_word(alloc, "resolution").help(
+            "The ID of an event: how the states after its prev events were resolved",
         ))?
-        .arg(flag_word(alloc, "dot").help("The room as a graph for Graphviz"))
+        .arg(flag_word(alloc, "dot").help("The room as a graph for Graphviz"))?
+        .arg(flag_word(alloc, "html").help("The room as a page for a browser"))?
+        .group(questions(alloc)?)
 }
 
 pub(crate) fn log_words<'a>(alloc: Global) -> Result<clap::Command<'a>, AllocError> {
-    let room = text_word(alloc, "room").help("The id of the room, where the events are of several");
-    let origin = text_word(alloc, "origin").help(
+    let room = text_word(alloc, "room", "ROOM_ID").help(
+        "The ID of the room, where the events are of several",
+    );
+    let origin = text_word(alloc, "origin", "SERVER").help(
         "The server that sends the transactions of the log; the usual one is that of the create event's sender",
     );
     let missing = flag_word(alloc, "missing").help(
-        "Tell all ids that are cited and not there, and not the first ten alone",
+        "Tell all IDs that are cited and not there, and not the first ten alone",
     );
     clap::Command::new(alloc, "log")
         .about(
             "Reads events of a room as other servers export them from standard input, in any order, and prints a log of them",
         )
+        .after_help("Example: mx_federd log < events.json > log.jsonl\nPage: docs/LOG.md")
         .arg(room)?
         .arg(origin)?
         .arg(missing)
 }
 
 pub(crate) fn migrate_words<'a>(alloc: Global) -> Result<clap::Command<'a>, AllocError> {
-    let data = text_word(alloc, "data")
+    let data = text_word(alloc, "data", "DIR")
         .required(true)
         .help("The directory of the files of a server that is stopped");
     clap::Command::new(alloc, "migrate")
         .about(
             "Brings the file of each shard to the current layout, and prints how many rows it has",
         )
+        .after_help("Example: mx_federd migrate --data /var/lib/mx_federd\nPage: docs/FILES.md")
         .arg(data)?
         .arg(shards_word(alloc))
 }

@@ -1,6 +1,7 @@
 // `audit`: why the events of a room were received as they were, and what its states are.
 mod file_rows;
 mod log_rows;
+mod page;
 mod telling;
 
 use crate::auditing::file_rows::rows_of_directory;

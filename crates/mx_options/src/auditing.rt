@@ -17,6 +17,8 @@ pub enum AuditQuestion {
     Resolution(EventId),
     // The room as a graph for Graphviz.
     Picture,
+    // The room as a page for a browser.
+    Page,
 }
 
 /// Where the events of a room are.

@@ -1,6 +1,7 @@
 // The answers of `audit`.
 ghost use Rattle.std.specs.Prelude.{◌<◌, IfOk, length};
 
+use crate::auditing::page::tell_page;
 use crate::output::Failure;
 use mx_audit::{
     RoomAudit, event_line, lines_of_resolution, picture_end, picture_head, picture_lines,
@@ -40,6 +41,7 @@ pub(crate) fn tell<W: Write>(
             tell_resolution(alloc, audit, number, out)
         }
         AuditQuestion::Picture => tell_picture(alloc, audit, out),
+        AuditQuestion::Page => tell_page(alloc, audit, out),
     }
 }
 
@@ -91,13 +93,17 @@ fn tell_resolution<W: Write>(
 ) -> Result<(), Failure>
     requires { number < length audit.now }
 {
-    let steps = match resolution_before(alloc, audit.timeline(), number) {
-        Ok(steps) => steps,
-        Err(GraphError::Memory) => return Err(Failure::Memory),
-        Err(GraphError::NotAdded(_)) => return Err(Failure::Storage),
-    };
+    let steps = resolution_before(alloc, audit.timeline(), number).map_err(of_graph)?;
     let lines = lines_of_resolution(alloc, audit.timeline(), &steps)?;
     write_bytes(out, &lines)
+}
+
+// Events that make no graph are no room's.
+pub(crate) fn of_graph(error: GraphError) -> Failure {
+    match error {
+        GraphError::Memory => Failure::Memory,
+        GraphError::NotAdded(_) => Failure::Storage,
+    }
 }
 
 fn tell_picture<W: Write>(alloc: Global, audit: &RoomAudit, out: &mut W) -> Result<(), Failure> {
@@ -111,6 +117,6 @@ fn tell_picture<W: Write>(alloc: Global, audit: &RoomAudit, out: &mut W) -> Resu
     write_bytes(out, picture_end().as_bytes())
 }
 
-fn write_bytes<W: Write>(out: &mut W, bytes: &[u8]) -> Result<(), Failure> {
+pub(crate) fn write_bytes<W: Write>(out: &mut W, bytes: &[u8]) -> Result<(), Failure> {
     out.write_all(bytes).map_err(Failure::of_io)
 }

@@ -1,0 +1,40 @@
+// The page of a room.
+use crate::auditing::telling::{of_graph, write_bytes};
+use crate::output::Failure;
+use mx_audit::RoomAudit;
+use mx_graph::EventNo;
+use mx_page::{data_end, data_start, page_end, page_entry, page_head};
+use mx_receipt::timeline_is_sound;
+use std::alloc::Global;
+use std::io::Write;
+
+/// Writes the page of a room, event by event.
+pub(crate) fn tell_page<W: Write>(
+    alloc: Global,
+    audit: &RoomAudit,
+    out: &mut W,
+) -> Result<(), Failure> {
+    write_pieces(out, &page_head())?;
+    write_bytes(out, data_start().as_bytes())?;
+    tell_entries(alloc, audit, out)?;
+    write_bytes(out, data_end().as_bytes())?;
+    write_pieces(out, &page_end())
+}
+
+fn tell_entries<W: Write>(alloc: Global, audit: &RoomAudit, out: &mut W) -> Result<(), Failure> {
+    timeline_is_sound(audit.timeline());
+    for number in 0..audit.timeline().len() {
+        let entry = page_entry(alloc, audit, EventNo::at(number as u32)).map_err(of_graph)?;
+        if let Some(text) = entry {
+            write_bytes(out, &text)?;
+        }
+    }
+    Ok(())
+}
+
+fn write_pieces<W: Write>(out: &mut W, pieces: &[&'static str]) -> Result<(), Failure> {
+    for piece in pieces {
+        write_bytes(out, piece.as_bytes())?;
+    }
+    Ok(())
+}

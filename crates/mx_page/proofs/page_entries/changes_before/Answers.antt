@@ -1,0 +1,8 @@
+use Rattle.std.proofs.Common.{ap₂, ◌∙◌}
+use Rattle.mx_page.specs.Changes.{changes}
+use Rattle.mx_page.specs.Page.{changes_before}
+use Rattle.mx_page.proofs.page_entries.changes_before.Goals as goal
+
+pub returns : goal.returns
+unfolding changes_before
+returns c = c.in_ok-found.ensures ∙ ap₂ changes c.in_ok-old.ensures (c.in_ok-new.ensures ∙ c.state_before.ensures)

@@ -1,0 +1,5 @@
+pub mod Changes
+pub mod Escaping
+pub mod EntryTexts
+pub mod Page
+pub mod EntryParts

@@ -1,0 +1,70 @@
+-- The data of the page of a room (docs/AUDIT.md).
+use Rattle.std.specs.Prelude.{ℕ, zero, suc, nat_lt, if◌then◌else◌, List, [], ◌∷◌, ◌++◌, codes, length, slice_get, Option, None, Some}
+use Rattle.mx_graph.specs.Record.{event, prev_events}
+use Rattle.mx_orders.specs.StateMap.{State}
+use Rattle.mx_receipt.specs.Receipt.{Kept, rows_of, state_after, state_before, version_in}
+use Rattle.mx_audit.specs.EventLines.{event_text, resolution_text}
+use Rattle.mx_audit.specs.Resolutions.{states_before}
+use Rattle.mx_audit.specs.Steps.{conflicted_entries, other_steps, power_steps}
+use Rattle.mx_page.specs.Changes.{Change, changes}
+use Rattle.mx_page.specs.EntryTexts.{entry_of}
+use Rattle.mx_page.specs.Escaping.{escaped}
+
+-- ---- an event
+
+abbrev pub first_of : List ℕ → Option ℕ
+first_of ps = slice_get ps 0
+
+-- the prev events of an event that are known, in its order
+abbrev pub prevs : List Kept → ℕ → List ℕ
+prevs kept p = prev_events (rows_of kept) (event (rows_of kept) p)
+
+-- the state that what is told of an event is a change of: that after its first prev event, and without one the empty state
+abbrev pub base_state : List Kept → Option ℕ → State
+base_state kept None = []
+base_state kept (Some q) = state_after kept q
+
+-- what differs between that state and the one before the event
+unfoldable pub changes_before : List Kept → ℕ → List Change
+changes_before kept p = changes (base_state kept (first_of (prevs kept p))) (state_before kept p)
+
+-- what differs between the states before and after it
+unfoldable pub changes_after : List Kept → ℕ → List Change
+changes_after kept p = changes (state_before kept p) (state_after kept p)
+
+-- the lines of the resolution of the states before an event
+unfoldable pub resolution_lines : List Kept → ℕ → List ℕ
+resolution_lines kept p =
+    let rows = rows_of kept in
+    let states = states_before kept p in
+    resolution_text kept (conflicted_entries states) (power_steps (version_in rows) rows states) (other_steps (version_in rows) rows states)
+
+-- an event with several prev events has one
+abbrev pub resolution_of : List Kept → ℕ → Option (List ℕ)
+resolution_of kept p = if nat_lt 1 (length (prevs kept p)) then Some (resolution_lines kept p) else None
+
+-- the entry of an event, with a comma before each but the first
+unfoldable pub entry_text : List Kept → ℕ → List ℕ
+entry_text kept p =
+    entry_of (nat_lt 0 p) (changes_after kept p) (first_of (prevs kept p)) (changes_before kept p) (event_text kept p) (resolution_of kept p)
+
+-- ---- a room
+
+abbrev pub data_start : List ℕ
+data_start = codes "{\"events\":["
+
+abbrev pub data_end : List ℕ
+data_end = codes "]}"
+
+-- the entries of its first events, so many
+abbrev pub entries_text : List Kept → ℕ → List ℕ
+entries_text kept zero = []
+entries_text kept (suc n) = entries_text kept n ++ entry_text kept n
+
+unfoldable pub data_text : List Kept → List ℕ
+data_text kept = data_start ++ (entries_text kept (length kept) ++ data_end)
+
+-- the same as they stand in the page
+abbrev pub escaped_entries : List Kept → ℕ → List ℕ
+escaped_entries kept zero = []
+escaped_entries kept (suc n) = escaped_entries kept n ++ escaped (entry_text kept n)

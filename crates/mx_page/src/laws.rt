@@ -1,0 +1,29 @@
+// Laws of the page's data.
+ghost use Rattle.std.specs.Prelude.{◌≡◌, ◌==◌, ◌++◌, ℕ, T, List, false, length};
+ghost use Rattle.std.specs.List.{list_any};
+ghost use Rattle.std.specs.FinMap.Entries.{is_sorted};
+ghost use Rattle.mx_orders.specs.StateMap.{State, key_cmp};
+ghost use Rattle.mx_receipt.specs.Receipt.{Kept};
+ghost use Rattle.mx_page.specs.Changes.{changed, changes};
+ghost use Rattle.mx_page.specs.Escaping.{escaped};
+ghost use Rattle.mx_page.specs.Page.{data_end, data_start, data_text, escaped_entries};
+
+/// A law: what differs between two states, read as changes of the first, gives the second. It does nothing: this is what it
+/// ensures.
+pub fn changes_make_the_state()
+    ensures { (old new : State) → T (is_sorted key_cmp old) → T (is_sorted key_cmp new) → changed old (changes old new) ≡ new }
+{}
+
+/// A law: nothing in escaped data begins a tag, so that nothing in it ends its script. It does nothing: this is what it
+/// ensures.
+///
+/// Source: HTML Standard, "Restrictions for contents of script elements".
+pub fn data_has_no_tag()
+    ensures { (text : List ℕ) → list_any (λ b. b == 60) (escaped text) ≡ false }
+{}
+
+/// A law: the entries as they are written, one after another between the beginning and the end, are the escaped data of the
+/// room. It does nothing: this is what it ensures.
+pub fn entries_make_the_data()
+    ensures { (kept : List Kept) → escaped (data_text kept) ≡ data_start ++ (escaped_entries kept (length kept) ++ data_end) }
+{}
