@@ -26,11 +26,12 @@ use std::time::Duration;
 /// Opens the server's directory, hosts the rooms of its file of rooms, binds its port, starts its threads, says so in a line
 /// on `out`, and then on `err` where its files are, and answers requests: for good, or until what keeps rows has failed,
 /// where it is to end then. Where a room is not hosted, `err` is told what its line is answered, and where a loss is
-/// accepted, how much is lost. That `err` takes what it is told does not matter.
+/// accepted, what is lost. That `err` takes what it is told does not matter.
 ///
-/// `Storage` where a file of rows can't be opened or does not read, where one is missing beside one with rows, where
-/// there are more than are asked for, where replies call events kept that are in no file, unless that loss is accepted,
-/// and at the end of a server that was to end. `NotHosted` where a line hosts no room.
+/// `Storage` where the directory was made for another name or number of shards, where a file of rows can't be opened or does
+/// not read, where one is missing or empty beside one with rows, where there are more than are asked for, where SQLite's log
+/// beside one is damaged or replies call events kept that are in no file, unless such a loss is accepted, and at the end of
+/// a server that was to end. `NotHosted` where a line hosts no room.
 /// `Thread` where a thread can't be started, or has no event loop. `ReadOrWrite` where the directory can't be made, the
 /// file of rooms not read, the port not bound, or the line on `out` not written. `Memory` where no memory is left.
 pub fn serve<R: ServerRuntime, W: Write, E: Write>(
@@ -46,7 +47,9 @@ pub fn serve<R: ServerRuntime, W: Write, E: Write>(
         books,
         is_moved,
         files,
+        losses,
     } = files;
+    tell_losses(&losses, err);
     if is_moved {
         let _ = writeln!(err, "{}: brought to the second layout", options.data);
     }
@@ -56,6 +59,13 @@ pub fn serve<R: ServerRuntime, W: Write, E: Write>(
         files,
     };
     serve_rows(rt, rows, &rooms, options, out, err)
+}
+
+// Tells what is lost, where that is accepted, a line each.
+fn tell_losses<E: Write>(losses: &[String], err: &mut E) {
+    for loss in losses {
+        let _ = writeln!(err, "{loss}");
+    }
 }
 
 // The files of the server's directory, and the bytes of its file of rooms.
@@ -68,7 +78,9 @@ fn rows_and_rooms(
     ensures some_book { IfOk result (λ found. 1 ≤ length found.0.books.items) }
     ensures few_books { IfOk result (λ found. length found.0.books.items ≤ MOST_PLACES) }
 {
-    let files = open_directory(host, &options.data, options.shards)?;
+    let name = options.name.as_str();
+    let is_accepted = options.accept_loss;
+    let files = open_directory(host, &options.data, name, options.shards, is_accepted)?;
     let rooms = rooms_to_host(host, options)?;
     Ok((files, rooms))
 }
@@ -150,14 +162,15 @@ where
     listen(rt, server, files, options, out, err)
 }
 
-// Files whose rows are read, and are none that a server can have.
+// Rows that are no server's, or for which no memory is left.
 fn not_reopened(alloc: Global, data: &str, error: CallError) -> StartError {
-    StartError::about(
-        alloc,
-        ServerError::from(error),
-        data,
-        &"no server with so many shards has these rows",
-    )
+    match error {
+        CallError::Memory => StartError::from(ServerError::Memory),
+        CallError::Storage => {
+            let cause = "no server with so many shards has these rows";
+            StartError::about(alloc, ServerError::Storage, data, &cause)
+        }
+    }
 }
 
 // What the file of rooms is called.
@@ -168,7 +181,7 @@ fn file_of_rooms(options: &ServeOptions) -> &str {
     }
 }
 
-// Hosts the room of each line. `NotHosted` where one is not hosted.
+// Hosts the room of each line that is not blank. `NotHosted` where one is not hosted.
 fn host_rooms<K: Keeper<Row = ShardRow>, L: Keeper<Row = BookRow>, E: Write>(
     alloc: Global,
     server: &mut World<K, L>,
@@ -180,7 +193,7 @@ fn host_rooms<K: Keeper<Row = ShardRow>, L: Keeper<Row = BookRow>, E: Write>(
     let mut number = 1u64;
     while !rest.is_empty() {
         let (line, after) = first_line(rest);
-        if !is_hosted_by(alloc, server, line, err) {
+        if !is_blank(line) && !is_hosted_by(alloc, server, line, err) {
             let place = format!(in alloc; "line {number}")?;
             return Err(StartError::about(alloc, ServerError::NotHosted, path, &place));
         }
@@ -188,6 +201,11 @@ fn host_rooms<K: Keeper<Row = ShardRow>, L: Keeper<Row = BookRow>, E: Write>(
         number = number.saturating_add(1);
     }
     Ok(())
+}
+
+// Whether a line has nothing but white space.
+fn is_blank(line: &[u8]) -> bool {
+    line.iter().all(|byte| byte.is_ascii_whitespace())
 }
 
 // Whether a line hosts a room, or its room is hosted; else `err` is told what the line is answered.

@@ -1,4 +1,4 @@
-// Events for the tests: two rooms, and what is sent to them. Hashes and ids are by examples/rows/row_events.py.
+// Events for the tests: two rooms, and what is sent to them. Hashes and ids are by tests/matrix_events.py.
 use crate::values::{event, key, refused};
 use base64::engine::general_purpose::STANDARD_NO_PAD;
 use mx_book::TransactionKey;
