@@ -28,47 +28,25 @@ query about the last event, so many of them, of the kind that `--kind` names.
 """
 
 import argparse
-import base64
-import hashlib
-import json
 import random
 import sys
-import urllib.parse
+from pathlib import Path
+
+sys.path.insert(0, str(Path(__file__).resolve().parent.parent / "tests"))
+sys.dont_write_bytecode = True
+from event_logs import FEDERATION, header, quoted  # noqa: E402
+from matrix_events import Event, canonical, content_hash, id_of, reference_hash, server_of, unpadded  # noqa: E402
 
 SHAPES = ["linear", "fork", "conflict", "joins", "wide", "soft", "siblings", "members", "topics", "bans", "ladder"]
-NAME = "hub.example"
 ROOM = "!room:s0.example"
-KEPT = {
-    "event_id", "type", "room_id", "sender", "state_key", "content", "hashes", "signatures", "depth",
-    "prev_events", "prev_state", "auth_events", "origin", "origin_server_ts", "membership",
-}
-KEPT_CONTENT = {
-    "m.room.member": {"membership"},
-    "m.room.create": {"creator"},
-    "m.room.join_rules": {"join_rule"},
-    "m.room.power_levels": {
-        "ban", "events", "events_default", "kick", "redact", "state_default", "users", "users_default",
-    },
-    "m.room.history_visibility": {"history_visibility"},
-}
 
 
-def canonical(value):
-    return json.dumps(value, sort_keys=True, separators=(",", ":"), ensure_ascii=False).encode()
-
-
-def seal(event):
+def seal(event: Event) -> str:
     """Adds hash and signature; the event's id."""
-    digest = hashlib.sha256(canonical(event)).digest()
-    event["hashes"] = {"sha256": base64.b64encode(digest).decode().rstrip("=")}
-    kept = {key: value for key, value in event.items() if key in KEPT}
-    allowed = KEPT_CONTENT.get(event["type"], set())
-    kept["content"] = {key: value for key, value in event["content"].items() if key in allowed}
-    digest = hashlib.sha256(canonical(kept)).digest()
-    server = event["sender"].partition(":")[2]
-    signature = base64.b64encode(digest * 2).decode().rstrip("=")
-    event["signatures"] = {server: {"ed25519:auto": signature}}
-    return "$" + base64.urlsafe_b64encode(digest).decode().rstrip("=")
+    event["hashes"] = {"sha256": content_hash(event)}
+    signature = unpadded(reference_hash(event) * 2)
+    event["signatures"] = {server_of(event["sender"]): {"ed25519:auto": signature}}
+    return id_of(event)
 
 
 class Room:
@@ -237,11 +215,7 @@ class Room:
             yield self.query(self.options.kind)
 
     def call(self, method, path, origin, body=None):
-        header = 'X-Matrix origin="%s",destination="%s",key="ed25519:auto",sig="x"' % (origin, NAME)
-        line = {
-            "step": "call", "method": method, "target": "/_matrix/federation/" + path, "authorization": header,
-            "now": self.now,
-        }
+        line = {"step": "call", "method": method, "target": FEDERATION + path, "authorization": header(origin), "now": self.now}
         return line if body is None else {**line, "body": body}
 
     def query(self, kind):
@@ -261,10 +235,6 @@ class Room:
             "unknown_path": "v1/nothing/" + room,
         }
         return self.call("GET", paths[kind], origin)
-
-
-def quoted(text):
-    return urllib.parse.quote(text, safe="")
 
 
 def power_event(size):

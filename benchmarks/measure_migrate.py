@@ -16,10 +16,9 @@ from pathlib import Path
 
 TOP = Path(__file__).resolve().parent.parent
 sys.dont_write_bytecode = True
-sys.path.insert(0, str(TOP / "examples/rows"))
-sys.path.insert(0, str(TOP / "examples/layouts"))
+sys.path[:0] = [str(TOP / "tests"), str(TOP / "examples/layouts")]
 from make_first import KEPT  # noqa: E402
-from row_events import A, ROOM, canonical, create, id_of, join, sealed  # noqa: E402
+from matrix_events import A, ROOM, canonical, create, id_of, join, sealed  # noqa: E402
 
 PROGRAM = Path(sys.argv[1] if len(sys.argv) > 1 else TOP / "crates/mx_federd/out/mx_federd")
 ROWS = int(sys.argv[2]) if sys.argv[2:] and sys.argv[1] != "--copy" else 50_000

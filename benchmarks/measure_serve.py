@@ -34,9 +34,9 @@ from pathlib import Path
 HERE = Path(__file__).resolve().parent
 TOP = HERE.parent
 PROGRAM = TOP / "crates/mx_federd/out/mx_federd"
-sys.path.insert(0, str(TOP / "examples/rows"))
+sys.path.insert(0, str(TOP / "tests"))
 sys.dont_write_bytecode = True
-from request_rows import FEDERATION, header, quoted  # noqa: E402
+from event_logs import FEDERATION, header, quoted  # noqa: E402
 
 SETTINGS = "PRAGMA journal_mode=WAL; PRAGMA synchronous=FULL;\n"
 COLUMNS = "place INTEGER PRIMARY KEY, room TEXT NOT NULL, version TEXT NOT NULL, event TEXT NOT NULL, caller INTEGER NOT NULL"

@@ -11,11 +11,11 @@ import sys
 from pathlib import Path
 
 FOLDER = Path(__file__).resolve().parent
-sys.path.insert(0, str(FOLDER.parent / "rows"))
+sys.path[:0] = [str(FOLDER.parent / "rows"), str(FOLDER.parent.parent / "tests")]
+sys.dont_write_bytecode = True
 
-from row_events import (  # noqa: E402
-    A, B, C, ACCEPTED, ROOM, Base, Log, canonical, event, id_of, member, message, rejected,
-)
+from event_logs import Base, Log  # noqa: E402
+from matrix_events import A, ACCEPTED, B, C, ROOM, canonical, event, id_of, member, message, rejected  # noqa: E402
 from audit_lines import CREATE, LEVELS, RULES, because, entry, own_members  # noqa: E402
 
 COLOURS = {"accepted": "#d5e8d4", "soft failed": "#fff2cc", "rejected": "#f8cecc"}

@@ -9,8 +9,9 @@ from pathlib import Path
 
 FOLDER = Path(__file__).resolve().parent
 sys.dont_write_bytecode = True
-sys.path.insert(0, str(FOLDER.parent / "rows"))
-from row_events import A, ACCEPTED, B, Base, Log, canonical, id_of, levels, topic  # noqa: E402
+sys.path.insert(0, str(FOLDER.parent.parent / "tests"))
+from event_logs import Base, Log  # noqa: E402
+from matrix_events import A, ACCEPTED, B, canonical, id_of, levels, topic  # noqa: E402
 
 KEPT = "CREATE TABLE kept (place INTEGER PRIMARY KEY, room TEXT NOT NULL, event TEXT NOT NULL, caller INTEGER NOT NULL)"
 REPLIES = ("CREATE TABLE replies (place INTEGER PRIMARY KEY, origin TEXT NOT NULL, txn TEXT NOT NULL, reply TEXT NOT NULL, "

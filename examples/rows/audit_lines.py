@@ -2,7 +2,7 @@
 
 import json
 
-from row_events import canonical, content_hash, id_of
+from matrix_events import canonical, content_hash, id_of
 
 CREATE = ("m.room.create", "")
 LEVELS = ("m.room.power_levels", "")

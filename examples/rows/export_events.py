@@ -4,7 +4,7 @@ The order and the lines of a log are worked out here by the definition, with Pyt
 
 import random
 
-from row_events import A, ROOM, canonical, create, event, id_of
+from matrix_events import A, ROOM, canonical, create, event, id_of
 
 
 def room_of(count, version="6", room=ROOM, seed=7):

@@ -5,14 +5,21 @@ Each log is a worked row: `NAME.jsonl` is what `mx_federd replay` reads, and `NA
 The events get their true hashes and ids here. The answers are written by hand, by the authorization rules of room
 versions 6 and 7 and the checks on receipt of an event; nothing here was taken from what the program prints."""
 
-from query_rows import QUERY_ROWS
-from request_rows import REQUEST_ROWS, life_of_a_room
-from row_events import (
-    A, B, C, D, E, ACCEPTED, Base, Log, altered, canonical, create, error, event, id_of, join, levels, member,
-    message, rejected, rules, sealed, topic, unsigned, without,
+import sys
+from pathlib import Path
+
+FOLDER = Path(__file__).resolve().parent
+sys.path.insert(0, str(FOLDER.parent.parent / "tests"))
+sys.dont_write_bytecode = True
+from query_rows import QUERY_ROWS  # noqa: E402
+from event_logs import Base, Log  # noqa: E402
+from matrix_events import (  # noqa: E402
+    A, ACCEPTED, B, C, D, E, altered, canonical, create, error, event, id_of, join, levels, member, message, rejected,
+    rules, sealed, topic, unsigned, without,
 )
-from state_rows import STATE_ROWS
-from version_rows import VERSION_ROWS
+from request_rows import REQUEST_ROWS, life_of_a_room  # noqa: E402
+from state_rows import STATE_ROWS  # noqa: E402
+from version_rows import VERSION_ROWS  # noqa: E402
 
 
 def host_refusals(log):
@@ -682,14 +689,15 @@ ROWS = (
 )
 
 
-def main():
+def main() -> None:
+    """Writes each row, and the log of a room's life by requests."""
     for row in ROWS:
         log = Log()
         row(log)
-        log.write(row.__name__)
+        log.write(FOLDER, row.__name__)
     log = Log()
     life_of_a_room(log)
-    log.write("../requests")
+    log.write(FOLDER.parent, "requests")
 
 
 main()

@@ -5,10 +5,9 @@ The answers are written by hand, by docs/ACCESS.md and docs/LOG.md; nothing here
 
 import json
 
-from request_rows import (
-    FEDERATION, NAME, NOT_FOUND, by_id, call, forbidden, get, given, ids, quoted, redacted, sent, state_path, told,
-)
-from row_events import A, ACCEPTED, B, C, D, ROOM, Base, create, error, event, id_of, join, member, message
+from event_logs import FEDERATION, NAME, Base, by_id, call, get, given, ids, quoted, sent, state_path, told
+from matrix_events import A, ACCEPTED, B, C, D, ROOM, create, error, event, id_of, join, member, message, redacted
+from request_rows import NOT_FOUND, forbidden
 
 WRONG_VERSION = 400, {"errcode": "M_INCOMPATIBLE_ROOM_VERSION", "error": "room version", "room_version": "6"}
 

@@ -3,24 +3,12 @@
 The answers are written by hand, by the Server-Server API and the faults that docs/LOG.md lists; nothing here was taken
 from what the program prints. `make_rows.py` writes the logs."""
 
-import urllib.parse
-
-from row_events import (
-    A, ACCEPTED, B, C, D, KEPT, KEPT_CONTENT, ROOM, Base, altered, canonical, create, error, event, id_of, join, levels,
-    member, message, rules, topic, unsigned, without,
+from event_logs import FEDERATION, NAME, Base, by_id, call, get, given, ids, quoted, send, sent, state_path
+from matrix_events import (
+    A, ACCEPTED, B, C, D, ROOM, altered, create, error, event, id_of, join, levels, member, message, redacted, rules, topic, unsigned,
 )
 
-NAME = "hub.example"
-FEDERATION = "/_matrix/federation/"
 NOT_FOUND = (404, {"errcode": "M_NOT_FOUND", "error": "not found"})
-
-
-def quoted(text):
-    return urllib.parse.quote(text, safe="")
-
-
-def header(origin):
-    return 'X-Matrix origin="%s",destination="%s",key="ed25519:auto",sig="x"' % (origin, NAME)
 
 
 def forbidden(text):
@@ -33,59 +21,6 @@ def invalid(part):
 
 def missing(name):
     return 400, {"errcode": "M_MISSING_PARAM", "error": "missing " + name}
-
-
-def call(log, method, target, answer, *, origin=None, now=1000, body=None, **more):
-    """A request, and its status and body."""
-    line = {"step": "call", "method": method, "target": target, "now": now, **more}
-    if origin is not None:
-        line["authorization"] = header(origin)
-    if body is not None:
-        line["body"] = body if isinstance(body, str) else canonical(body).decode()
-    status, told = answer
-    log.line(line, {"body": told, "status": status})
-
-
-def get(log, path, answer, origin, **more):
-    call(log, "GET", FEDERATION + path, answer, origin=origin, **more)
-
-
-def send(log, origin, txn, events, answer, **body):
-    call(log, "PUT", FEDERATION + "v1/send/" + txn, answer, origin=origin, body={"pdus": events, **body})
-
-
-def told(*replies):
-    """The reply of a transaction, by its events and what is told of each."""
-    return 200, {"pdus": {id_of(made): reply for made, reply in replies}}
-
-
-def sent(log, origin, txn, *replies):
-    answer = told(*replies)
-    send(log, origin, txn, [made for made, _ in replies], answer)
-    return answer
-
-
-def given(*events, now=1000):
-    """Events that this server sends."""
-    return 200, {"origin": NAME, "origin_server_ts": now, "pdus": list(events)}
-
-
-def redacted(made):
-    kept = {key: value for key, value in made.items() if key in KEPT}
-    allowed = KEPT_CONTENT.get(made["type"], set())
-    return {**kept, "content": {key: value for key, value in made["content"].items() if key in allowed}}
-
-
-def by_id(*events):
-    return sorted(events, key=id_of)
-
-
-def ids(events):
-    return [id_of(made) for made in events]
-
-
-def state_path(kind, made):
-    return "v1/%s/%s?event_id=%s" % (kind, quoted(ROOM), quoted(id_of(made)))
 
 
 def requests_child_before_parent(log):

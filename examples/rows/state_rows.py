@@ -3,13 +3,12 @@
 The answers are written by hand, by the rules of receipt and by state resolution version 2, as docs/DEFINITIONS.md
 names them; nothing here was taken from what the program prints. `make_rows.py` writes the logs."""
 
-from request_rows import (
-    FEDERATION, NOT_FOUND, call, get, given, by_id, ids, quoted, redacted, sent,
-)
-from row_events import (
-    A, ACCEPTED, B, C, D, ROOM, Base, create, error, event, id_of, join, levels, message, rejected, rules, topic,
+from event_logs import FEDERATION, Base, by_id, call, get, given, ids, quoted, sent
+from matrix_events import (
+    A, ACCEPTED, B, C, D, ROOM, create, error, event, id_of, join, levels, message, redacted, rejected, rules, topic,
     unsigned,
 )
+from request_rows import NOT_FOUND
 
 USERS = {A: 100, B: 50, C: 50}
 LOWERED = {A: 100, B: 0, C: 50}

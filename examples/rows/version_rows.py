@@ -3,8 +3,8 @@
 The answers are written by hand, by the authorization rules of room versions 6 and 7; nothing here was taken from what
 the program prints. `make_rows.py` writes the logs."""
 
-from request_rows import NAME, get, quoted
-from row_events import A, ACCEPTED, B, C, D, ROOM, create, event, id_of, join, member, rejected, sealed, without
+from event_logs import NAME, get, quoted
+from matrix_events import A, ACCEPTED, B, C, D, ROOM, create, event, id_of, join, member, rejected, sealed, without
 
 
 class VersionedRoom:

@@ -14,10 +14,10 @@ from pathlib import Path
 
 sys.dont_write_bytecode = True
 HERE = Path(__file__).resolve().parent
-sys.path[:0] = [str(HERE.parent), str(HERE.parent.parent / "rows")]
-import row_events  # noqa: E402
+sys.path[:0] = [str(HERE.parent), str(HERE.parents[2] / "tests")]
+import matrix_events  # noqa: E402
 from keys import named, own_keys  # noqa: E402
-from row_events import canonical, id_of  # noqa: E402
+from matrix_events import canonical, id_of  # noqa: E402
 from signedjson.sign import sign_json  # noqa: E402
 
 FEDERATION = "/_matrix/federation/"
@@ -31,10 +31,8 @@ for server in ("a.example", "b.example"):
 def sealed(event):
     """The event with its content hash, signed by its sender's server."""
     server = event["sender"].partition(":")[2]
-    made = {**event, "hashes": {"sha256": row_events.content_hash(event)}}
-    kept = {name: it for name, it in made.items() if name in row_events.KEPT and name != "signatures"}
-    allowed = row_events.KEPT_CONTENT.get(event["type"], set())
-    kept["content"] = {name: it for name, it in event["content"].items() if name in allowed}
+    made = {**event, "hashes": {"sha256": matrix_events.content_hash(event)}}
+    kept = matrix_events.without(matrix_events.redacted(made), "signatures")
     return {**made, "signatures": sign_json(kept, server, KEYS[server])["signatures"]}
 
 
@@ -66,12 +64,12 @@ def send(server, origin, events):
 
 def talk():
     create = json.loads((FOLDER / "rooms.jsonl").read_text())["event"]
-    a = row_events.join(row_events.A, [create], [create])
-    levels = row_events.levels(row_events.A, [a], [create, a], {row_events.A: 100})
-    rules = row_events.rules([levels], [create, a, levels], "public")
+    a = matrix_events.join(matrix_events.A, [create], [create])
+    levels = matrix_events.levels(matrix_events.A, [a], [create, a], {matrix_events.A: 100})
+    rules = matrix_events.rules([levels], [create, a, levels], "public")
     for server in ("a.example", "b.example"):
         send(server, "a.example", [a, levels, rules])
-    room, user = (urllib.parse.quote(it, safe="") for it in (create["room_id"], row_events.B))
+    room, user = (urllib.parse.quote(it, safe="") for it in (create["room_id"], matrix_events.B))
     template = ask("a.example", "GET", FEDERATION + "v1/make_join/%s/%s?ver=6" % (room, user), "b.example")["event"]
     joined = sealed({**template, "origin": "b.example"})
     path = FEDERATION + "v2/send_join/%s/%s" % (room, urllib.parse.quote(id_of(joined), safe=""))
@@ -80,7 +78,7 @@ def talk():
     send("b.example", "b.example", [joined])
     said = [joined]
     for number in range(100):
-        said.append(row_events.message(row_events.A, said[-1:], [create, a, levels], "message %d" % number))
+        said.append(matrix_events.message(matrix_events.A, said[-1:], [create, a, levels], "message %d" % number))
     send("a.example", "a.example", said[1:51])
     send("a.example", "a.example", said[51:])
     send("b.example", "a.example", said[-1:])
@@ -90,8 +88,8 @@ def talk():
 
 
 if __name__ == "__main__":
-    row_events.sealed = sealed
+    matrix_events.sealed = sealed
     if sys.argv[2:] == ["create"]:
-        print(canonical({"step": "host", "event": row_events.create()}).decode())
+        print(canonical({"step": "host", "event": matrix_events.create()}).decode())
     else:
         talk()

@@ -6,27 +6,31 @@ import shutil
 import signal
 import subprocess
 import time
+from pathlib import Path
+from typing import Any
 from urllib.parse import unquote
 
 from front_servers import (
     AUTHORITY, FEDERATION, KEYS, OTHER, Peer, World, a_message, accepted, authorization, free_port, in_a_world,
-    is_unsigned, left_out, sealed, signature_of, told, wait_for,
+    is_unsigned, sealed, signature_of, told, wait_for,
 )
-from request_rows import quoted
-from row_events import A, B, C, error, id_of, join, message, without
-from running_server import NAME, PROGRAM, SECONDS, TOP
+from event_logs import NAME, quoted
+from matrix_events import A, B, C, Event, error, id_of, join, message, without
+from running_server import SECONDS
+from suite import TOP, LeftOut, program
 
 # ---- gaps and joins
 
-def chain(world, count):
-    made = []
+def chain(world: World, count: int) -> list[Event]:
+    """So many messages, each after the one before."""
+    made: list[Event] = []
     for number in range(count):
         made.append(a_message(world, "m%d" % number, made[-1] if made else None))
     return made
 
 
 @in_a_world
-def gap_that_heals(world):
+def gap_that_heals(world: World) -> None:
     """300 messages that the hub never got, asked for 20 at a time; the reply is that to the same events, and a replay of
     the number is answered the same."""
     world.fill()
@@ -44,7 +48,7 @@ def gap_that_heals(world):
 
 
 @in_a_world
-def gap_by_other_ways(world):
+def gap_by_other_ways(world: World) -> None:
     """A server that has no get_missing_events is asked by backfill, and one that has neither event by event; state that
     is cited in `auth_events` alone comes too."""
     world.fill()
@@ -66,7 +70,7 @@ def gap_by_other_ways(world):
 
 
 @in_a_world
-def gap_of_a_new_server(world):
+def gap_of_a_new_server(world: World) -> None:
     """The join of the sender itself lies in the gap: what the hub holds is told by its answers to the room's first server,
     and not by those to the sender, which is shown nothing."""
     world.fill()
@@ -83,7 +87,7 @@ def gap_of_a_new_server(world):
 
 
 @in_a_world
-def child_before_its_parent(world):
+def child_before_its_parent(world: World) -> None:
     """In one transaction: nobody has to be asked for what it has itself."""
     world.fill()
     first, second = chain(world, 2)
@@ -92,7 +96,7 @@ def child_before_its_parent(world):
 
 
 @in_a_world
-def gap_that_does_not_heal(world):
+def gap_that_does_not_heal(world: World) -> None:
     """A server that gives nothing, forged events, or others than were asked for: the first reply stands, in time, and the
     server is not asked again at once."""
     world.fill()
@@ -113,7 +117,7 @@ def gap_that_does_not_heal(world):
 
 
 @in_a_world
-def gap_without_end(world):
+def gap_without_end(world: World) -> None:
     """A server that gives one event a time, each of which cites one more: it is asked 300 times and no more."""
     world.fill()
     events = chain(world, 400)
@@ -126,7 +130,7 @@ def gap_without_end(world):
 
 
 @in_a_world
-def half_bodies(world):
+def half_bodies(world: World) -> None:
     """Clients that send half of a large body hold up no small request, and once they are gone no large one."""
     target = FEDERATION + "v1/send/t1"
     head = "PUT %s HTTP/1.1\r\nHost: x\r\nContent-Length: 100000\r\nAuthorization: %s\r\n\r\n{" % (
@@ -144,7 +148,7 @@ def half_bodies(world):
 
 
 @in_a_world
-def join_reaches_other_servers(world):
+def join_reaches_other_servers(world: World) -> None:
     """A join that was accepted is sent to the servers in the room, but not to the new one; again after a failure, also
     where the front was started anew meanwhile."""
     world.fill()
@@ -169,7 +173,7 @@ def join_reaches_other_servers(world):
 
 # ---- behind nginx
 
-def nginx(folder):
+def nginx(folder: Path) -> str | None:
     """The program of nginx: the one that is installed, or the one of Debian's package, unpacked and not installed."""
     if found := shutil.which("nginx") or shutil.which("nginx", path="/usr/sbin"):
         return found
@@ -181,13 +185,12 @@ def nginx(folder):
     return str(unpacked) if unpacked.exists() and subprocess.run([unpacked, "-v"], capture_output=True).returncode == 0 else None
 
 
-def behind_nginx(folder):
+def behind_nginx(folder: Path) -> None:
     """The configuration of examples/front passes `nginx -t`, and nginx with it ends TLS before the front, with the
     certificate, the ports and the directory of this test in place of its own."""
-    program = nginx(folder)
-    if program is None:
-        left_out.append("behind_nginx: nginx is not there and could not be fetched")
-        return
+    server_program = nginx(folder)
+    if server_program is None:
+        raise LeftOut("nginx is not there and could not be fetched")
     world = World(folder, AUTHORITY, plain=True)
     world.fill()
     certificate, key = AUTHORITY.issue(NAME)
@@ -202,7 +205,7 @@ def behind_nginx(folder):
         assert old in text, old
         text = text.replace(old, str(new))
     (folder / "nginx.conf").write_text(text)
-    words = [program, "-p", str(folder), "-c", str(folder / "nginx.conf"), "-e", "stderr", "-g", "daemon off;"]
+    words = [server_program, "-p", str(folder), "-c", str(folder / "nginx.conf"), "-e", "stderr", "-g", "daemon off;"]
     said = subprocess.run([*words, "-t"], capture_output=True, timeout=SECONDS)
     assert said.returncode == 0 and b"test is successful" in said.stderr, said
     server = subprocess.Popen(words, stderr=subprocess.DEVNULL)
@@ -221,7 +224,8 @@ def behind_nginx(folder):
         world.close()
 
 
-def answers(world, port):
+def answers(world: World, port: int) -> bool:
+    """Whether the front is reached at this port."""
     try:
         return world.raw("GET", "/_matrix/key/v2/server", port=port)[0] == 200
     except OSError:
@@ -233,7 +237,7 @@ def answers(world, port):
 PACKAGES = "python3-aiohttp python3-signedjson python3-dnspython openssl".split()
 
 
-def walk_of_the_readme(folder):
+def walk_of_the_readme(folder: Path) -> None:
     """The walk's commands, as they stand, but for the ports and for the packages, print what README shows."""
     page = (TOP / "examples/front/README.md").read_text()
     blocks = [it.strip("\n") for it in re.findall(r"^```\n(.*?)^```$", page, re.DOTALL | re.MULTILINE)]
@@ -241,11 +245,12 @@ def walk_of_the_readme(folder):
     assert install_line.split()[4:] == PACKAGES, install_line
     command, _, shown = talk.removeprefix("$ ").partition("\n")
     (folder / "bin").mkdir()
-    (folder / "bin/mx_federd").symlink_to(PROGRAM.resolve())
+    (folder / "bin/mx_federd").symlink_to(program())
     home = {**os.environ, "HOME": str(folder), "PATH": "%s/bin:%s" % (folder, os.environ["PATH"])}
     ports = {it: str(free_port()) for it in ("8451", "8452", "8011", "8012")}
 
-    def run(text, **how):
+    def run(text: str, **how: Any) -> "subprocess.Popen[bytes]":
+        """Starts these commands, on ports that are free."""
         for old, new in ports.items():
             text = text.replace(old, new)
         return subprocess.Popen(["bash", "-euc", text], cwd=TOP, env=home, start_new_session=True, **how)

@@ -1,8 +1,8 @@
 #!/usr/bin/env python3
-"""Runs `mx_federd serve` on loopback, over files of its own, stops or kills it, changes its files, and starts it again.
+"""Runs `mx_federd serve` on loopback, over files of its own, stops or kills it, and starts it again: over its own files, files of
+the first layout and files that SQLite made, with files missing, and on a disk that is full.
 
-Each function of TESTS is a test. What is answered is compared with answers that stand here, which come from the
-definitions and never from the program."""
+What is answered is compared with answers that stand here, which come from the definitions and never from the program."""
 
 import contextlib
 import http.client
@@ -17,19 +17,18 @@ import subprocess
 import sys
 import threading
 import time
+from pathlib import Path
 
-sys.dont_write_bytecode = True
-from running_server import (
-    NAME, PROGRAM, REPLIES, SECONDS, TOP, Refused, Server, asked, base_room, getting, host_line, is_refused, refusal,
-    rows_of, run_tests, sending, serving,
-)
-from row_events import (
-    A, ACCEPTED, B, Base, D, Log, altered, canonical, create, error, event, id_of, join, levels, message, rejected,
-    topic,
-)
-sys.path.insert(0, str(TOP / "examples/layouts"))
+from suite import TOP, program, run_tests
+from event_logs import FEDERATION, NAME, Base, Log, header, quoted, state_path
 from make_first import transactions
-from request_rows import FEDERATION, header, quoted, redacted, state_path
+from matrix_events import (
+    A, ACCEPTED, B, D, Event, altered, canonical, create, event, id_of, join, levels, message, redacted, topic,
+)
+from running_server import (
+    REPLIES, SECONDS, Reply, Server, asked, base_room, getting, host_line, is_refused, refusal, rows_of, sending,
+    serving,
+)
 
 # The tables, as SQLite is told to make them.
 KEPT_TABLE = "CREATE TABLE kept (place INTEGER PRIMARY KEY, room TEXT NOT NULL, event TEXT NOT NULL, caller INTEGER NOT NULL)"
@@ -38,11 +37,11 @@ REPLIES_TABLE = "CREATE TABLE replies (%s, UNIQUE (origin, txn))" % ROWS_OF_REPL
 
 # How often a server is killed among transactions.
 KILLS = 200
-# In how many copies of a directory a bit is changed.
-FLIPS = 200
+# The room's beginning, a topic, power levels, and another topic.
+Race = tuple[Base, Event, Event, Event]
 
 
-def demotion_race():
+def demotion_race() -> Race:
     """The room in which B's topic comes behind the power levels that take B's power away."""
     base = Base(Log())
     first = topic(A, [base.join_c], base.of_a, "a")
@@ -51,7 +50,7 @@ def demotion_race():
     return base, first, lowered, second
 
 
-def filled(folder, name, *words):
+def filled(folder: Path, name: str, *words: str) -> tuple[Path, Reply, Race]:
     """A directory with the room of the race, the reply to the transaction `t1`, and the events."""
     base, first, lowered, second = demotion_race()
     data = folder / name
@@ -63,7 +62,7 @@ def filled(folder, name, *words):
     return data, reply, (base, first, lowered, second)
 
 
-def rows_reopened(folder):
+def rows_reopened(folder: Path) -> None:
     """Nine rows with the places 1 to 9. Opened again, B's topic is soft failed, the power levels are the one forward
     extremity, and A's topic stands."""
     data, _, (base, first, lowered, second) = filled(folder, "rows")
@@ -85,7 +84,7 @@ def rows_reopened(folder):
         assert json.loads(shown[1])["pdus"] == [last], shown
 
 
-def race_reopened(folder):
+def race_reopened(folder: Path) -> None:
     """As in the row `demotion_race` B's topic comes before the power levels that take B's power away. Opened again it is
     judged by the state at its place, so that both are forward extremities; by the last state it would be soft failed."""
     base, first, lowered, second = demotion_race()
@@ -99,7 +98,7 @@ def race_reopened(folder):
             assert set(made["event"]["prev_events"]) == {id_of(second), id_of(lowered)}, made
 
 
-def redaction_reopened(folder):
+def redaction_reopened(folder: Path) -> None:
     """A redacted event is given in its redacted form, and the others whole, also after the room was opened again; and so
     is an event whose content hash did not hold when it came."""
     data, _, (base, first, lowered, second) = filled(folder, "redaction")
@@ -109,7 +108,8 @@ def redaction_reopened(folder):
     false_hash = altered(message(A, [other], [base.create, base.join_a, lowered], "true"), body="false")
     told = [said, redacts, other, false_hash]
 
-    def shown(server):
+    def shown(server: Server) -> Reply:
+        """Compares what is shown of the events, and gives the state before the last."""
         for made, given in ((said, redacted(said)), (other, other), (false_hash, redacted(false_hash))):
             reply = server.ask(*getting("a.example", "v1/event/" + quoted(id_of(made))))
             assert json.loads(reply[1])["pdus"] == [given], (made, reply)
@@ -123,19 +123,21 @@ def redaction_reopened(folder):
         assert shown(server) == before
 
 
-def kept_reply_reopened(folder):
+def kept_reply_reopened(folder: Path) -> None:
+    """A transaction that was answered gets the same reply after each new start."""
     data, reply, (base, first, *_) = filled(folder, "replies")
     for _ in range(2):
         with serving(data) as server:
             assert server.ask(*sending("a.example", "t1", [message(A, [first], base.of_a)])) == reply
 
 
-def killed_while_it_answers(folder):
+def killed_while_it_answers(folder: Path) -> None:
     """A server that is killed among transactions, and started again: each reply that was answered is the answer still."""
     server, base = base_room(folder, "--threads", "2", "--shards", "2")
     replies, went_away = [], []
 
-    def client(name):
+    def client(name: str) -> None:
+        """Sends one message after another, until the server is gone."""
         connection, last = server.connect(), base.join_c
         try:
             for number in range(10_000):
@@ -161,7 +163,16 @@ def killed_while_it_answers(folder):
             assert again.ask(*sending("a.example", txn, [])) == reply, txn
 
 
-def killed_at_any_moment(folder):
+def check_answered(server: Server, answered: list[tuple[str, Event, Reply]]) -> None:
+    """That each transaction which was answered has its reply still, and its event is there."""
+    for txn, made, reply in answered:
+        assert reply == (200, canonical({"pdus": {id_of(made): ACCEPTED}})), (txn, reply)
+        assert server.ask(*sending("a.example", txn, [])) == reply, txn
+        shown = server.ask(*getting("a.example", "v1/event/" + quoted(id_of(made))))
+        assert json.loads(shown[1])["pdus"] == [made], (txn, shown)
+
+
+def killed_at_any_moment(folder: Path) -> None:
     """A server is killed at some moment among the transactions of four clients, many times, and started again: each start
     works, each reply that was answered is the answer still, its event is there, and a transaction that got no reply, sent
     again, is answered as one that was sent once."""
@@ -169,11 +180,12 @@ def killed_at_any_moment(folder):
     moments, lasts, unanswered = random.Random(7), dict.fromkeys("wxyz", base.join_c), {}
     kept = 0
     for number in range(KILLS):
-        answered = []
+        answered: list[tuple[str, Event, Reply]] = []
 
-        def client(name):
+        def client(name: str) -> None:
+            """Sends what was not answered, and one message after another, until the server is gone."""
             connection = server.connect()
-            try:
+            with contextlib.suppress(OSError, http.client.HTTPException):
                 for count in range(10_000):
                     if name not in unanswered:
                         text = "%s %d %d" % (name, number, count)
@@ -183,8 +195,6 @@ def killed_at_any_moment(folder):
                     answered.append((txn, made, reply))
                     lasts[name] = made
                     del unanswered[name]
-            except (OSError, http.client.HTTPException):
-                pass
 
         threads = [threading.Thread(target=client, args=(name,)) for name in lasts]
         for thread in threads:
@@ -195,179 +205,13 @@ def killed_at_any_moment(folder):
             thread.join(SECONDS)
         server.stop()
         server = Server(folder / "base", "--threads", "2", "--shards", "2")
-        for txn, made, reply in answered:
-            assert reply == (200, canonical({"pdus": {id_of(made): ACCEPTED}})), (number, txn, reply)
-            assert server.ask(*sending("a.example", txn, [])) == reply, (number, txn)
-            shown = server.ask(*getting("a.example", "v1/event/" + quoted(id_of(made))))
-            assert json.loads(shown[1])["pdus"] == [made], (number, txn, shown)
+        check_answered(server, answered)
         kept += len(answered)
     server.stop()
     assert kept >= KILLS, kept
 
 
-def without_sums(data, copy):
-    """The tables of a directory in files that SQLite's own library makes, whose pages have no sums: it may change them."""
-    copy.mkdir()
-    for file in data.glob("*.db"):
-        with contextlib.closing(sqlite3.connect(file)) as old, contextlib.closing(sqlite3.connect(copy / file.name)) as new:
-            new.executescript("\n".join(old.iterdump()))
-    return copy
-
-
-def check_refused(folder, data, file, statements):
-    """Of a directory that opens, each copy in which one of these was run on this file is refused."""
-    for number, statement in enumerate(statements):
-        broken = without_sums(data, folder / ("%s%d" % (file, number)))
-        with contextlib.closing(sqlite3.connect(broken / file)) as connection:
-            connection.executescript(statement)
-        assert is_refused(refusal(broken), b"storage", bytes(broken)), statement
-    assert refusal(data) is None and refusal(without_sums(data, folder / "plain")) is None
-
-
-def broken_tables(folder):
-    """Rows that no shard can have, and files that are not of this server, are refused."""
-    data, _, _ = filled(folder, "sound")
-    statements = [
-        "DELETE FROM kept2 WHERE place = 2",
-        "UPDATE kept2 SET event = ' ' || event WHERE place = 9",
-        "INSERT INTO kept2 SELECT 10, room, version, event, caller FROM kept2 WHERE place = 9",
-        "DELETE FROM kept2 WHERE place > 7; DELETE FROM kept2 WHERE place = 6; UPDATE kept2 SET place = 6 WHERE place = 7",
-        # An event that makes no room behind one that does, and the other way round.
-        "DELETE FROM kept2 WHERE place > 1; INSERT INTO kept2 SELECT 2, room, version, event, caller FROM kept2",
-        "UPDATE kept2 SET place = 100 WHERE place = 1; UPDATE kept2 SET place = 1 WHERE place = 2; UPDATE kept2 SET place = 2 WHERE place = 100",
-        "UPDATE kept2 SET event = '{}' WHERE place = 9",
-        "UPDATE kept2 SET room = 'r' WHERE place = 9",
-        "UPDATE kept2 SET room = '!s:a.example' WHERE place = 9",
-        "UPDATE kept2 SET caller = -1 WHERE place = 9",
-        "UPDATE kept2 SET caller = 4294967296 WHERE place = 9",
-        "UPDATE kept2 SET place = 10 WHERE place = 9",
-        "UPDATE kept2 SET version = '7' WHERE place = 9",
-        "UPDATE kept2 SET version = '5'",
-        "DELETE FROM layout",
-        "UPDATE layout SET number = 3",
-        "UPDATE layout SET place = 2",
-        "INSERT INTO layout VALUES (2, 2)",
-        "INSERT INTO kept SELECT place, room, event, caller FROM kept2 WHERE place = 1",
-        "DROP TABLE kept",
-        "DROP TABLE layout",
-        "CREATE TABLE other (place INTEGER)",
-        "ALTER TABLE kept2 ADD COLUMN more INTEGER",
-        "DROP TABLE kept2; CREATE TABLE kept2 (place INTEGER)",
-    ]
-    check_refused(folder, data, "shard-0.db", statements)
-
-
-def broken_books(folder):
-    """Rows that no book can have, and files that are not of this server, are refused."""
-    data, _, _ = filled(folder, "sound")
-    without_unique = (
-        "ALTER TABLE replies RENAME TO old; CREATE TABLE replies (%s); INSERT INTO replies SELECT * FROM old; DROP TABLE old;"
-        "INSERT INTO replies SELECT 3, origin, txn, reply FROM replies WHERE place = 2;" % ROWS_OF_REPLIES)
-    check_refused(folder, data, "book-0.db", [
-        "DELETE FROM replies WHERE place = 1",
-        "UPDATE replies SET place = 3 WHERE place = 2",
-        "UPDATE replies SET origin = '' WHERE place = 2",
-        # Two rows of one transaction, also where the table is made to seem as it should be.
-        without_unique,
-        without_unique + "PRAGMA writable_schema = ON; UPDATE sqlite_master SET sql = '%s' WHERE name = 'replies'" % REPLIES_TABLE,
-        "CREATE TABLE other (place INTEGER)",
-        "ALTER TABLE replies ADD COLUMN more INTEGER",
-        "DROP TABLE replies; CREATE TABLE replies (place INTEGER)",
-    ])
-
-
-def read_by_sqlite(folder):
-    """SQLite's own library reads a file, and copies its log into it, with no harm. Where it writes, the sums of the pages
-    don't hold, and the file is refused."""
-    data, reply, (base, *_) = filled(folder, "read")
-    for _ in range(2):
-        assert rows_of(data, "SELECT count(*) FROM kept2") == [(9,)]
-        assert rows_of(data, "SELECT count(*) FROM replies", "book-0.db") == [(2,)]
-        with serving(data) as server:
-            assert server.ask(*sending("a.example", "t1", [])) == reply
-    with contextlib.closing(sqlite3.connect(data / "shard-0.db")) as connection:
-        connection.execute("UPDATE kept2 SET caller = 2 WHERE place = 3")
-        connection.commit()
-    assert is_refused(refusal(data), b"storage", bytes(data / "shard-0.db"))
-
-
-def flipped_bits(folder):
-    """Of files whose logs were copied into them single bits are changed, one at a time: the start is refused, with the
-    file's path, or all that was answered is answered still."""
-    data, reply, (base, first, lowered, second) = filled(folder, "whole")
-    events = [base.create, base.join_a, base.levels, base.rules, base.join_b, base.join_c, first, lowered, second]
-    # The start copies what the logs have.
-    assert refusal(data) is None
-    files = sorted(data.glob("*.db"))
-    assert all(log.stat().st_size < 100 for log in data.glob("*-wal"))
-    refused, places = 0, random.Random(11)
-    for number in range(FLIPS):
-        changed = folder / str(number)
-        shutil.copytree(data, changed)
-        file = changed / files[number % len(files)].name
-        content = bytearray(file.read_bytes())
-        at = places.randrange(len(content))
-        content[at] ^= 1 << places.randrange(8)
-        file.write_bytes(content)
-        try:
-            with serving(changed) as server:
-                assert server.ask(*sending("a.example", "t1", [])) == reply, (file, at)
-                shown = [server.ask(*getting("a.example", "v1/event/" + quoted(id_of(made)))) for made in events]
-                assert [json.loads(told[1])["pdus"] for told in shown] == [[made] for made in events], (file, at, shown)
-        except Refused as told:
-            refused += 1
-            assert is_refused(told.args, b"storage", bytes(file)), (file, at, told.args)
-        shutil.rmtree(changed)
-    assert refused >= FLIPS // 2, refused
-
-
-def files_that_disagree(folder):
-    """A directory whose book has the reply to an event that is in no shard is refused, unless that is accepted. An event
-    that was rejected is in its shard, and one that was refused has to be in none."""
-    data, reply, (base, _, lowered, _) = filled(folder, "sound")
-    late = topic(B, [lowered], base.of_b, "late")
-    unsent = message(A, [lowered], base.of_a, "unsent")
-    behind = message(A, [unsent], base.of_a, "behind")
-    with serving(data) as server:
-        told = server.ask(*sending("a.example", "t2", [late, behind]))
-    assert told == (200, canonical({"pdus": {id_of(late): rejected("A7"), id_of(behind): error("missing events")}})), told
-    assert rows_of(data, "SELECT count(*) FROM kept2") == [(10,)]
-    assert refusal(data) is None
-    for least, lost, status in (
-        (10, b"1 event that its replies call kept is in no shard", 200),
-        (8, b"3 events that its replies call kept are in no shard", 404),
-    ):
-        broken = without_sums(data, folder / ("lost%d" % least))
-        rows_of(broken, "DELETE FROM kept2 WHERE place >= %d" % least)
-        line = bytes(broken / "book-0.db") + b": " + lost + b"\n"
-        assert refusal(broken) == (1, b"storage\n" + line), line
-        server = Server(broken, "--accept-loss")
-        assert server.process.stderr.readline() == line
-        assert server.ask(*sending("a.example", "t1", [])) == reply
-        shown = server.ask(*getting("a.example", "v1/event/" + quoted(id_of(lowered))))
-        assert shown[0] == status, shown
-        server.stop()
-        # That start has mended nothing: the next one is refused too.
-        assert refusal(broken) == (1, b"storage\n" + line), line
-    assert refusal(data, "--accept-loss") is None
-
-
-def files_of_other_places(folder):
-    """Rows of rooms and of servers of another place are refused."""
-    data, _, _ = filled(folder, "two", "--shards", "2")
-    for kind in ("shard", "book"):
-        swapped = folder / kind
-        shutil.copytree(data, swapped)
-        for file in list(swapped.glob(kind + "-*")):
-            other = {"0": "1", "1": "0"}[file.name[len(kind) + 1]]
-            file.rename(swapped / ("new %s-%s%s" % (kind, other, file.name[len(kind) + 2:])))
-        for file in list(swapped.glob("new *")):
-            file.rename(swapped / file.name[4:])
-        assert is_refused(refusal(swapped, "--shards", "2"), b"storage", bytes(swapped)), kind
-    assert refusal(data, "--shards", "2") is None
-
-
-def rows_of_a_book(folder):
+def rows_of_a_book(folder: Path) -> None:
     """A book has one row for each transaction that was closed, in their order, and none for one that was not opened."""
     server, base = base_room(folder)
     data = folder / "base"
@@ -392,7 +236,7 @@ def rows_of_a_book(folder):
         pass
 
 
-def tables_made_by_sqlite(folder):
+def tables_made_by_sqlite(folder: Path) -> None:
     """Files that SQLite's own library made are opened, and their rows come back: replies of two servers under one number,
     and events with the least and the greatest number of a caller."""
     data = folder / "made"
@@ -420,7 +264,7 @@ def tables_made_by_sqlite(folder):
     assert rows[:2] == events and rows[2][1] == canonical(said).decode() and len(rows) == 3, rows
 
 
-def first_layout_opened(folder):
+def first_layout_opened(folder: Path) -> None:
     """A directory of the first layout is brought to the second one by the first start over it, which says so once. What it
     answers is what its rows say, and the next start says nothing of it."""
     data = folder / "first"
@@ -462,7 +306,7 @@ def first_layout_opened(folder):
         assert rows_of(broken, "SELECT name FROM sqlite_master") == [("kept",)]
 
 
-def reopened_after_each_request(folder):
+def reopened_after_each_request(folder: Path) -> None:
     """A room is hosted, hosted once more, joined and asked, each by a server that is started over the same files: the rows
     are the events that were kept, and none changes."""
     data, first = folder / "again", create()
@@ -485,15 +329,22 @@ def reopened_after_each_request(folder):
     assert rows_of(data, statement) == both
 
 
-def other_numbers_of_shards(folder):
+def other_numbers_of_shards(folder: Path) -> None:
     """A directory is opened with as many shards as it was made with."""
     data, _, _ = filled(folder, "two", "--shards", "2")
+    made = b"storage\n" + bytes(data) + b": made for hub.example with 2 shards\n"
+    assert refusal(data, "--shards", "1") == (1, made)
+    assert refusal(data, "--shards", "3") == (1, made)
+    # A directory of before does not say so.
+    (data / "server.json").unlink()
     assert is_refused(refusal(data, "--shards", "1"), b"storage", bytes(data / "shard-1.db"))
     assert is_refused(refusal(data, "--shards", "3"), b"storage", bytes(data))
+    assert not (data / "server.json").exists()
     assert refusal(data, "--shards", "2") is None
+    assert (data / "server.json").read_bytes() == b'{"layout":2,"name":"hub.example","shards":2}\n'
 
 
-def missing_files(folder):
+def missing_files(folder: Path) -> None:
     """A directory that lacks a file is refused where another one has rows. Where none has, the file is made: so a first
     start that was cut off leaves nothing to mend."""
     whole, _, _ = filled(folder, "whole", "--shards", "2")
@@ -510,7 +361,49 @@ def missing_files(folder):
             assert lacking.joinpath(name).exists() == (made == new), (made, name)
 
 
-def refused_starts(folder):
+def made_for_another_server(folder: Path) -> None:
+    """A directory says what it was made for, and a start under another name, or in another layout, is refused. One that
+    does not read is refused with its path. A line that was cut off as it was written does no harm."""
+    data, _, _ = filled(folder, "made")
+    file, line = data / "server.json", b'{"layout":2,"name":"hub.example","shards":1}\n'
+    assert file.read_bytes() == line and stat.S_IMODE(os.stat(file).st_mode) == 0o600
+    words = [program(), "serve", "--name", "other.example", "--data", data, "--port", "0"]
+    ran = subprocess.run([str(word) for word in words], capture_output=True, timeout=SECONDS)
+    told = b"storage\n" + bytes(data) + b": made for hub.example with 1 shard\n"
+    assert (ran.returncode, ran.stdout, ran.stderr) == (1, b"", told), ran
+    file.write_bytes(line.replace(b"2", b"3", 1))
+    assert refusal(data) == (1, told.replace(b"shard\n", b"shard in layout 3\n"))
+    for content in (b"", b"{", b"[]", line[:-10], line.replace(b"1", b"-1"), line.replace(b'"hub.example"', b"7"), b"\xff"):
+        file.write_bytes(content)
+        assert is_refused(refusal(data), b"storage", bytes(file) + b": "), content
+        assert file.read_bytes() == content
+    file.unlink()
+    file.mkdir()
+    assert is_refused(refusal(data), b"storage", bytes(file) + b": ")
+    file.rmdir()
+    (data / "server.json.new").write_bytes(line[:10])
+    assert refusal(data) is None and file.read_bytes() == line
+
+
+def emptied_files(folder: Path) -> None:
+    """A directory in which a file is empty is refused where another one has rows, and the file stays so. Where none has
+    rows it is made anew."""
+    whole, _, _ = filled(folder, "whole", "--shards", "2")
+    new = folder / "new"
+    assert refusal(whole, "--shards", "2") is None and refusal(new, "--shards", "2") is None
+    for name in ("shard-0.db", "shard-1.db", "book-0.db", "book-1.db"):
+        for made in (whole, new):
+            emptied = folder / (made.name + name)
+            shutil.copytree(made, emptied)
+            (emptied / (name + "-wal")).unlink()
+            (emptied / name).write_bytes(b"")
+            for words in ((), ("--accept-loss",)):
+                told = refusal(emptied, "--shards", "2", *words)
+                assert told is None if made == new else is_refused(told, b"storage", bytes(emptied / name) + b": "), told
+                assert ((emptied / name).stat().st_size == 0) == (made == whole), (made, name)
+
+
+def refused_starts(folder: Path) -> None:
     """A line that does not host its room, a port that is taken, and numbers outside their limits."""
     base = Base(Log())
     bad = b'{"error":"bad line"}\n'
@@ -519,27 +412,28 @@ def refused_starts(folder):
         (host_line(create(room="!r:z.example")), b'{"refused":"rule A1.2"}\n'),
         (host_line({"type": "m.room.create"}), b'{"refused":"malformed"}\n'),
         (canonical({"step": "open", "origin": "a.example", "txn": "t", "pdus": []}), bad),
-        (b"", bad),
     ):
         rooms = folder / "refused.rooms"
         told = told + bytes(rooms) + b": line 2\n"
         assert refusal(folder / "refused", hosts=[host_line(base.create), line]) == (1, told), line
+    # Blank lines are passed over.
+    assert refusal(folder / "blank", hosts=[b"", host_line(base.create), b" \t\r", b""]) is None
     with serving(folder / "one", hosts=[host_line(base.create)]) as server:
-        words = [PROGRAM, "serve", "--name", NAME, "--data", folder / "two", "--port", str(server.port)]
+        words = [program(), "serve", "--name", NAME, "--data", folder / "two", "--port", str(server.port)]
         ran = subprocess.run([str(word) for word in words], capture_output=True, timeout=SECONDS)
         place = b"127.0.0.1:%d" % server.port
         assert not ran.stdout and is_refused((ran.returncode, ran.stderr), b"failed read or write", place), ran
         taken = folder / "taken"
         taken.write_bytes(b"")
         for words, about in ((["--data", taken], taken), (["--data", folder / "x", "--host", folder / "none"], folder / "none")):
-            ran = subprocess.run([PROGRAM, "serve", "--name", NAME, *words], capture_output=True, timeout=SECONDS)
+            ran = subprocess.run([program(), "serve", "--name", NAME, *words], capture_output=True, timeout=SECONDS)
             assert not ran.stdout and is_refused((ran.returncode, ran.stderr), b"failed read or write", bytes(about)), ran
     for words in (["--threads", "0"], ["--threads", "65"], ["--shards", "0"], ["--connections", "257"], ["--port", "65536"]):
-        ran = subprocess.run([PROGRAM, "serve", "--name", NAME, "--data", folder / "x", *words], capture_output=True, timeout=SECONDS)
+        ran = subprocess.run([program(), "serve", "--name", NAME, "--data", folder / "x", *words], capture_output=True, timeout=SECONDS)
         assert ran.returncode == 2 and not ran.stdout, (words, ran)
 
 
-def full_disk(folder):
+def full_disk(folder: Path) -> None:
     """A file that can't grow: what was answered stays, and what can't be kept is answered so. The shard then answers so to
     all, until the program is started again; where it is told to stop, it ends by itself, with status 1."""
     base = Base(Log())
@@ -573,10 +467,10 @@ def full_disk(folder):
 
 
 TESTS = [
-    rows_reopened, race_reopened, redaction_reopened, kept_reply_reopened, killed_while_it_answers,
-    killed_at_any_moment, broken_tables, broken_books, read_by_sqlite, flipped_bits, files_that_disagree,
-    files_of_other_places, rows_of_a_book, tables_made_by_sqlite, first_layout_opened, reopened_after_each_request,
-    other_numbers_of_shards, missing_files, refused_starts, full_disk,
+    rows_reopened, race_reopened, redaction_reopened, kept_reply_reopened, killed_while_it_answers, killed_at_any_moment,
+    rows_of_a_book, tables_made_by_sqlite, first_layout_opened, reopened_after_each_request, other_numbers_of_shards,
+    made_for_another_server, missing_files, emptied_files, refused_starts, full_disk,
 ]
 
-sys.exit(run_tests(TESTS, "a server's files"))
+if __name__ == "__main__":
+    sys.exit(run_tests(TESTS, "a server's files"))

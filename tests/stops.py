@@ -1,7 +1,7 @@
 #!/usr/bin/env python3
 """`mx_federd serve` is ended at each write of a file in turn, and has its calls on files and on connections fail one at a
-time. Each time it is started again, and asked what it had answered, and for what it had not. The words are those of
-`.ci/served`; .ci/fail_call.c ends the program and makes the calls fail."""
+time. Each time it is started again, and asked what it had answered, and for what it had not. tests/faults/fail_call.c
+ends the program and makes the calls fail."""
 
 import contextlib
 import http.client
@@ -10,22 +10,21 @@ import os
 import shutil
 import signal
 import sqlite3
-import subprocess
 import sys
 import tempfile
 import time
+from collections.abc import Sequence
 from pathlib import Path
 from types import SimpleNamespace
+from typing import Any
 
-sys.dont_write_bytecode = True
-from running_server import SECONDS, TOP, Refused, Server, asked, getting, host_line, run_tests, sending, serving
-from row_events import A, ACCEPTED, B, D, Base, Log, canonical, error, event, id_of, message
-from request_rows import quoted, state_path
-sys.path.insert(0, str(TOP / "examples/layouts"))
+from suite import TOP, run_tests
+from event_logs import Base, Log, quoted, state_path
 from make_first import transactions
+from matrix_events import A, ACCEPTED, B, D, canonical, error, event, id_of, message
+from program import compiled
+from running_server import SECONDS, Refused, Reply, Request, Server, getting, host_line, sending, serving
 
-FOLDER = tempfile.TemporaryDirectory()
-LIBRARY = Path(FOLDER.name) / "fail_call.so"
 STORAGE = 503, b'{"errcode":"M_UNKNOWN","error":"storage"}'
 # An exchange with more writes or more calls on connections than this fails its test.
 MOST_CALLS = 1_000
@@ -34,16 +33,16 @@ MOST_CALLS = 1_000
 class FailingServer(Server):
     """A server one of whose calls fails, or ends it."""
 
-    def __init__(self, data, on, how, number=0, hosts=(), **more):
+    def __init__(self, data: Path, on: str, how: str, number: int = 0, hosts: Sequence[bytes] = (), **more: object) -> None:
         self.number, self.count = data.with_suffix(".number"), data.with_suffix(".count")
         variables = {
-            "LD_PRELOAD": LIBRARY, "FAIL_CALL_ON": on, "FAIL_CALL_HOW": how, "FAIL_CALL": number,
+            "LD_PRELOAD": compiled("fail_call"), "FAIL_CALL_ON": on, "FAIL_CALL_HOW": how, "FAIL_CALL": number,
             "FAIL_CALL_NUMBER": self.number, "FAIL_CALL_COUNT": self.count, **more,
         }
         variables = {name: str(value) for name, value in variables.items()}
         super().__init__(data, hosts=hosts, env={**os.environ, **variables})
 
-    def fail(self, number):
+    def fail(self, number: int) -> int:
         """From now on the call of this number fails, or none for 0. How many there were since the last time."""
         self.number.write_text(str(number))
         self.count.unlink(missing_ok=True)
@@ -56,7 +55,7 @@ class FailingServer(Server):
 class Exchange:
     """The events of the rows' room in a transaction, and then one of two messages, t1."""
 
-    def __init__(self):
+    def __init__(self) -> None:
         base = self.base = Base(Log())
         self.hosts = [host_line(base.create)]
         first = message(B, [base.join_c], base.of_b, "first")
@@ -66,18 +65,19 @@ class Exchange:
         self.events = {"base": events, "t1": self.said}
         self.sent = {"base": self.first, "t1": self.second}
 
-    def reply_to(self, txn):
+    def reply_to(self, txn: str) -> Reply:
+        """The reply to a transaction of events that are all accepted."""
         return 200, canonical({"pdus": {id_of(made): ACCEPTED for made in self.events[txn]}})
 
-    def ask(self, server):
+    def ask(self, server: Server) -> dict[str, Reply]:
         """The replies of a server, until it is gone."""
-        replies = {}
+        replies: dict[str, Reply] = {}
         with contextlib.suppress(OSError, http.client.HTTPException):
             for txn, request in self.sent.items():
                 replies[txn] = server.ask(*request)
         return replies
 
-    def check_again(self, data, replies):
+    def check_again(self, data: Path, replies: dict[str, Reply]) -> None:
         """A server over what was left: each start works, each answered reply comes again, with no event sent, and what was
         not answered is answered as if it were sent once, whatever of it was kept."""
         with serving(data, hosts=self.hosts) as server:
@@ -95,12 +95,12 @@ class Exchange:
         kept = [self.base.create, *self.events["base"], *self.events["t1"]]
         assert rows == [canonical(made).decode() for made in kept], rows
 
-    def empty(self, txn):
+    def empty(self, txn: str) -> Request:
         """The request of a transaction with its events left out."""
         return sending("a.example" if txn == "base" else "b.example", txn, [])
 
 
-def rows_in_copy(data, file, statement):
+def rows_in_copy(data: Path, file: str, statement: str) -> list[tuple[Any, ...]]:
     """Rows of a file as it stands, which a running server has locked: of a copy."""
     with tempfile.TemporaryDirectory() as folder:
         for name in (file, file + "-wal"):
@@ -110,7 +110,7 @@ def rows_in_copy(data, file, statement):
             return connection.execute(statement).fetchall()
 
 
-def lose_power(data):
+def lose_power(data: Path) -> None:
     """Each file is as it was when it was last brought to the disk, and empty where it never was."""
     for file in list(data.glob("*.db")) + list(data.glob("*.db-wal")):
         synced = file.with_name(file.name + ".synced")
@@ -119,7 +119,7 @@ def lose_power(data):
         synced.unlink()
 
 
-def check_ended_at_each_write(folder, how, **more):
+def check_ended_at_each_write(folder: Path, how: str, **more: object) -> int:
     """Counts upwards until no write is met any more: how many there were."""
     exchange = Exchange()
     for number in range(1, MOST_CALLS):
@@ -139,14 +139,14 @@ def check_ended_at_each_write(folder, how, **more):
     raise AssertionError("too many writes")
 
 
-def ended_at_each_write(folder):
+def ended_at_each_write(folder: Path) -> None:
     """The program is ended before each write in turn, from its first start on, in the middle of it, and after it."""
     counts = [check_ended_at_each_write(folder, how) for how in ("stop", "torn", "done")]
     assert min(counts) >= 30, counts
     print("ended at %d writes" % sum(counts))
 
 
-def check_ended_starts(folder, whole, exchange, replies, how):
+def check_ended_starts(folder: Path, whole: Path, exchange: Exchange, replies: dict[str, Reply], how: str) -> int:
     """Ends a start over a copy of a directory at each write: how many there were."""
     for number in range(1, MOST_CALLS):
         data, ended = folder / f"{how}{number}", False
@@ -162,7 +162,7 @@ def check_ended_starts(folder, whole, exchange, replies, how):
     raise AssertionError("too many writes")
 
 
-def ended_at_each_write_of_a_start(folder):
+def ended_at_each_write_of_a_start(folder: Path) -> None:
     """The program is ended at each write of a start over files whose logs have all that was answered, and are copied."""
     exchange, whole = Exchange(), folder / "whole"
     with serving(whole, hosts=exchange.hosts) as server:
@@ -174,16 +174,17 @@ def ended_at_each_write_of_a_start(folder):
 class OldExchange(Exchange):
     """What the first layout's example was answered, and what a server over it answers."""
 
-    def __init__(self):
+    def __init__(self) -> None:
         create, self.events = transactions()
         self.base, self.hosts, self.said = SimpleNamespace(create=create), [], self.events["t1"]
         self.sent = {txn: sending("a.example", txn, made) for txn, made in self.events.items()}
 
-    def empty(self, txn):
+    def empty(self, txn: str) -> Request:
+        """The request of a transaction with its events left out."""
         return sending("a.example", txn, [])
 
 
-def ended_at_each_write_of_a_move(folder):
+def ended_at_each_write_of_a_move(folder: Path) -> None:
     """The program is ended at each write of a start over files of the first layout, in turn. The next start finds the same
     rows, in that layout or in the second one, and answers the same."""
     exchange, whole = OldExchange(), TOP / "examples/layouts/first"
@@ -192,14 +193,14 @@ def ended_at_each_write_of_a_move(folder):
     assert min(counts) >= 5, counts
 
 
-def power_lost_at_each_write(folder):
+def power_lost_at_each_write(folder: Path) -> None:
     """The program is ended before each write in turn, and what was not brought to the disk until then is gone."""
     count = check_ended_at_each_write(folder, "stop", FAIL_CALL_SYNCED=1)
     assert count >= 30, count
     print("power lost at %d writes" % count)
 
 
-def one_failing_call(folder):
+def one_failing_call(folder: Path) -> None:
     """Each write of a file fails in turn. A start that meets it is refused, and works when it comes again. A request that
     meets it is answered by 503; what was answered before stays, and the rest is answered once the program is started
     again."""
@@ -223,7 +224,7 @@ def one_failing_call(folder):
     assert refused_starts >= 5 and refused_requests >= 5, (refused_starts, refused_requests)
 
 
-def failing_at(folder, name, kept, shard_answers):
+def failing_at(folder: Path, name: str, kept: int, shard_answers: bool) -> tuple[Exchange, Path, FailingServer]:
     """A server for which a write of t1 fails, so that t1 is answered by 503, so many of its messages are kept, and the
     shard still answers or does not."""
     exchange = Exchange()
@@ -242,7 +243,7 @@ def failing_at(folder, name, kept, shard_answers):
     raise AssertionError("too many writes")
 
 
-def second_message_not_kept(folder):
+def second_message_not_kept(folder: Path) -> None:
     """What keeps the rows fails at t1's second message: t1 is answered by 503, the first message stays kept, and the shard
     answers so to each request until the program is started again. Then t1 is answered, with both."""
     exchange, data, server = failing_at(folder, "second", 1, False)
@@ -254,7 +255,7 @@ def second_message_not_kept(folder):
         assert again.ask(*exchange.second) == exchange.reply_to("t1")
 
 
-def reply_not_kept(folder):
+def reply_not_kept(folder: Path) -> None:
     """What keeps the replies fails as that to t1 is kept: it is answered by 503. Once the program is started again t1 gets
     both verdicts, of events that are known, and then the same bytes."""
     exchange, data, server = failing_at(folder, "reply", 2, True)
@@ -268,7 +269,7 @@ def reply_not_kept(folder):
         assert again.ask(*exchange.empty("t1")) == told
 
 
-def reply_not_kept_and_then_denied(folder):
+def reply_not_kept_and_then_denied(folder: Path) -> None:
     """The same, and before t1 comes again another server sends an access list that denies its server: both texts tell
     that, of events that are kept."""
     exchange, data, server = failing_at(folder, "denied", 2, True)
@@ -283,7 +284,7 @@ def reply_not_kept_and_then_denied(folder):
         assert again.ask(*exchange.empty("t1")) == told
 
 
-def later_state_judges_nothing_anew(folder):
+def later_state_judges_nothing_anew(folder: Path) -> None:
     """A message of a member who is banned beside it is soft failed, so that nothing follows it. The ban is taken back and
     the member joins again. Once the program is started again the room follows that join alone, though by its last state
     the message would be allowed."""
@@ -303,7 +304,27 @@ def later_state_judges_nothing_anew(folder):
             assert status == 200 and json.loads(told)["event"]["prev_events"] == [id_of(again)], (txn, told)
 
 
-def failing_connections(folder):
+def sent_in_two_parts(server: Server, request: Request) -> tuple[bool, bytes]:
+    """Sends a request, the end of its body by itself: whether its connection was open until then, and what was told."""
+    method, target, authorization, body = request
+    is_whole, told = False, b""
+    with contextlib.suppress(OSError), server.socket() as client:
+        lines = [f"{method} {target} HTTP/1.1", "Host: x", f"Authorization: {authorization}", f"Content-Length: {len(body)}"]
+        client.sendall("\r\n".join([*lines, "Connection: close", "", ""]).encode() + body[:50])
+        client.settimeout(0.05)
+        with contextlib.suppress(TimeoutError):
+            told = client.recv(65536)
+            assert told == b"", told
+            raise ConnectionError
+        client.settimeout(SECONDS)
+        is_whole = True
+        client.sendall(body[50:])
+        while part := client.recv(65536):
+            told += part
+    return is_whole, told
+
+
+def failing_connections(folder: Path) -> None:
     """Each call on a connection fails in turn, in an exchange whose body comes in two parts: the client is answered, or its
     connection is closed. Where it is closed before the second part was sent, nothing was kept. The next client is answered
     each time."""
@@ -311,34 +332,19 @@ def failing_connections(folder):
     data = folder / "connections"
     server = FailingServer(data, "socket", "error", 0, exchange.hosts)
     assert server.ask(*exchange.first) == exchange.reply_to("base")
-    closed, last = 0, exchange.base.join_c
+    closed, last, count = 0, exchange.base.join_c, "SELECT place FROM kept2"
     for number in range(1, MOST_CALLS):
         made = message(B, [last], exchange.base.of_b, "m%d" % number)
         txn, wanted = "t%d" % number, (200, canonical({"pdus": {id_of(made): ACCEPTED}}))
-        method, target, authorization, body = sending("b.example", txn, [made])
-        rows = len(rows_in_copy(data, "shard-0.db", "SELECT place FROM kept2"))
+        request = sending("b.example", txn, [made])
+        rows = len(rows_in_copy(data, "shard-0.db", count))
         server.fail(number)
-        is_whole, told = False, b""
-        with contextlib.suppress(OSError), server.socket() as client:
-            lines = [f"{method} {target} HTTP/1.1", "Host: x", f"Authorization: {authorization}", f"Content-Length: {len(body)}"]
-            client.sendall("\r\n".join([*lines, "Connection: close", "", ""]).encode() + body[:50])
-            client.settimeout(0.05)
-            with contextlib.suppress(TimeoutError):
-                told = client.recv(65536)
-                assert told == b"", told
-                raise ConnectionError
-            client.settimeout(SECONDS)
-            is_whole = True
-            client.sendall(body[50:])
-            while part := client.recv(65536):
-                told += part
+        is_whole, told = sent_in_two_parts(server, request)
         met = server.fail(0) >= number
-        if not is_whole:
-            assert len(rows_in_copy(data, "shard-0.db", "SELECT place FROM kept2")) == rows, number
-        if told:
-            assert told.endswith(wanted[1]), (number, told)
+        assert is_whole or len(rows_in_copy(data, "shard-0.db", count)) == rows, number
+        assert not told or told.endswith(wanted[1]), (number, told)
         closed += not told
-        assert server.ask(method, target, authorization, body) == wanted, number
+        assert server.ask(*request) == wanted, number
         assert server.ask(*sending("b.example", txn, [])) == wanted, number
         last = made
         if not met:
@@ -353,5 +359,5 @@ TESTS = [
     failing_connections,
 ]
 
-subprocess.run(["cc", "-shared", "-fPIC", "-O1", "-o", LIBRARY, TOP / ".ci/fail_call.c", "-ldl"], check=True)
-sys.exit(run_tests(TESTS, "stops and faults"))
+if __name__ == "__main__":
+    sys.exit(run_tests(TESTS, "stops and faults"))

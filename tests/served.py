@@ -1,8 +1,9 @@
 #!/usr/bin/env python3
-"""Runs `mx_federd serve` on loopback, over files of its own, and asks it by sockets.
+"""Tests `mx_federd serve` on loopback: it is asked over sockets, by one client and by many at once, and its files are read once
+it is stopped.
 
-Each function of TESTS is a test: it starts servers, asks them, stops them, and opens their files again. What they answer
-is compared with examples/ and with answers that stand here, which come from the definitions and never from the program."""
+What it answers is compared with examples/ and with answers that stand here, which come from the definitions and never from the
+program."""
 
 import contextlib
 import json
@@ -10,25 +11,29 @@ import resource
 import subprocess
 import sys
 import threading
+from collections.abc import Callable
+from pathlib import Path
+from typing import Any
 
-sys.dont_write_bytecode = True
+from suite import TOP, program, run_tests
+from event_logs import FEDERATION, NAME, Base, Log, header, quoted, state_path
+from matrix_events import A, ACCEPTED, Event, Json, canonical, create, error, id_of, join, message
 from running_server import (
-    LARGEST_BODY, NAME, NOT_JSON, PROGRAM, REPLIES, SECONDS, TOO_LARGE, TOP, UNKNOWN_PATH, Server, asked, base_room,
-    getting, host_line, is_refused, memory_of, rows_of, run_tests, sending, serving,
+    LARGEST_BODY, NOT_JSON, REPLIES, SECONDS, TOO_LARGE, UNKNOWN_PATH, Server, asked, base_room, getting, host_line,
+    is_refused, memory_of, rows_of, sending, serving,
 )
-from row_events import A, ACCEPTED, Base, Log, canonical, create, error, id_of, join, message
-from request_rows import FEDERATION, header, quoted, state_path
 
 # How often a transaction is sent that is refused.
 TRIES = 100_000
 
 # ---- logs
 
-def requests_of(log):
+def requests_of(log: Path) -> tuple[list[bytes], list[tuple[Any, int, Json]]]:
     """The rooms that a log hosts, and its requests with their answers. A transaction by single lines is one request."""
     lines = [json.loads(line) for line in log.read_bytes().splitlines()]
     answers = [json.loads(line) for line in log.with_name(log.stem + ".answers.jsonl").read_bytes().splitlines()]
-    hosts, requests, opened = [], [], {}
+    hosts, requests = [], []
+    opened: dict[Any, Json] = {}
     for line, answer in zip(lines, answers):
         key = line.get("origin"), line.get("txn")
         if line["step"] == "host":
@@ -46,7 +51,7 @@ def requests_of(log):
     return hosts, requests
 
 
-def at_the_moment_of(told, wanted):
+def at_the_moment_of(told: Json, wanted: Json) -> Json:
     """The body that was told, with the moment of the wanted one in place of its own."""
     if "origin_server_ts" in wanted:
         return {**told, "origin_server_ts": wanted["origin_server_ts"]}
@@ -55,7 +60,8 @@ def at_the_moment_of(told, wanted):
     return told
 
 
-def check_log(folder, log):
+def check_log(folder: Path, log: Path) -> int:
+    """Sends the requests of a log to a server, and compares their answers: how many there were."""
     hosts, requests = requests_of(log)
     with serving(folder / log.stem, "--shards", "2", hosts=hosts) as server:
         connection = server.connect()
@@ -72,7 +78,7 @@ NO_REQUESTS = {"authorization_spellings", "steps_out_of_turn", "host_refusals", 
                "unknown_version"}
 
 
-def every_route(folder):
+def every_route(folder: Path) -> None:
     """Each log of rows gets the answers of `replay`, from a server that keeps the connection open."""
     logs = [TOP / "examples/requests.jsonl", *sorted((TOP / "examples/rows").glob("*.jsonl"))]
     count = 0
@@ -84,25 +90,31 @@ def every_route(folder):
 
 # ---- connections
 
-def two_connections(folder):
+def run_together(client: Callable[..., None], of_each: list[tuple[Any, ...]]) -> None:
+    """Runs a client on a thread of its own for each of these, and waits for their ends."""
+    threads = [threading.Thread(target=client, args=it) for it in of_each]
+    for thread in threads:
+        thread.start()
+    for thread in threads:
+        thread.join(SECONDS)
+
+
+def two_connections(folder: Path) -> None:
     """Two clients at the same time: a query for the ids of a state, and a path without a route."""
     server, base = base_room(folder, "--threads", "2", "--shards", "2")
     query = getting("b.example", state_path("state_ids", base.join_b))
     replies = {}
     together = threading.Barrier(2)
 
-    def client(name, request):
+    def client(name: str, request: Any) -> None:
+        """Connects, waits for the other client, and asks."""
         connection = server.connect()
         connection.connect()
         together.wait(SECONDS)
         replies[name] = asked(connection, *request)
         connection.close()
 
-    threads = [threading.Thread(target=client, args=it) for it in (("ids", query), ("path", ("GET", "/x")))]
-    for thread in threads:
-        thread.start()
-    for thread in threads:
-        thread.join(SECONDS)
+    run_together(client, [("ids", query), ("path", ("GET", "/x"))])
     server.stop()
     chain = sorted(id_of(it) for it in (base.create, base.join_a, base.levels))
     state = [id_of(it) for it in (base.create, base.rules, base.join_a, base.levels)]
@@ -110,13 +122,14 @@ def two_connections(folder):
     assert replies["path"] == UNKNOWN_PATH, replies
 
 
-def one_reply_to_a_transaction(folder):
+def one_reply_to_a_transaction(folder: Path) -> None:
     """A transaction that two clients send again and again at the same time has one reply."""
     server, base = base_room(folder, "--threads", "4", "--shards", "2")
     events = [message(A, [base.join_c], base.of_a, "m%d" % number) for number in range(20)]
     replies = []
 
-    def client():
+    def client() -> None:
+        """Sends the transaction ten times."""
         for _ in range(10):
             status, told = server.ask(*sending("a.example", "t1", events))
             if status == 503:
@@ -124,11 +137,7 @@ def one_reply_to_a_transaction(folder):
             else:
                 replies.append((status, told))
 
-    threads = [threading.Thread(target=client) for _ in range(4)]
-    for thread in threads:
-        thread.start()
-    for thread in threads:
-        thread.join(SECONDS)
+    run_together(client, [()] * 4)
     wanted = 200, canonical({"pdus": {id_of(event): ACCEPTED for event in events}})
     assert replies and all(reply == wanted for reply in replies), replies[:2]
     assert server.ask(*sending("a.example", "t1", [])) == wanted
@@ -139,7 +148,7 @@ def one_reply_to_a_transaction(folder):
     assert sorted(counts) == [[(0,)], [(26,)]], counts
 
 
-def seen_later(folder):
+def seen_later(folder: Path) -> None:
     """What comes through one seat, whose connection stays open, is shown through another one."""
     server, base = base_room(folder, "--threads", "2")
     made = message(A, [base.join_c], base.of_a)
@@ -152,23 +161,38 @@ def seen_later(folder):
     server.stop()
 
 
-def four_seats(folder):
+def messages_of_seat(events: list[Event], txn: str) -> list[Event]:
+    """The 25 messages that one client sends to a room with this beginning."""
+    return [message(A, events[1:], events, "%s %d" % (txn, number), room=events[0]["room_id"]) for number in range(25)]
+
+
+def callers_of_rows(rows: list[tuple[Any, ...]]) -> set[int]:
+    """The callers of a room's rows, of which each has its 25 messages, in the order sent."""
+    assert len(rows) == 52, len(rows)
+    sent = [(caller, json.loads(event)["content"]["body"]) for caller, event in rows[2:]]
+    callers = {caller for caller, _ in sent}
+    assert len(callers) == 2, callers
+    for caller in callers:
+        bodies = [body for whose, body in sent if whose == caller]
+        assert bodies == ["%s %d" % (bodies[0].split()[0], at) for at in range(25)], bodies
+    return callers
+
+
+def four_seats(folder: Path) -> None:
     """Four clients at the same time, two for each of two rooms in two shards, send 25 messages each. Each room keeps its
     beginning and 50 messages: 25 of each of two callers, in the order sent."""
     rooms = []
-    for number, name in enumerate(("!r:a.example", "!s:a.example")):
+    for name in ("!r:a.example", "!s:a.example"):
         made = create(room=name)
-        joined = join(A, [made], [made], room=name)
-        rooms.append((number, [made, joined]))
-    hosts = [host_line(made) for _, (made, _) in rooms]
-    words = "--threads", "4", "--shards", "2"
+        rooms.append([made, join(A, [made], [made], room=name)])
     together = threading.Barrier(4)
     faults = []
 
-    def client(server, events, txn):
+    def client(server: Server, events: list[Event], txn: str) -> None:
+        """Connects, waits for the other clients, and sends the messages."""
         try:
             connection = server.connect()
-            sent = [message(A, events[1:], events, "%s %d" % (txn, number), room=events[0]["room_id"]) for number in range(25)]
+            sent = messages_of_seat(events, txn)
             assert asked(connection, "GET", "/x") == UNKNOWN_PATH
             together.wait(SECONDS)
             wanted = 200, canonical({"pdus": {id_of(event): ACCEPTED for event in sent}})
@@ -178,30 +202,18 @@ def four_seats(folder):
         except Exception as fault:  # noqa: BLE001
             faults.append(fault)
 
-    with serving(folder / "seats", *words, hosts=hosts) as server:
-        for number, events in rooms:
+    with serving(folder / "seats", "--threads", "4", "--shards", "2", hosts=[host_line(made) for made, _ in rooms]) as server:
+        for number, events in enumerate(rooms):
             assert server.ask(*sending("a.example", "base%d" % number, events[1:]))[0] == 200
-        clients = [(server, events, "%d%s" % (number, half)) for number, events in rooms for half in "ab"]
-        threads = [threading.Thread(target=client, args=it) for it in clients]
-        for thread in threads:
-            thread.start()
-        for thread in threads:
-            thread.join(SECONDS)
+        run_together(client, [(server, events, "%d%s" % (number, half)) for number, events in enumerate(rooms) for half in "ab"])
     assert not faults, faults
-    callers = set()
-    for number, _ in rooms:
-        rows = rows_of(folder / "seats", "SELECT caller, event FROM kept2 ORDER BY place", "shard-%d.db" % number)
-        assert len(rows) == 52, len(rows)
-        sent = [(caller, json.loads(event)["content"]["body"]) for caller, event in rows[2:]]
-        numbers = {caller for caller, _ in sent}
-        assert len(numbers) == 2 and not numbers & callers, numbers
-        callers |= numbers
-        for caller in numbers:
-            bodies = [body for whose, body in sent if whose == caller]
-            assert bodies == ["%s %d" % (bodies[0].split()[0], at) for at in range(25)], bodies
+    statement = "SELECT caller, event FROM kept2 ORDER BY place"
+    first, second = (callers_of_rows(rows_of(folder / "seats", statement, "shard-%d.db" % number)) for number in (0, 1))
+    assert not first & second, (first, second)
 
 
-def bodies_over_the_limit(folder):
+def bodies_over_the_limit(folder: Path) -> None:
+    """A body of 8 MiB is read, and one of a byte more is answered by 413, on any path."""
     server, _ = base_room(folder)
     spaces = b" " * LARGEST_BODY
     put = "PUT", FEDERATION + "v1/send/t1", header("a.example")
@@ -212,7 +224,7 @@ def bodies_over_the_limit(folder):
     server.stop()
 
 
-def bad_clients(folder):
+def bad_clients(folder: Path) -> None:
     """Malformed heads, and clients that stop in the middle of a request: the next client is answered, and no call was made."""
     server, base = base_room(folder)
     for head in (b"\r\nGET\r\n\r\n", b"GET / HTTP/9.9\r\n\r\n", b"\x00\xff\r\n\r\n", b"GET / HTTP/1.1\r\nA b: c\r\n\r\n"):
@@ -231,7 +243,7 @@ def bad_clients(folder):
     server.stop()
 
 
-def connections_past_the_limit(folder):
+def connections_past_the_limit(folder: Path) -> None:
     """Of 200 connections at once at least 16 are answered, and the others are closed unanswered. No connection came before,
     since one that its server has not closed yet counts as open."""
     server = Server(folder / "limit", "--connections", "16")
@@ -253,13 +265,14 @@ def connections_past_the_limit(folder):
     server.stop()
 
 
-def many_requests(folder):
+def many_requests(folder: Path) -> None:
     """10,000 requests over 64 connections: each is answered, and the server keeps no memory of them."""
     server, base = base_room(folder, "--threads", "64", "--connections", "64", "--shards", "4")
     query = getting("b.example", "v1/event/" + quoted(id_of(base.create)))
     faults = []
 
-    def client(count):
+    def client(count: int) -> None:
+        """Asks so many times on one connection."""
         try:
             connection = server.connect()
             for _ in range(count):
@@ -269,7 +282,8 @@ def many_requests(folder):
         except Exception as fault:  # noqa: BLE001
             faults.append(fault)
 
-    def run(count):
+    def run(count: int) -> None:
+        """Has 64 clients ask so many times each."""
         threads = [threading.Thread(target=client, args=(count,)) for _ in range(64)]
         for thread in threads:
             thread.start()
@@ -285,7 +299,7 @@ def many_requests(folder):
     assert after - before < 16_384, (before, after)
 
 
-def walk_of_the_readme(folder):
+def walk_of_the_readme(folder: Path) -> None:
     """What README shows a new user: the same answers before and after a stop."""
     example = TOP / "examples/serve"
     rooms = example.joinpath("rooms.jsonl").read_bytes().splitlines()
@@ -295,7 +309,7 @@ def walk_of_the_readme(folder):
             assert ran.stdout == example.joinpath("walk.answers").read_bytes(), ran
 
 
-def refused_tries(folder):
+def refused_tries(folder: Path) -> None:
     """Where nothing can be kept, a transaction that is sent again and again is refused each time, and nothing is left of
     it: neither of what was begun nor of what was given up."""
     base = Base(Log())
@@ -322,10 +336,10 @@ def refused_tries(folder):
     assert grown < 16_384, grown
 
 
-def unheard(folder):
+def unheard(folder: Path) -> None:
     """Nobody takes what it says on standard error: it listens and answers all the same. Where nobody takes the line on
     standard output, it ends."""
-    words = [str(it) for it in (PROGRAM, "serve", "--name", NAME, "--data", folder / "unheard", "--port", "0")]
+    words = [str(it) for it in (program(), "serve", "--name", NAME, "--data", folder / "unheard", "--port", "0")]
     with open("/dev/full", "wb") as full:
         server = subprocess.Popen(words, stdin=subprocess.DEVNULL, stdout=subprocess.PIPE, stderr=full)
         assert server.stdout.readline().startswith(b"listening 127.0.0.1:")
@@ -336,7 +350,7 @@ def unheard(folder):
         assert is_refused((ran.returncode, ran.stderr), b"failed read or write", b"standard output"), ran
 
 
-def transactions_in_two_rooms(folder):
+def transactions_in_two_rooms(folder: Path) -> None:
     """One transaction with events of two rooms in two shards, after which both rooms have them; d.example's join, too."""
     first, second = Base(Log()), create(room="!s:a.example")
     with serving(folder / "rooms", "--shards", "2", "--threads", "2", hosts=[host_line(first.create), host_line(second)]) as server:
@@ -357,4 +371,5 @@ TESTS = [
     transactions_in_two_rooms,
 ]
 
-sys.exit(run_tests(TESTS, "a running server"))
+if __name__ == "__main__":
+    sys.exit(run_tests(TESTS, "a running server"))

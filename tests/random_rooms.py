@@ -1,34 +1,36 @@
 #!/usr/bin/env python3
-"""Replays random rooms and compares each answer with a plain model: `.ci/random-rooms [PROGRAM [SECONDS]]`.
+"""Replays random rooms, and compares each answer with a plain model of the rules and of state resolution.
 
 The model is written from the Matrix specification (Room Versions 6 and 7: authorization rules; Room Version 2: state
 resolution), for the kinds of events that these rooms have. Rooms are by the numbers 1, 2, .. as seeds, of version 6 and
-7 in turn."""
+7 in turn, for 20 seconds, or for `--seconds`."""
 
 import random
-import subprocess
 import sys
 import time
-from pathlib import Path
+from collections.abc import Sequence
 
-TOP = Path(__file__).resolve().parent.parent
-sys.path.insert(0, str(TOP / "examples/rows"))
-sys.dont_write_bytecode = True
-from request_rows import get, ids, quoted  # noqa: E402
-from row_events import A, ACCEPTED, B, C, D, ROOM, Log, event, id_of, rejected  # noqa: E402
-from state_rows import by_key, chain_of  # noqa: E402
-from version_rows import VersionedRoom  # noqa: E402
+from suite import option, run_tests
+from event_logs import Log, get, ids, quoted
+from matrix_events import A, ACCEPTED, B, C, D, ROOM, Event, Json, Reply, event, id_of, rejected
+from program import compare_answers, replay
+from state_rows import by_key, chain_of
+from version_rows import VersionedRoom
 
-PROGRAM = Path(sys.argv[1] if len(sys.argv) > 1 else TOP / "crates/mx_federd/out/mx_federd")
-SECONDS = float(sys.argv[2]) if len(sys.argv) > 2 else 20
+# A type and a state key; the events of a state, and the ids of one, by these.
+Key = tuple[str, str]
+State = dict[Key, Event]
+Ids = dict[Key, str]
 CREATE, POWER, RULES, MEMBER = ("m.room.create", ""), ("m.room.power_levels", ""), ("m.room.join_rules", ""), "m.room.member"
 
 
-def key_of(made):
+def key_of(made: Event) -> Key | None:
+    """The key of an event in a state, if it has one."""
     return (made["type"], made["state_key"]) if "state_key" in made else None
 
 
-def needed_keys(version, made):
+def needed_keys(version: str, made: Event) -> list[Key]:
+    """The keys of the auth events that an event needs."""
     keys = [CREATE, POWER, (MEMBER, made["sender"])]
     if made["type"] == MEMBER:
         keys.append((MEMBER, made["state_key"]))
@@ -37,18 +39,20 @@ def needed_keys(version, made):
     return list(dict.fromkeys(keys))
 
 
-def level(state, user):
+def level(state: State, user: str) -> int:
+    """A user's power level."""
     if POWER in state:
         return state[POWER]["content"]["users"].get(user, 0)
     return 100 if state[CREATE]["content"]["creator"] == user else 0
 
 
-def membership(state, user):
+def membership(state: State, user: str) -> str | None:
+    """A user's membership, if it has one."""
     made = state.get((MEMBER, user))
     return made["content"]["membership"] if made else None
 
 
-def fault(version, state, made):
+def fault(version: str, state: State, made: Event) -> str | None:
     """The label of the first rule that rejects the event on this state, or None."""
     sender, own = made["sender"], level(state, made["sender"])
     if made["type"] == MEMBER:
@@ -60,7 +64,8 @@ def fault(version, state, made):
     return levels_fault(state[POWER]["content"], made["content"], sender, own) if key_of(made) == POWER and POWER in state else None
 
 
-def member_fault(version, state, made, own):
+def member_fault(version: str, state: State, made: Event, own: int) -> str | None:
+    """The label of the first rule that rejects a membership on this state, or None."""
     sender, target, wanted = made["sender"], made["state_key"], made["content"]["membership"]
     now, other = membership(state, target), level(state, target)
     rule = state[RULES]["content"]["join_rule"] if RULES in state else "invite"
@@ -92,7 +97,8 @@ def member_fault(version, state, made, own):
     return None if own >= 50 and other < own else "A4.4.5"
 
 
-def levels_fault(before, after, sender, own):
+def levels_fault(before: Json, after: Json, sender: str, own: int) -> str | None:
+    """The label of the first rule that rejects these power levels behind those, or None."""
     changed = [user for user in {**before["users"], **after["users"]} if before["users"].get(user) != after["users"].get(user)]
     if any(user != sender and before["users"].get(user, -1) >= own for user in changed):
         return "A9.6"
@@ -102,28 +108,36 @@ def levels_fault(before, after, sender, own):
 class Room:
     """The events of a room, and the states by the model."""
 
-    def __init__(self, version, base):
+    def __init__(self, version: str, base: VersionedRoom) -> None:
         self.version = version
-        self.held, self.before, self.after, self.chains = {}, {}, {}, {}
+        self.held: dict[str, Event] = {}
+        self.before: dict[str, Ids] = {}
+        self.after: dict[str, Ids] = {}
+        self.chains: dict[str, set[str]] = {}
         for made in (base.create, base.join_a, base.levels, base.rules, base.join_b, base.join_c):
             self.add(made, self.state_after(made["prev_events"]), True)
 
-    def add(self, made, before, is_accepted):
+    def add(self, made: Event, before: Ids, is_accepted: bool) -> None:
+        """Keeps an event, and the states before and after it."""
         name = id_of(made)
         self.held[name], self.before[name] = made, before
         self.after[name] = {**before, key_of(made): name} if is_accepted and key_of(made) else before
         self.chains[name] = set(made["auth_events"]).union(*(self.chains[cited] for cited in made["auth_events"]))
 
-    def events(self, state):
+    def events(self, state: Ids) -> State:
+        """The events of a state."""
         return {key: self.held[name] for key, name in state.items()}
 
-    def state_after(self, prev):
+    def state_after(self, prev: Sequence[str]) -> Ids:
+        """The state behind these events."""
         return self.resolve([self.after[name] for name in prev]) if prev else {}
 
-    def of_auth_events(self, made):
+    def of_auth_events(self, made: Event) -> Ids:
+        """The state that an event's auth events make."""
         return {key_of(self.held[name]): name for name in made["auth_events"]}
 
-    def resolve(self, states):
+    def resolve(self, states: list[Ids]) -> Ids:
+        """State resolution."""
         keys = {key for state in states for key in state}
         agreed = {key: states[0][key] for key in keys if key in states[0] and all(s.get(key) == states[0][key] for s in states)}
         found = {state[key] for state in states for key in keys - agreed.keys() if key in state}
@@ -137,13 +151,16 @@ class Room:
         resolved = self.judged(resolved, self.mainline_order(resolved.get(POWER), full - power))
         return {**resolved, **agreed}
 
-    def is_power(self, made):
+    def is_power(self, made: Event) -> bool:
+        """Whether it is a power event."""
         if made["type"] == MEMBER:
             return made["content"]["membership"] in ("leave", "ban") and made["sender"] != made["state_key"]
         return key_of(made) in (POWER, RULES)
 
-    def power_order(self, names):
-        def rank(name):
+    def power_order(self, names: set[str]) -> list[str]:
+        """The reverse topological power ordering."""
+        def rank(name: str) -> tuple[int, int, str]:
+            """What comes first of events of which none cites the other."""
             made = self.held[name]
             state = self.events(self.of_auth_events(made))
             own = level(state, made["sender"]) if state else 100
@@ -156,17 +173,20 @@ class Room:
             order.append(first)
         return order
 
-    def power_of(self, name):
+    def power_of(self, name: str) -> str | None:
+        """The power levels that an event cites, if it does."""
         return self.of_auth_events(self.held[name]).get(POWER)
 
-    def mainline_order(self, power, names):
+    def mainline_order(self, power: str | None, names: set[str]) -> list[str]:
+        """The mainline ordering by these power levels."""
         mainline = []
         while power:
             mainline.append(power)
             power = self.power_of(power)
 
-        def rank(name):
-            at = name
+        def rank(name: str) -> tuple[int, int, str]:
+            """The place of the first power levels in the mainline, from its end."""
+            at: str | None = name
             while at and at not in mainline:
                 at = self.power_of(at)
             place = mainline.index(at) if at else len(mainline)
@@ -174,7 +194,8 @@ class Room:
 
         return sorted(names, key=rank)
 
-    def judged(self, state, names):
+    def judged(self, state: Ids, names: list[str]) -> Ids:
+        """The iterative checks of these events on a state."""
         state = dict(state)
         for name in names:
             made, cited = self.held[name], self.of_auth_events(self.held[name])
@@ -187,7 +208,7 @@ class Room:
         return state
 
 
-def content_of(chance, kind, sender):
+def content_of(chance: random.Random, kind: str, sender: str) -> tuple[str | None, Json]:
     """The state key and the content of a random event of this kind."""
     if kind == "m.room.power_levels":
         return "", {"users": {A: 100, B: chance.choice((0, 50, 50, 100)), C: chance.choice((0, 50, 50))}}
@@ -215,7 +236,7 @@ CROWDS = [
 ]
 
 
-def crowd_content(chance, keys):
+def crowd_content(chance: random.Random, keys: list[Key]) -> tuple[str, str, str | None, Json]:
     """The sender, kind, state key and content of an event of a crowd: mostly at one of these keys."""
     if chance.random() < 0.1:
         kind = chance.choice(KINDS)
@@ -226,24 +247,30 @@ def crowd_content(chance, keys):
     return chance.choice((A, B, C)), kind, "", {"topic": str(chance.random())}
 
 
-def random_log(seed):
+def random_parents(chance: random.Random, base: VersionedRoom, latest: list[Event], crowded: list[Key] | None
+                   ) -> tuple[list[Event], str, str, str | None, Json]:
+    """The events before a random event, its sender, kind, state key and content."""
+    if crowded:
+        prev = latest[-chance.randrange(8, 20):] if chance.random() < 0.3 else [base.join_c]
+        return prev, *crowd_content(chance, crowded)
+    prev = chance.sample(latest, min(len(latest), chance.choice((1, 1, 2, 3))))
+    sender, kind = chance.choice((A, A, B, B, C, D)), chance.choice(KINDS)
+    kind = MEMBER if sender == D else kind
+    return prev, sender, kind, *content_of(chance, kind, sender)
+
+
+def random_log(seed: int) -> tuple[Log, list[tuple[Event, Reply]]]:
     """A random room. In each third one the events crowd on one event, so that the room has many forward extremities, and
     some events cite as many as may be."""
     chance, log = random.Random(seed), Log()
     version = "67"[seed % 2 - 1]
     base = VersionedRoom(version)
     base.begin(log)
-    room, latest, told = Room(version, base), [base.join_c], []
+    room, latest = Room(version, base), [base.join_c]
+    told: list[tuple[Event, Reply]] = []
     crowded = chance.choice(CROWDS) if seed % 3 == 0 else None
     for _ in range(40):
-        if crowded:
-            prev = latest[-chance.randrange(8, 20):] if chance.random() < 0.3 else [base.join_c]
-            sender, kind, key, content = crowd_content(chance, crowded)
-        else:
-            prev = chance.sample(latest, min(len(latest), chance.choice((1, 1, 2, 3))))
-            sender, kind = chance.choice((A, A, B, B, C, D)), chance.choice(KINDS)
-            kind = MEMBER if sender == D else kind
-            key, content = content_of(chance, kind, sender)
+        prev, sender, kind, key, content = random_parents(chance, base, latest, crowded)
         before = room.state_after([id_of(made) for made in prev])
         shape = {"type": kind, "sender": sender, "content": content, "state_key": key}
         auth = [room.held[before[needed]] for needed in needed_keys(version, shape) if needed in before]
@@ -255,31 +282,35 @@ def random_log(seed):
         told.append((made, ACCEPTED if label is None else rejected(label)))
         latest = (latest + [made])[-20 if crowded else -chance.choice((2, 4, 6)):]
     log.transaction("a.example", "t", *told)
+    ask_states(log, room, told)
+    return log, told
+
+
+def ask_states(log: Log, room: Room, told: list[tuple[Event, Reply]]) -> None:
+    """A query for the ids of the state before each event that is accepted."""
     for made, reply in told:
         if reply == ACCEPTED:
             state = by_key(room.events(room.before[id_of(made)]).values())
             answer = {"auth_chain_ids": ids(chain_of(room.held, state)), "pdu_ids": ids(state)}
             get(log, "v1/state_ids/%s?event_id=%s" % (quoted(ROOM), quoted(id_of(made))), (200, answer), "a.example")
-    return log, told
 
 
-def main():
-    end, seed, accepted, count = time.monotonic() + SECONDS, 0, 0, 0
+def random_rooms() -> None:
+    """All answers of each random room are the model's."""
+    end, seed, accepted, count = time.monotonic() + option("seconds"), 0, 0, 0
     while time.monotonic() < end or seed < 5:
         seed += 1
         log, told = random_log(seed)
         accepted, count = accepted + sum(reply == ACCEPTED for _, reply in told), count + len(told)
-        ran = subprocess.run([str(PROGRAM), "replay", "--name", "hub.example", "--shards", "2"], stdout=subprocess.PIPE,
-                             input=b"\n".join(log.lines) + b"\n", timeout=300)
-        for at, (answer, wanted) in enumerate(zip(ran.stdout.split(b"\n"), log.answers)):
-            if answer != wanted:
-                print(f"room {seed}, line {at}: {answer[:2000]!r}, and by the model {wanted[:2000]!r}")
-                return 1
-        if ran.returncode or ran.stdout.count(b"\n") != len(log.answers):
-            print(f"room {seed}: status {ran.returncode}")
-            return 1
-    print(f"{seed} random rooms, {count} events, of which {accepted} are accepted: all answers are the model's")
-    return 0
+        try:
+            compare_answers(replay(log.text(), "--shards", "2", timeout=300), log.answers)
+        except AssertionError as fault:
+            raise AssertionError(f"room {seed}") from fault
+    print(f"{seed} random rooms, {count} events, of which {accepted} are accepted")
 
 
-sys.exit(main())
+TESTS = [random_rooms]
+
+if __name__ == "__main__":
+    seconds = "--seconds", {"type": float, "default": 20, "help": "how long rooms are made (default: 20; at least five are)"}
+    sys.exit(run_tests(TESTS, "random rooms", [seconds]))

@@ -1,19 +1,26 @@
 """Tests of the front: the keys of servers, where a server is, and its own side."""
 
 import asyncio
+import gzip
 import json
+import socket
+import ssl
 import subprocess
 import threading
 import time
+from collections.abc import Callable
+from typing import Any
 
 from front_servers import (
-    AUTHORITY, FEDERATION, KEYS, OTHER, SIGNATURE, Peer, a_message, authorization, in_a_world, is_unsigned, now,
+    AUTHORITY, FEDERATION, KEYS, OTHER, SIGNATURE, Peer, World, a_message, authorization, in_a_world, is_unsigned, now,
     published, sealed, signature_of, told, wait_for,
 )
-from row_events import content_hash, id_of, without
-from running_server import NAME, SECONDS, TOP
+from event_logs import NAME
+from matrix_events import Json, content_hash, id_of, without
+from running_server import SECONDS
 from signedjson.key import decode_verify_key_bytes, generate_signing_key, read_signing_keys
 from signedjson.sign import sign_json, verify_signed_json
+from suite import TOP
 from unpaddedbase64 import decode_base64, encode_base64
 
 # ---- keys
@@ -27,7 +34,7 @@ CAUSES = {
 
 
 @in_a_world
-def expired_keys(world):
+def expired_keys(world: World) -> None:
     """A key counts for requests until `valid_until_ts`, and an old one for events until `expired_ts`."""
     old, moment = generate_signing_key("old"), now() - 1000
     retired = generate_signing_key("retired")
@@ -50,39 +57,49 @@ def expired_keys(world):
     assert told(world.send("t2", [before, after, late])) == (200, {"pdus": wanted})
 
 
-@in_a_world
-def bad_key_servers(world):
-    """Down, slow, endless, of another name, not signed, no JSON, a redirect, another certificate: 401, in time, and the
-    front answers others meanwhile."""
-    def endless(request):
-        request.wfile.write(b"HTTP/1.1 200 OK\r\nContent-Type: application/json\r\n\r\n{")
-        try:
-            while True:
-                request.wfile.write(b" " * 65_536)
-        except OSError:
-            return None
+def endless(request: Any) -> None:
+    """A body without end."""
+    request.wfile.write(b"HTTP/1.1 200 OK\r\nContent-Type: application/json\r\n\r\n{")
+    try:
+        while True:
+            request.wfile.write(b" " * 65_536)
+    except OSError:
+        return
 
-    def head(request):
-        request.wfile.write(b"HTTP/1.1 200 OK\r\n")
-        try:
-            while True:
-                request.wfile.write(b"X-%d: y\r\n" % time.monotonic_ns())
-        except OSError:
-            return None
 
-    def packed(request):
-        import gzip
-        return 200, gzip.compress(b" " * 50_000_000), ("Content-Encoding", "gzip")
+def head(request: Any) -> None:
+    """A head without end."""
+    request.wfile.write(b"HTTP/1.1 200 OK\r\n")
+    try:
+        while True:
+            request.wfile.write(b"X-%d: y\r\n" % time.monotonic_ns())
+    except OSError:
+        return
 
+
+def packed(request: Any) -> tuple[Any, ...]:
+    """A body that grows as it is unpacked."""
+    return 200, gzip.compress(b" " * 50_000_000), ("Content-Encoding", "gzip")
+
+
+def bad_answers() -> dict[str, Callable[[Any], Any]]:
+    """What bad servers answer to the question for their keys, by their names."""
     lies = sign_json(without(published("a.example", OTHER), "signatures"), "liar.example", OTHER)
     not_signed = {**published("unsigned.example", OTHER), "signatures": {}}
-    answers = {
+    return {
         "slow": lambda _: time.sleep(60), "endless": endless, "head": head, "packed": packed, "liar": lambda _: (200, lies),
         "unsigned": lambda _: (200, not_signed), "text": lambda _: (200, b"no JSON"), "list": lambda _: (200, []),
         "redirect": lambda _: (302, b"", ("Location", "https://a.example:8448/_matrix/key/v2/server")),
         "empty": lambda _: (200, {}), "missing": lambda _: (404, {}), "strange": lambda _: (200, {
             "server_name": "strange.example", "valid_until_ts": "x", "verify_keys": {"ed25519:1": 3}}),
     }
+
+
+@in_a_world
+def bad_key_servers(world: World) -> None:
+    """Down, slow, endless, of another name, not signed, no JSON, a redirect, another certificate: 401, in time, and the
+    front answers others meanwhile."""
+    answers = bad_answers()
     peers = {name: Peer(AUTHORITY, name + ".example", "e.example" if name != "slow" else None) for name in answers}
     for name, peer in peers.items():
         peer.answers["/_matrix/key"] = answers[name]
@@ -93,7 +110,8 @@ def bad_key_servers(world):
     world.start_front()
     started, replies = time.monotonic(), {}
 
-    def client(name):
+    def client(name: str) -> None:
+        """Asks as this server."""
         header = authorization("GET", FEDERATION + "v1/event/$x", name + ".example", None, OTHER)
         replies[name] = world.raw("GET", FEDERATION + "v1/event/$x", [("Authorization", header)])
 
@@ -115,12 +133,13 @@ def bad_key_servers(world):
 
 
 @in_a_world
-def keys_are_asked_once(world):
+def keys_are_asked_once(world: World) -> None:
     """200 requests at once, of which none has a key yet, ask for it once; a key that is not there is not asked for again."""
     path, replies = FEDERATION + "v1/event/$x", []
     world.a.answers["/_matrix/key"] = lambda _: time.sleep(1) or (200, published("a.example", KEYS["a.example"]))
 
-    def client():
+    def client() -> None:
+        """Asks once."""
         replies.append(world.ask("GET", path, "a.example")[0])
 
     threads = [threading.Thread(target=client) for _ in range(200)]
@@ -136,7 +155,7 @@ def keys_are_asked_once(world):
 
 
 @in_a_world
-def kept_and_pinned_keys(world):
+def kept_and_pinned_keys(world: World) -> None:
     """Keys outlive a new start while their server is down; a pinned one is asked of nobody, and no other counts beside it."""
     world.fill()
     world.a.answers["/_matrix/key"] = world.b.answers["/_matrix/key"] = lambda _: (500, {})
@@ -153,7 +172,7 @@ def kept_and_pinned_keys(world):
 
 
 @in_a_world
-def own_side(world):
+def own_side(world: World) -> None:
     """Its own key, signed by it, as a file in Synapse's form has it; its version; its delegation."""
     reply = told(world.raw("GET", "/_matrix/key/v2/server"))[1]
     path = world.folder / "front/signing.key"
@@ -168,7 +187,7 @@ def own_side(world):
 
 
 @in_a_world
-def unheard(world):
+def unheard(world: World) -> None:
     """That nobody takes what it says on standard error does no harm; a request that is no HTTP is one line there."""
     with world.connect() as client:
         client.sendall(b"\x00\xff\r\n\r\n")
@@ -182,7 +201,7 @@ def unheard(world):
 
 
 @in_a_world
-def not_started(world):
+def not_started(world: World) -> None:
     """What is wrong with its files is said in one line, and the status is 1."""
     words = [TOP / "examples/front/main.py", "--name", NAME, "--data", world.folder / "other"]
     (world.folder / "wrong").write_text("5")
@@ -195,15 +214,15 @@ def not_started(world):
 
 # ---- where a server is
 
-def network(world, **hosts):
+def network(world: World, **hosts: int) -> Any:
+    """What the front finds servers by, with these places on loopback."""
     from discovery import Network
-    import ssl
     places = {name: ("127.0.0.1", port) for name, port in hosts.items()}
     trusted = ssl.create_default_context(cafile=world.authority.certificate)
     return Network(NAME, OTHER, trusted, places)
 
 
-async def reached(network, server):
+async def reached(network: Any, server: str) -> str:
     """The server name in the key that a server publishes there, or the failure's name."""
     from discovery import FAILURES
     try:
@@ -213,7 +232,7 @@ async def reached(network, server):
 
 
 @in_a_world
-def delegation(world):
+def delegation(world: World) -> None:
     """`/.well-known/matrix/server`: to a port, to a name, behind redirects; loops, large and wrong ones delegate nothing;
     names with a port and IP literals are asked for none. The certificate is that of the name that is delegated to."""
     named = Peer(AUTHORITY, "e.example")
@@ -224,7 +243,8 @@ def delegation(world):
     places = network(world, **hosts)
     literal.key, named.key = OTHER, OTHER
 
-    def to(status, value, *headers):
+    def to(status: int, value: Json, *headers: tuple[str, str]) -> str:
+        """Where e.example is reached when it answers so."""
         named.answers["/.well-known"] = lambda _: (status, value, *headers)
         return asyncio.run(reached(places, "e.example"))
 
@@ -248,7 +268,7 @@ def delegation(world):
 
 
 @in_a_world
-def service_records(world):
+def service_records(world: World) -> None:
     """SRV: the port and the addresses of the target, under the certificate of the name; over a small DNS server."""
     import dns.asyncresolver
     import discovery
@@ -260,7 +280,8 @@ def service_records(world):
     places = network(world, **{"first.example:8": named.port, "second.example:7": named.port, "old.example:9": named.port})
     real, discovery.dns.asyncresolver.Resolver = discovery.dns.asyncresolver.Resolver, lambda: resolver
 
-    async def nothing(_):
+    async def nothing(_: str) -> None:
+        """No delegation."""
         return None
 
     places._well_known = nothing
@@ -274,16 +295,16 @@ def service_records(world):
         named.close()
 
 
-def name_server(records):
+def name_server(records: dict[str, str]) -> int:
     """The port of a DNS server that has these SRV records and no other name."""
     import dns.message
     import dns.rcode
     import dns.rrset
-    import socket
     bound = socket.socket(socket.AF_INET, socket.SOCK_DGRAM)
     bound.bind(("127.0.0.1", 0))
 
-    def serve():
+    def serve() -> None:
+        """Answers without end."""
         while True:
             text, place = bound.recvfrom(4096)
             asked = dns.message.from_wire(text)
@@ -300,7 +321,7 @@ def name_server(records):
 
 
 @in_a_world
-def private_addresses(world):
+def private_addresses(world: World) -> None:
     """Nobody makes the front ask an address of the operator's own networks."""
     places = network(world)
     for server in ("127.0.0.1:%d" % world.a.port, "10.0.0.1", "192.168.1.1:80", "169.254.169.254:80", "[::1]:22", "[fd00::1]",

@@ -1,5 +1,4 @@
-"""`mx_federd serve` on loopback, over files of its own, for tests that ask it over sockets. The words of the script that
-uses it are the program, where it is not the one that `rt ci` has built, and the tests that are to be run."""
+"""`mx_federd serve` on loopback, over files of its own, for tests that ask it over sockets."""
 
 import contextlib
 import http.client
@@ -7,18 +6,14 @@ import json
 import socket
 import sqlite3
 import subprocess
-import sys
-import tempfile
-import traceback
+from collections.abc import Iterator, Sequence
 from pathlib import Path
+from typing import Any
 
-TOP = Path(__file__).resolve().parent.parent
-sys.path.insert(0, str(TOP / "examples/rows"))
-from row_events import Base, Log, canonical, id_of  # noqa: E402
-from request_rows import FEDERATION, header  # noqa: E402
+from event_logs import FEDERATION, NAME, Base, Log, header
+from matrix_events import Event, canonical
+from suite import program
 
-PROGRAM = Path(sys.argv[1] if len(sys.argv) > 1 else TOP / "crates/mx_federd/out/mx_federd")
-NAME = "hub.example"
 LARGEST_BODY = 8_388_608
 # How long a step may take before its test fails: as long as a busy machine may want.
 SECONDS = 300
@@ -27,6 +22,10 @@ REPLIES = "SELECT place, origin, txn, reply FROM replies ORDER BY place"
 NOT_JSON = (400, b'{"errcode":"M_NOT_JSON","error":"body is not JSON"}')
 TOO_LARGE = (413, b'{"errcode":"M_TOO_LARGE","error":"body over 8 MiB"}')
 UNKNOWN_PATH = (404, b'{"errcode":"M_UNRECOGNIZED","error":"unknown path"}')
+# A status and a body.
+Reply = tuple[int, bytes]
+# A method and a target, and, where there are, the Authorization header and a body.
+Request = tuple[str, str, str] | tuple[str, str, str, bytes]
 
 
 class Refused(Exception):
@@ -36,11 +35,11 @@ class Refused(Exception):
 class Server:
     """A running server over a directory."""
 
-    def __init__(self, data, *words, hosts=(), port=0, **how):
+    def __init__(self, data: Path, *words: object, hosts: Sequence[bytes] = (), port: int = 0, **how: Any) -> None:
         rooms = Path(data).with_suffix(".rooms")
         rooms.write_bytes(b"".join(line + b"\n" for line in hosts))
-        words = [PROGRAM, "serve", "--name", NAME, "--data", data, "--port", port, "--host", rooms, *words]
-        self.process = subprocess.Popen([str(word) for word in words], stdin=subprocess.DEVNULL,
+        command = [program(), "serve", "--name", NAME, "--data", data, "--port", port, "--host", rooms, *words]
+        self.process = subprocess.Popen([str(word) for word in command], stdin=subprocess.DEVNULL,
                                         stdout=subprocess.PIPE, stderr=subprocess.PIPE, **how)
         told = self.process.stdout.readline()
         if not told:
@@ -49,19 +48,22 @@ class Server:
         assert told.startswith(b"listening 127.0.0.1:"), told
         self.port = int(told.rpartition(b":")[2])
 
-    def stop(self):
+    def stop(self) -> None:
+        """Ends the server, and waits for its end."""
         self.process.terminate()
         self.process.wait(SECONDS)
         self.process.stdout.close()
         self.process.stderr.close()
 
-    def connect(self):
+    def connect(self) -> http.client.HTTPConnection:
+        """A connection for requests."""
         return http.client.HTTPConnection("127.0.0.1", self.port, timeout=SECONDS)
 
-    def socket(self):
+    def socket(self) -> socket.socket:
+        """A connection for bytes."""
         return socket.create_connection(("127.0.0.1", self.port), timeout=SECONDS)
 
-    def ask(self, *request):
+    def ask(self, *request: Any) -> Reply:
         """The reply to one request, on a connection of its own."""
         connection = self.connect()
         try:
@@ -71,7 +73,8 @@ class Server:
 
 
 @contextlib.contextmanager
-def serving(data, *words, hosts=()):
+def serving(data: Path, *words: object, hosts: Sequence[bytes] = ()) -> Iterator[Server]:
+    """A server that is stopped at the end."""
     server = Server(data, *words, hosts=hosts)
     try:
         yield server
@@ -79,7 +82,7 @@ def serving(data, *words, hosts=()):
         server.stop()
 
 
-def refusal(data, *words, hosts=()):
+def refusal(data: Path, *words: object, hosts: Sequence[bytes] = ()) -> tuple[int, bytes] | None:
     """What a start that has to be refused says."""
     try:
         with serving(data, *words, hosts=hosts):
@@ -88,14 +91,17 @@ def refusal(data, *words, hosts=()):
         return refused.args
 
 
-def is_refused(told, first, about):
+def is_refused(told: tuple[int, bytes] | None, first: bytes, about: bytes) -> bool:
     """Whether a start was refused with this line, and a second one that begins with what it is about."""
+    if told is None:
+        return False
     status, lines = told
     line, _, cause = lines.partition(b"\n")
     return status == 1 and line == first and cause.startswith(about) and cause.count(b"\n") == 1
 
 
-def asked(connection, method, target, authorization=None, body=None):
+def asked(connection: http.client.HTTPConnection, method: str, target: str, authorization: str | None = None,
+          body: bytes | None = None) -> Reply:
     """The status and the body of the reply to a request, whose body has to be JSON."""
     headers = {} if authorization is None else {"Authorization": authorization}
     connection.request(method, target, body, headers)
@@ -106,16 +112,17 @@ def asked(connection, method, target, authorization=None, body=None):
     return reply.status, told
 
 
-def sending(origin, txn, events):
+def sending(origin: str, txn: str, events: Sequence[Event]) -> Request:
     """The request that sends a transaction."""
     return "PUT", FEDERATION + "v1/send/" + txn, header(origin), canonical({"pdus": events})
 
 
-def getting(origin, path):
+def getting(origin: str, path: str) -> Request:
+    """The request of a query."""
     return "GET", FEDERATION + path, header(origin)
 
 
-def base_room(folder, *words):
+def base_room(folder: Path, *words: object) -> tuple[Server, Base]:
     """A server over new files that hosts the room of the rows, and the events of that room."""
     base = Base(Log())
     server = Server(folder / "base", *words, hosts=[host_line(base.create)])
@@ -125,11 +132,12 @@ def base_room(folder, *words):
     return server, base
 
 
-def host_line(event):
+def host_line(event: Event) -> bytes:
+    """The line that hosts a room."""
     return canonical({"step": "host", "event": event})
 
 
-def rows_of(data, statement, name="shard-0.db"):
+def rows_of(data: Path, statement: str, name: str = "shard-0.db") -> list[tuple[Any, ...]]:
     """What a statement finds in a file of a server that is stopped; it may change it."""
     with contextlib.closing(sqlite3.connect(data / name)) as connection:
         found = connection.execute(statement).fetchall()
@@ -137,25 +145,7 @@ def rows_of(data, statement, name="shard-0.db"):
         return found
 
 
-def memory_of(process, name="VmRSS"):
+def memory_of(process: "subprocess.Popen[bytes]", name: str = "VmRSS") -> int:
     """How many kilobytes a process holds."""
     status = Path("/proc/%d/status" % process.pid).read_text()
     return int(status.partition(name + ":")[2].split()[0])
-
-
-def run_tests(tests, what):
-    """Runs all tests, each with a folder of its own, or those that are named behind the program, and gives the exit
-    status."""
-    failed = 0
-    wanted = [test for test in tests if len(sys.argv) < 3 or test.__name__ in sys.argv[2:]]
-    for test in wanted:
-        with tempfile.TemporaryDirectory() as folder:
-            try:
-                test(Path(folder))
-                print(f"{test.__name__}: passed", flush=True)
-            except Exception:  # noqa: BLE001
-                failed += 1
-                traceback.print_exc()
-                print(f"{test.__name__}: FAILED", flush=True)
-    print(f"{len(wanted) - failed} tests of {what} passed, {failed} failed")
-    return 1 if failed else 0

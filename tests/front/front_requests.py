@@ -3,18 +3,18 @@
 import json
 
 from front_servers import (
-    FEDERATION, KEYS, NO_REPLY, OTHER, SIGNATURE, a_message, accepted, authorization, in_a_world, is_refused,
+    FEDERATION, KEYS, NO_REPLY, OTHER, SIGNATURE, World, a_message, accepted, authorization, in_a_world, is_refused,
     is_unsigned, signature_of, told, wait_for,
 )
-from request_rows import quoted
-from row_events import B, canonical, content_hash, id_of, join
-from running_server import NAME, Server, host_line
+from event_logs import NAME, quoted
+from matrix_events import B, canonical, content_hash, id_of, join
+from running_server import Server, host_line
 from signedjson.key import generate_signing_key
 
 # ---- requests
 
 @in_a_world
-def good_transaction(world):
+def good_transaction(world: World) -> None:
     """The hub's reply comes back byte for byte; a number that is sent again has the same one."""
     world.fill()
     made = a_message(world)
@@ -29,7 +29,8 @@ def good_transaction(world):
 
 
 @in_a_world
-def wrong_key(world):
+def wrong_key(world: World) -> None:
+    """A request that another key signed, or one that its server does not have, is refused, and that is said on standard error."""
     world.fill()
     assert is_unsigned(world.send("t1", [], key=OTHER), "Unable to verify")
     assert is_unsigned(world.send("t1", [], key=KEYS["b.example"]))
@@ -39,7 +40,7 @@ def wrong_key(world):
 
 
 @in_a_world
-def another_destination(world):
+def another_destination(world: World) -> None:
     """Signed for another server: refused where the header says so, and where it lies about it."""
     content = {"pdus": []}
     target = FEDERATION + "v1/send/t1"
@@ -52,7 +53,7 @@ def another_destination(world):
 
 
 @in_a_world
-def changed_on_its_way(world):
+def changed_on_its_way(world: World) -> None:
     """A body, a path, a query or a method that is not the signed one."""
     world.fill()
     target, content = FEDERATION + "v1/send/t1", {"pdus": [a_message(world)]}
@@ -71,7 +72,7 @@ def changed_on_its_way(world):
 
 
 @in_a_world
-def bodies_that_readers_differ_on(world):
+def bodies_that_readers_differ_on(world: World) -> None:
     """Keys that stand twice, numbers and texts with no canonical form, encodings: nothing that the signature is not of."""
     world.fill()
     for text in (b'{"pdus":[],"pdus":[]}', b'{"pdus":[],"x":NaN}', b'{"pdus":[],"x":1e999}', b'{"pdus":[],"x":"\\ud800"}',
@@ -90,7 +91,7 @@ def bodies_that_readers_differ_on(world):
 
 
 @in_a_world
-def spellings_of_the_header(world):
+def spellings_of_the_header(world: World) -> None:
     """The forms that the specification allows, and those that it does not."""
     path = FEDERATION + "v1/event/$x"
     header = authorization("GET", path, "a.example", None, KEYS["a.example"])
@@ -112,7 +113,7 @@ def spellings_of_the_header(world):
 
 
 @in_a_world
-def forged_headers(world):
+def forged_headers(world: World) -> None:
     """The origin that the hub is told is the one whose signature was checked, whatever else the request has."""
     world.fill()
     path = FEDERATION + "v1/event/" + quoted(id_of(world.base.create))
@@ -133,7 +134,7 @@ def forged_headers(world):
 
 
 @in_a_world
-def targets_of_other_forms(world):
+def targets_of_other_forms(world: World) -> None:
     """A target reaches the hub as it was signed or not at all, and events come by no path but the two."""
     for target in ("/_matrix/federation/v1/event/$x#y", "/_matrix/federation/v1/event/$x?"):
         assert is_refused(world.ask("GET", target, "a.example"), 400, "M_INVALID_PARAM"), target
@@ -151,7 +152,7 @@ def targets_of_other_forms(world):
 
 
 @in_a_world
-def hub_that_is_down(world):
+def hub_that_is_down(world: World) -> None:
     """Status 502, and the same request is answered once the hub is there again."""
     world.fill()
     made = a_message(world)
@@ -166,7 +167,8 @@ def hub_that_is_down(world):
 # ---- events
 
 @in_a_world
-def forged_event_among_good_ones(world):
+def forged_event_among_good_ones(world: World) -> None:
+    """Events whose signature is of another key, another server or none are refused by name, and the others of the transaction kept."""
     world.fill()
     good = [a_message(world, str(it)) for it in range(3)]
     by_other = {**good[0], "content": {"body": "forged"}}
@@ -189,7 +191,8 @@ def forged_event_among_good_ones(world):
 
 
 @in_a_world
-def forged_join(world):
+def forged_join(world: World) -> None:
+    """A join whose signature does not hold is refused, and the same one with a true signature accepted."""
     world.fill()
     user = "@b2:b.example"
     made = join(user, [world.base.join_b], [world.base.create, world.base.levels, world.base.rules])

@@ -1,0 +1,267 @@
+#!/usr/bin/env python3
+"""Runs what `rt ci` has built with each allocation refused in turn.
+
+- `served_requests`: of `serve`, for a transaction of two rooms and two queries, a request is answered, or told that no memory is
+  left, or its connection is closed; and the same request is answered when it comes again.
+- `tests_of_crates`: each test of a crate whose name ends in or_no_memory accepts the right answer and the memory refusal, and
+  nothing else.
+- `check_of_an_event`: `check` on its example prints its lines, or only `memory` on standard error, with status 1.
+- `replayed_rows`: `replay` of each log of examples/rows ends so too, after the answers to the lines that were read, or one line
+  is answered by a memory error. The other answers are then those of the log without that line, or, where the step was done
+  but not its answer, those of the log. Of a request that sends a transaction some first events may have been done, and
+  its transaction ID is given up."""
+
+import http.client
+import json
+import os
+import signal
+import subprocess
+import sys
+import time
+from collections.abc import Callable, Iterator, Sequence
+from concurrent.futures import ThreadPoolExecutor
+from pathlib import Path
+
+from suite import TOP, LeftOut, program, run_tests
+from event_logs import Base, Log, quoted, state_path
+from matrix_events import A, ACCEPTED, Json, create, id_of, join, message
+from program import compiled
+from running_server import Request, Server, getting, host_line, sending
+
+REFUSED = (b'{"error":"memory"}', b'{"body":{"errcode":"M_UNKNOWN","error":"memory"},"status":503}')
+# A program with more allocations fails its test, but for these logs, of which as many are refused, evenly spread.
+MOST_RUNS = 20_000
+SAMPLED = {
+    "long_chain": 2_000, "resolution_of_65_states": 4_000, "long_chain_of_power_levels": 1_000,
+    "long_chain_with_removals": 1_000, "order_of_power_events": 1_500, "order_on_the_mainline": 1_500,
+    "access_list_before_power_levels": 2_000, "access_list_behind_power_levels": 2_000, "closures": 2_000,
+    "forked_power_levels": 1_500, "redactions_by_name": 2_000, "limits_of_history_queries": 1_500,
+    "limit_of_prev_events": 2_000,
+}
+
+
+class Task:
+    """A command, its input, and what a run with a refused allocation may leave."""
+
+    def __init__(self, name: str, words: Sequence[object], source: bytes = b"", most: int | None = None) -> None:
+        self.name = name
+        self.words = [str(word) for word in words]
+        self.source = source
+        self.most = most
+
+    def run(self, **variables: str) -> tuple[int, bytes, bytes]:
+        """What a run with these variables leaves: its status, and what it prints."""
+        ran = subprocess.run(self.words, input=self.source, env={**os.environ, **variables}, timeout=60,
+                             stdout=subprocess.PIPE, stderr=subprocess.PIPE)
+        return ran.returncode, ran.stdout, ran.stderr
+
+    def accepts(self, status: int, out: bytes, err: bytes) -> bool:
+        """Whether a run may leave this."""
+        return status == 0
+
+
+class Check(Task):
+    """`check`, or anything that prints all of its output or `memory`."""
+
+    def __init__(self, name: str, words: Sequence[object], source: bytes, wanted: bytes, most: int | None = None) -> None:
+        super().__init__(name, words, source, most)
+        self.wanted = wanted
+
+    def accepts(self, status: int, out: bytes, err: bytes) -> bool:
+        """Whether a run may leave this."""
+        return (status, out, err) in ((0, self.wanted, b""), (1, b"", b"memory\n"))
+
+
+def first_events_of(line: bytes) -> Iterator[bytes]:
+    """Lines that send the first events of the transaction that this line sends, if it sends one, under another number."""
+    try:
+        call = json.loads(line)
+        path, _, _ = call["target"].rpartition("/send/")
+        events = json.loads(call["body"])["pdus"] if path else []
+    except (KeyError, TypeError, ValueError):
+        return
+    for count in range(1, len(events) + 1):
+        body = json.dumps({"pdus": events[:count]})
+        yield json.dumps({**call, "target": path + "/send/number-that-is-given-up", "body": body}).encode() + b"\n"
+
+
+class Replay(Check):
+    """`replay` of a log, which may also answer one line by a memory error."""
+
+    def __init__(self, log: Path) -> None:
+        answers = log.with_name(log.stem + ".answers.jsonl").read_bytes()
+        words = [program(), "replay", "--name", "hub.example", "--shards", "2"]
+        super().__init__(log.stem, words, log.read_bytes(), answers, SAMPLED.get(log.stem))
+        self.lines = self.source.splitlines(keepends=True)
+
+    def accepts(self, status: int, out: bytes, err: bytes) -> bool:
+        """Whether a run may leave this."""
+        if super().accepts(status, out, err):
+            return True
+        if (status, err) == (1, b"memory\n"):
+            return out.endswith(b"\n") and self.wanted.startswith(out)
+        lines = out.split(b"\n")
+        refused = [k for k, line in enumerate(lines) if line in REFUSED]
+        if status != 0 or err or len(refused) != 1:
+            return False
+        k = refused[0]
+        rest, whole = lines[:k] + lines[k + 1:], self.wanted.split(b"\n")
+        return rest == whole[:k] + whole[k + 1:] or any(rest == answers for answers in self.others(k))
+
+    def others(self, k: int) -> Iterator[list[bytes]]:
+        """The other answers where line k did nothing, or only some of what it asks."""
+        yield self.answers(self.lines[:k] + self.lines[k + 1:])
+        for line in first_events_of(self.lines[k]):
+            answers = self.answers(self.lines[:k] + [line] + self.lines[k + 1:])
+            yield answers[:k] + answers[k + 1:]
+
+    def answers(self, lines: Sequence[bytes]) -> list[bytes]:
+        """The answers to a log of these lines."""
+        ran = subprocess.run(self.words, input=b"".join(lines), stdout=subprocess.PIPE, check=True)
+        return ran.stdout.split(b"\n")
+
+
+def numbers_of(task: Task, folder: Path) -> tuple[int, range]:
+    """How many allocations a program makes, and the numbers of those that are to be refused."""
+    count = folder / "count"
+    task.run(LD_PRELOAD=str(compiled("fail_alloc")), FAIL_ALLOC_COUNT=str(count))
+    number = int(count.read_text())
+    if task.most is None:
+        return number, range(1, number + 1)
+    return number, range(1, number + 1, max(1, number // task.most))
+
+
+def fault_of(task: Task, number: int) -> str | None:
+    """What a run with this allocation refused has left that it may not."""
+    try:
+        status, out, err = task.run(LD_PRELOAD=str(compiled("fail_alloc")), FAIL_ALLOC=str(number))
+    except subprocess.TimeoutExpired:
+        return f"allocation {number} refused: no end"
+    if not task.accepts(status, out, err):
+        return f"allocation {number} refused: status {status}, {err[:200]!r}, {out[-200:]!r}"
+    return None
+
+
+def refuse_each(tasks: Sequence[Task], folder: Path) -> None:
+    """Refuses the allocations of each program in turn. Each run leaves what it may."""
+    failed = []
+    with ThreadPoolExecutor(os.cpu_count()) as pool:
+        for task in tasks:
+            count, numbers = numbers_of(task, folder)
+            is_counted = 0 < len(numbers) <= MOST_RUNS
+            faults = [it for it in pool.map(lambda number: fault_of(task, number), numbers) if it] if is_counted else [f"{count} allocations"]
+            print(f"  {task.name}: {len(numbers)} of {count} allocations refused" + (f": FAILED: {faults[0]}" if faults else ""), flush=True)
+            failed += [task.name] if faults else []
+    assert not failed, failed
+
+
+class RefusingServer:
+    """A server of two rooms, one allocation of which is refused at a time."""
+
+    def __init__(self, folder: Path) -> None:
+        self.number, self.count = folder / "number", folder / "count"
+        self.base, self.other = Base(Log()), create(room="!s:a.example")
+        variables = {"LD_PRELOAD": str(compiled("fail_alloc")), "FAIL_ALLOC_NUMBER": str(self.number), "FAIL_ALLOC_COUNT": str(self.count)}
+        hosts = [host_line(self.base.create), host_line(self.other)]
+        self.server = Server(folder / "data", "--shards", "2", hosts=hosts, env={**os.environ, **variables})
+        self.refuse(0)
+        base = self.base
+        self.joined = join(A, [self.other], [self.other], room="!s:a.example")
+        events = [base.join_a, base.levels, base.rules, base.join_b, base.join_c, self.joined]
+        assert self.server.ask(*sending("a.example", "base", events))[0] == 200
+        self.made = 0
+
+    def refuse(self, number: int) -> int:
+        """From now on the allocation of this number is refused, or none for 0. How many there were since the last call."""
+        self.number.write_text(str(number))
+        self.count.unlink(missing_ok=True)
+        self.server.process.send_signal(signal.SIGUSR1)
+        while not self.count.exists() or not self.count.read_text():
+            time.sleep(0.0005)
+        return int(self.count.read_text())
+
+    def transaction(self) -> tuple[Request, Json]:
+        """A transaction of one new message in each of the rooms, and its reply."""
+        self.made += 1
+        text = "m%d" % self.made
+        events = [
+            message(A, [self.base.join_c], self.base.of_a, text),
+            message(A, [self.joined], [self.other, self.joined], text, room="!s:a.example"),
+        ]
+        reply = {"pdus": {id_of(event): ACCEPTED for event in events}}
+        return sending("a.example", "t%d" % self.made, events), reply
+
+    def state_ids(self) -> tuple[Request, Json]:
+        """A query for the ids of a state, and its reply."""
+        base = self.base
+        chain = sorted(id_of(it) for it in (base.create, base.join_a, base.levels))
+        state = [id_of(it) for it in (base.create, base.rules, base.join_a, base.levels)]
+        return getting("b.example", state_path("state_ids", base.join_b)), {"auth_chain_ids": chain, "pdu_ids": state}
+
+    def no_event(self) -> tuple[Request, Json]:
+        """A query for an event that is not there, and its reply."""
+        return getting("b.example", "v1/event/" + quoted("$" + "x" * 43)), {"errcode": "M_NOT_FOUND", "error": "not found"}
+
+    def reply(self, request: Request) -> Json:
+        """The body of the reply to a request; none where its connection was closed, or no memory was left."""
+        try:
+            _, told = self.server.ask(*request)
+        except (http.client.HTTPException, ConnectionError, AssertionError):
+            return None
+        return None if json.loads(told) == {"errcode": "M_UNKNOWN", "error": "memory"} else json.loads(told)
+
+
+def refuse_each_of_a_request(server: RefusingServer, kind: Callable[[], tuple[Request, Json]]) -> None:
+    """Refuses each allocation of a request in turn, until a request ends before so many. Each leaves what it may."""
+    number, count = 0, 0
+    while count >= number:
+        number += 1
+        request, wanted = kind()
+        server.refuse(number)
+        told = server.reply(request)
+        count = server.refuse(0)
+        again = server.reply(request)
+        assert told in (None, wanted) and again == wanted, f"allocation {number} refused: {told}, and then {again}"
+    print(f"  serve {kind.__name__}: {number - 1} allocations refused", flush=True)
+
+
+def served_requests(folder: Path) -> None:
+    """A request whose allocation is refused is answered, or told so, or closed, and answered when it comes again."""
+    server = RefusingServer(folder)
+    try:
+        for kind in (server.transaction, server.state_ids, server.no_event):
+            refuse_each_of_a_request(server, kind)
+    finally:
+        server.server.stop()
+
+
+def tests_of_crates(folder: Path) -> None:
+    """Each test of a crate whose name ends in or_no_memory passes whichever allocation is refused."""
+    tasks = []
+    for built in sorted(TOP.glob("crates/*/out/*_tests")):
+        if os.access(built, os.X_OK):
+            listed = subprocess.run([built, "--list"], stdin=subprocess.DEVNULL, stdout=subprocess.PIPE, text=True)
+            names = [line.removesuffix(": test") for line in listed.stdout.split("\n")]
+            tasks += [Task(f"{built.name} {name}", [built, name]) for name in names if name.endswith("or_no_memory")]
+    if not tasks:
+        raise LeftOut("no tests of the crates are built")
+    refuse_each(tasks, folder)
+
+
+def check_of_an_event(folder: Path) -> None:
+    """`check` prints its lines, or only `memory`."""
+    example = TOP / "crates/mx_federd"
+    task = Check("check", [program(), "check"], (example / "stdin").read_bytes(), (example / "stdout").read_bytes())
+    refuse_each([task], folder)
+
+
+def replayed_rows(folder: Path) -> None:
+    """`replay` of each row's log prints its answers, ends early with `memory`, or answers one line so."""
+    logs = sorted((TOP / "examples/rows").glob("*.jsonl"))
+    refuse_each([Replay(log) for log in logs if not log.name.endswith(".answers.jsonl")], folder)
+
+
+TESTS = [served_requests, tests_of_crates, check_of_an_event, replayed_rows]
+
+if __name__ == "__main__":
+    sys.exit(run_tests(TESTS, "refused allocations"))
