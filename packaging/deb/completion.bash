@@ -7,7 +7,7 @@ _mx_federd() {
         mapfile -t COMPREPLY < <(compgen -d -- "$word")
         return
         ;;
-    --host)
+    --host | --rooms)
         mapfile -t COMPREPLY < <(compgen -f -- "$word")
         return
         ;;
