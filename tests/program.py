@@ -38,11 +38,12 @@ def compare_answers(told: Ended, wanted: list[bytes]) -> None:
 
 
 @functools.cache
-def compiled(name: str) -> Path:
-    """The library of a C file of tests/faults, compiled for this run. The loader puts it before the program (`LD_PRELOAD`)."""
+def compiled(name: str, *how: str) -> Path:
+    """A C file of tests/faults, compiled for this run: as a library, which the loader puts before the program (`LD_PRELOAD`), or
+    by these options."""
     folder = Path(tempfile.mkdtemp())
     atexit.register(shutil.rmtree, folder)
-    library = folder / (name + ".so")
+    built = folder / name
     source = TOP / "tests/faults" / (name + ".c")
-    subprocess.run(["cc", "-shared", "-fPIC", "-O1", "-o", library, source, "-ldl"], check=True)
-    return library
+    subprocess.run(["cc", *(how or ("-shared", "-fPIC")), "-O1", "-o", built, source, "-ldl"], check=True)
+    return built

@@ -1,6 +1,11 @@
 #!/usr/bin/env python3
 """Runs what `rt ci` has built with each allocation refused in turn.
 
+A program runs once: at each allocation that is to be refused a copy of it is made, which goes on without this one to its end
+(faults/fail_alloc.c). What each copy leaves is looked at.
+
+- `copies_end_as_runs`: a copy leaves what a run of its own does, in which the allocation of that number is refused.
+- `mistakes_are_told`: a small program that goes wrong where one allocation is refused is found out, by that one's number.
 - `served_requests`: of `serve`, for a transaction of two rooms and two queries, a request is answered, or told that no memory is
   left, or its connection is closed; and the same request is answered when it comes again.
 - `tests_of_crates`: each test of a crate whose name ends in or_no_memory accepts the right answer and the memory refusal, and
@@ -18,9 +23,13 @@ import signal
 import subprocess
 import sys
 import time
+from collections import defaultdict
 from collections.abc import Callable, Iterator, Sequence
 from concurrent.futures import ThreadPoolExecutor
+from contextlib import contextmanager
 from pathlib import Path
+from tempfile import TemporaryFile
+from typing import BinaryIO
 
 from suite import TOP, LeftOut, program, run_tests
 from event_logs import Base, Log, quoted, state_path
@@ -28,6 +37,10 @@ from matrix_events import A, ACCEPTED, Json, create, id_of, join, message
 from program import compiled
 from running_server import Request, Server, getting, host_line, sending
 
+# What a run leaves: its exit status, less than 0 where a signal ended it, its standard output and its standard error.
+Left = tuple[int, bytes, bytes]
+SECONDS = 60
+WORKERS = os.cpu_count() or 1
 REFUSED = (b'{"error":"memory"}', b'{"body":{"errcode":"M_UNKNOWN","error":"memory"},"status":503}')
 # A program with more allocations fails its test, but for these logs, of which as many are refused, evenly spread.
 MOST_RUNS = 20_000
@@ -40,6 +53,21 @@ SAMPLED = {
 }
 
 
+@contextmanager
+def streams(source: bytes) -> Iterator[tuple[BinaryIO, BinaryIO, BinaryIO]]:
+    """Files for a run's standard input, which is there, for its standard output and its standard error."""
+    with TemporaryFile() as given, TemporaryFile() as out, TemporaryFile() as err:
+        given.write(source)
+        given.seek(0)
+        yield given, out, err
+
+
+def content(file: BinaryIO) -> bytes:
+    """All that is in a file."""
+    file.seek(0)
+    return file.read()
+
+
 class Task:
     """A command, its input, and what a run with a refused allocation may leave."""
 
@@ -48,12 +76,27 @@ class Task:
         self.words = [str(word) for word in words]
         self.source = source
         self.most = most
+        self.seconds = SECONDS
 
-    def run(self, **variables: str) -> tuple[int, bytes, bytes]:
-        """What a run with these variables leaves: its status, and what it prints."""
-        ran = subprocess.run(self.words, input=self.source, env={**os.environ, **variables}, timeout=60,
-                             stdout=subprocess.PIPE, stderr=subprocess.PIPE)
-        return ran.returncode, ran.stdout, ran.stderr
+    def run(self, **variables: str) -> Left:
+        """What a run with these variables leaves."""
+        env = {**os.environ, "LD_PRELOAD": str(compiled("fail_alloc")), **variables}
+        with streams(self.source) as (given, out, err):
+            ran = subprocess.run(self.words, stdin=given, stdout=out, stderr=err, env=env, timeout=self.seconds)
+            return ran.returncode, content(out), content(err)
+
+    def copies(self, numbers: range) -> Iterator[tuple[int, Left]]:
+        """What is left with each of these allocations refused, behind its number, and at last, behind 0, with none refused."""
+        read_end, write_end = os.pipe()
+        each = f"{numbers.start} {numbers.step} {self.seconds} {write_end}"
+        env = {**os.environ, "LD_PRELOAD": str(compiled("fail_alloc")), "FAIL_ALLOC_EACH": each}
+        with streams(self.source) as (given, out, err), open(read_end, "rb") as report:
+            ran = subprocess.Popen(self.words, stdin=given, stdout=out, stderr=err, env=env, pass_fds=[write_end])
+            os.close(write_end)
+            for line in report:
+                number, status, out_size, err_size = map(int, line.split())
+                yield number, (os.waitstatus_to_exitcode(status), report.read(out_size), report.read(err_size))
+            yield 0, (ran.wait(), content(out), content(err))
 
     def accepts(self, status: int, out: bytes, err: bytes) -> bool:
         """Whether a run may leave this."""
@@ -72,6 +115,15 @@ class Check(Task):
         return (status, out, err) in ((0, self.wanted, b""), (1, b"", b"memory\n"))
 
 
+class Lines(Check):
+    """Anything that prints lines as it goes, all or those before `memory`."""
+
+    def accepts(self, status: int, out: bytes, err: bytes) -> bool:
+        """Whether a run may leave this."""
+        is_cut = (status, err) == (1, b"memory\n") and out.endswith(b"\n") and self.wanted.startswith(out)
+        return is_cut or super().accepts(status, out, err)
+
+
 def first_events_of(line: bytes) -> Iterator[bytes]:
     """Lines that send the first events of the transaction that this line sends, if it sends one, under another number."""
     try:
@@ -85,7 +137,7 @@ def first_events_of(line: bytes) -> Iterator[bytes]:
         yield json.dumps({**call, "target": path + "/send/number-that-is-given-up", "body": body}).encode() + b"\n"
 
 
-class Replay(Check):
+class Replay(Lines):
     """`replay` of a log, which may also answer one line by a memory error."""
 
     def __init__(self, log: Path) -> None:
@@ -98,8 +150,6 @@ class Replay(Check):
         """Whether a run may leave this."""
         if super().accepts(status, out, err):
             return True
-        if (status, err) == (1, b"memory\n"):
-            return out.endswith(b"\n") and self.wanted.startswith(out)
         lines = out.split(b"\n")
         refused = [k for k, line in enumerate(lines) if line in REFUSED]
         if status != 0 or err or len(refused) != 1:
@@ -124,32 +174,51 @@ class Replay(Check):
 def numbers_of(task: Task, folder: Path) -> tuple[int, range]:
     """How many allocations a program makes, and the numbers of those that are to be refused."""
     count = folder / "count"
-    task.run(LD_PRELOAD=str(compiled("fail_alloc")), FAIL_ALLOC_COUNT=str(count))
+    task.run(FAIL_ALLOC_COUNT=str(count))
     number = int(count.read_text())
     if task.most is None:
         return number, range(1, number + 1)
     return number, range(1, number + 1, max(1, number // task.most))
 
 
-def fault_of(task: Task, number: int) -> str | None:
-    """What a run with this allocation refused has left that it may not."""
-    try:
-        status, out, err = task.run(LD_PRELOAD=str(compiled("fail_alloc")), FAIL_ALLOC=str(number))
-    except subprocess.TimeoutExpired:
-        return f"allocation {number} refused: no end"
-    if not task.accepts(status, out, err):
-        return f"allocation {number} refused: status {status}, {err[:200]!r}, {out[-200:]!r}"
-    return None
+def ends_of(task: Task, numbers: range) -> dict[Left, list[int]]:
+    """All that is left by runs with one of these allocations refused, or with none, each with the numbers of the runs."""
+    ends = defaultdict(list)
+    for number, left in task.copies(numbers):
+        ends[left].append(number)
+    return ends
+
+
+def fault_of(task: Task, left: Left, numbers: Sequence[int]) -> str | None:
+    """What these runs have left that they may not."""
+    status, out, err = left
+    if task.accepts(*left) and (status == 0 or 0 not in numbers):
+        return None
+    told = ", ".join(str(number or "none") for number in numbers[:8]) + (", .." if len(numbers) > 8 else "")
+    how = "no end" if status == -signal.SIGALRM else f"status {status}, {err[:200]!r}, {out[-200:]!r}"
+    return f"allocation {told} refused: {how}"
+
+
+def faults_of(task: Task, numbers: range, pool: ThreadPoolExecutor) -> list[str]:
+    """What runs with one of these allocations refused have left that they may not. Each was refused once."""
+    ends = defaultdict(list)
+    parts = [numbers[first::WORKERS] for first in range(min(WORKERS, len(numbers)))]
+    for part in pool.map(lambda part: ends_of(task, part), parts):
+        for left, told in part.items():
+            ends[left] += told
+    faults = [fault for fault in pool.map(lambda end: fault_of(task, end[0], sorted(end[1])), ends.items()) if fault]
+    wanted, told = [0] * len(parts) + [*numbers], sorted(number for told in ends.values() for number in told)
+    return faults if told == wanted else [*faults, f"{len(told)} ends of {len(wanted)}"]
 
 
 def refuse_each(tasks: Sequence[Task], folder: Path) -> None:
     """Refuses the allocations of each program in turn. Each run leaves what it may."""
     failed = []
-    with ThreadPoolExecutor(os.cpu_count()) as pool:
+    with ThreadPoolExecutor(WORKERS) as pool:
         for task in tasks:
             count, numbers = numbers_of(task, folder)
             is_counted = 0 < len(numbers) <= MOST_RUNS
-            faults = [it for it in pool.map(lambda number: fault_of(task, number), numbers) if it] if is_counted else [f"{count} allocations"]
+            faults = faults_of(task, numbers, pool) if is_counted else [f"{count} allocations"]
             print(f"  {task.name}: {len(numbers)} of {count} allocations refused" + (f": FAILED: {faults[0]}" if faults else ""), flush=True)
             failed += [task.name] if faults else []
     assert not failed, failed
@@ -235,6 +304,39 @@ def served_requests(folder: Path) -> None:
         server.server.stop()
 
 
+def line_lengths(*mistake: object) -> Lines:
+    """A small program that answers lines by their lengths, and makes this mistake."""
+    program = compiled("line_lengths", "-pie", "-fPIE")
+    return Lines("line_lengths", [program, *mistake], b"abc\n\nde fghij klmn\nop\n", b"3\n0\n13\n2\n")
+
+
+def copies_end_as_runs(folder: Path) -> None:
+    """With each of its allocations refused, a copy of a program leaves what a run of its own does."""
+    for task in (line_lengths(), line_lengths("other", 8), check_task()):
+        count, numbers = numbers_of(task, folder)
+        with ThreadPoolExecutor(WORKERS) as pool:
+            runs = list(pool.map(lambda number: task.run(FAIL_ALLOC=str(number)), numbers))
+        *copies, last = task.copies(numbers)
+        assert copies == list(enumerate(runs, 1)) and last == (0, task.run()), task.name
+        print(f"  {task.name}: {count} allocations refused in runs of their own", flush=True)
+
+
+def mistakes_are_told(folder: Path) -> None:
+    """A program that goes wrong where one allocation is refused is told, with that one's number, and so is one with threads."""
+    count, numbers = numbers_of(line_lengths(), folder)
+    hows = {"other": "status 0, ", "quiet": "status 1, b'', ", "crash": "status -6, ", "hang": "no end"}
+    with ThreadPoolExecutor(WORKERS) as pool:
+        assert not faults_of(line_lengths(), numbers, pool)
+        for mistake, how in hows.items():
+            for number in (10, count):
+                task = line_lengths(mistake, number)
+                task.seconds = 1
+                faults = faults_of(task, numbers, pool)
+                assert len(faults) == 1 and faults[0].startswith(f"allocation {number} refused: {how}"), faults
+        faults = faults_of(line_lengths("threads", 0), numbers, pool)
+        assert len(faults) == 2 and faults[0].startswith("allocation none") and "status 6" in faults[0], faults
+
+
 def tests_of_crates(folder: Path) -> None:
     """Each test of a crate whose name ends in or_no_memory passes whichever allocation is refused."""
     tasks = []
@@ -248,11 +350,15 @@ def tests_of_crates(folder: Path) -> None:
     refuse_each(tasks, folder)
 
 
+def check_task() -> Check:
+    """`check` on its example."""
+    example = TOP / "crates/mx_federd"
+    return Check("check", [program(), "check"], (example / "stdin").read_bytes(), (example / "stdout").read_bytes())
+
+
 def check_of_an_event(folder: Path) -> None:
     """`check` prints its lines, or only `memory`."""
-    example = TOP / "crates/mx_federd"
-    task = Check("check", [program(), "check"], (example / "stdin").read_bytes(), (example / "stdout").read_bytes())
-    refuse_each([task], folder)
+    refuse_each([check_task()], folder)
 
 
 def replayed_rows(folder: Path) -> None:
@@ -261,7 +367,7 @@ def replayed_rows(folder: Path) -> None:
     refuse_each([Replay(log) for log in logs if not log.name.endswith(".answers.jsonl")], folder)
 
 
-TESTS = [served_requests, tests_of_crates, check_of_an_event, replayed_rows]
+TESTS = [copies_end_as_runs, mistakes_are_told, served_requests, tests_of_crates, check_of_an_event, replayed_rows]
 
 if __name__ == "__main__":
     sys.exit(run_tests(TESTS, "refused allocations"))
