@@ -47,9 +47,7 @@ MOST_RUNS = 20_000
 SAMPLED = {
     "long_chain": 2_000, "resolution_of_65_states": 4_000, "long_chain_of_power_levels": 1_000,
     "long_chain_with_removals": 1_000, "order_of_power_events": 1_500, "order_on_the_mainline": 1_500,
-    "access_list_before_power_levels": 2_000, "access_list_behind_power_levels": 2_000, "closures": 2_000,
-    "forked_power_levels": 1_500, "redactions_by_name": 2_000, "limits_of_history_queries": 1_500,
-    "limit_of_prev_events": 2_000,
+    "limits_of_history_queries": 1_500,
 }
 
 
