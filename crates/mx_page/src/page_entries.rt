@@ -11,7 +11,7 @@ ghost use Rattle.mx_page.specs.Page as definition;
 
 use crate::entry_texts::{EntryParts, text_of_parts};
 use crate::escaping::escaped;
-use crate::state_changes::{StateChange, changes};
+use crate::state_changes::{StateChange, changes, changes_by_put};
 use mx_audit::{RoomAudit, event_line, lines_of_resolution, resolution_before};
 use mx_graph::{EventNo, GraphError};
 use mx_receipt::Timeline;
@@ -38,7 +38,7 @@ pub fn data_end() -> &'static str
 /// events the lines of their resolution. None where there is no such event.
 ///
 /// `Memory` where no memory is left, and `NotAdded` as [`resolution_before`] says. The time is that of [`event_line`], and of
-/// a look-up for each entry of the states that it tells of; of an event with several prev events also that of
+/// a look-up in the state before the event; of an event with several prev events also that of [`changes`] and of
 /// [`resolution_before`].
 pub fn page_entry(
     alloc: Global,
@@ -104,7 +104,7 @@ fn first_prev_event(timeline: &Timeline, number: EventNo) -> Option<EventNo>
 }
 
 // What differs between the state after the first prev event, which is empty where there is none, and the state before the
-// event.
+// event. Where that is its one prev event, both are the same.
 fn changes_before(
     alloc: Global,
     timeline: &Timeline,
@@ -113,6 +113,9 @@ fn changes_before(
     requires { number < length timeline.now.kept }
     ensures { IfOk result (λ found. found.items ≡ definition.changes_before timeline.now.kept number) }
 {
+    if timeline.prev_events(number).len() == 1 {
+        return Ok(Vec::new(alloc));
+    }
     let old = base_state(alloc, timeline, number)?;
     let new = timeline.state_before(number).map(alloc)?;
     let found = changes(alloc, &old, &new)?;
@@ -134,7 +137,8 @@ fn base_state(alloc: Global, timeline: &Timeline, number: EventNo) -> Result<Sta
     }
 }
 
-// What differs between the states before and after an event.
+// What differs between the states before and after an event: where it is a state event and was not rejected, it stands at
+// its key.
 fn changes_after(
     alloc: Global,
     timeline: &Timeline,
@@ -143,10 +147,18 @@ fn changes_after(
     requires { number < length timeline.now.kept }
     ensures { IfOk result (λ found. found.items ≡ definition.changes_after timeline.now.kept number) }
 {
-    let old = timeline.state_before(number).map(alloc)?;
-    let new = timeline.state_after(number).map(alloc)?;
-    let found = changes(alloc, &old, &new)?;
-    Ok(found)
+    if timeline.verdict(number).is_rejected() {
+        return Ok(Vec::new(alloc));
+    }
+    let event = &timeline.row(number).event;
+    match event.state_key() {
+        Some(state_key) => {
+            let old = timeline.state_before(number).get(event.kind(), state_key);
+            let found = changes_by_put(alloc, old, event.kind(), state_key, number)?;
+            Ok(found)
+        }
+        None => Ok(Vec::new(alloc)),
+    }
 }
 
 // The lines of the resolution of the states before an event, where it has several prev events.

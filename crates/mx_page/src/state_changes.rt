@@ -1,5 +1,5 @@
 // What differs between two states.
-ghost use Rattle.std.specs.Prelude.{◌≡◌, ◌++◌, IfOk, OnOk, flat_map};
+ghost use Rattle.std.specs.Prelude.{◌≡◌, ◌++◌, ◌∷◌, [], IfOk, OnOk, flat_map, if◌then◌else◌};
 ghost use Rattle.mx_orders.specs.StateMap.{entry as entry_at};
 ghost use Rattle.mx_page.specs.Changes as definition;
 
@@ -29,13 +29,14 @@ impl Model for StateChange {
 impl StateChange {
     fn new(
         alloc: Global,
-        entry: &StateEntry,
+        kind: &str,
+        state_key: &str,
         event: Option<EventNo>,
     ) -> Result<StateChange, AllocError>
-        ensures { IfOk result (λ change. change ≡ (entry.now.0, event)) }
+        ensures { IfOk result (λ change. change ≡ ((kind.now, state_key.now), event)) }
     {
-        let kind = String::from_str(alloc, entry.kind())?;
-        let state_key = String::from_str(alloc, entry.state_key())?;
+        let kind = String::from_str(alloc, kind)?;
+        let state_key = String::from_str(alloc, state_key)?;
         Ok(StateChange {
             kind,
             state_key,
@@ -139,7 +140,7 @@ fn add_change(
 {
     if !is_alike(old, new, entry) {
         let event = new.get(entry.kind(), entry.state_key());
-        let change = StateChange::new(alloc, entry, event)?;
+        let change = StateChange::new(alloc, entry.kind(), entry.state_key(), event)?;
         found.push(change)?;
     }
     Ok(())
@@ -151,8 +152,34 @@ fn is_alike(old: &StateMap, new: &StateMap, entry: &StateEntry) -> bool
 {
     let one = old.get(entry.kind(), entry.state_key());
     let other = new.get(entry.kind(), entry.state_key());
+    is_same(one, other)
+}
+
+fn is_same(one: Option<EventNo>, other: Option<EventNo>) -> bool
+    ensures { result ≡ definition.same_event one other }
+{
     match one {
         Some(one) => other == Some(one),
         None => other.is_none(),
     }
+}
+
+/// What differs once an event is put at a key where `old` stood: the key, unless it is the same event. `AllocError` where
+/// no memory is left.
+pub(crate) fn changes_by_put(
+    alloc: Global,
+    old: Option<EventNo>,
+    kind: &str,
+    state_key: &str,
+    event: EventNo,
+) -> Result<Vec<StateChange>, AllocError>
+    ensures { IfOk result (λ found. found.items
+        ≡ (if definition.same_event old (Some event) then [] else ((kind.now, state_key.now), Some event) ∷ [])) }
+{
+    let mut found = Vec::new(alloc);
+    if !is_same(old, Some(event)) {
+        let change = StateChange::new(alloc, kind, state_key, Some(event))?;
+        found.push(change)?;
+    }
+    Ok(found)
 }
