@@ -79,7 +79,8 @@ THEOREMS: dict[str, dict[str, str]] = {
         "mx_audit": "RoomAudit::begin RoomAudit::receive RoomAudit::explanation resolution_steps resolution_before "
         "deciding_check_makes_the_verdict steps_make_the_state event_line state_lines lines_of_resolution picture_lines "
         "picture_head picture_end",
-        "mx_page": "page_entry changes data_start data_end changes_make_the_state data_has_no_tag entries_make_the_data",
+        "mx_page": "page_entry changes data_start refused_start refused_entry data_end changes_make_the_state data_has_no_tag"
+        " entries_make_the_data",
         "mx_reasons": "reason because",
         "mx_lines": "refused_line malformed_line",
     },

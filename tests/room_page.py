@@ -49,12 +49,16 @@ def check_page(visit: Visit, log: str) -> None:
     states = [(audit.state("before", line["event_id"]), audit.state("after", line["event_id"])) for line in audit.lines()]
     page = audit.run("--html")
     data = made.data_of(page)
+    expected = made.data_by_lines(audit)
     before, after = visit.frame.split(made.MARK + made.END)
     assert page.startswith(before + made.MARK) and page.endswith(made.END + after), "the page is not the frame with data"
     assert "<" not in page[len(before) + len(made.MARK):-len(made.END + after)], "the data could close their script"
-    for event, other in zip(data["events"], made.data_by_lines(audit)["events"], strict=True):
+    assert list(data) == ["room", "events", "refused"]
+    assert data["room"] == expected["room"] and data["refused"] == expected["refused"], (data["room"], data["refused"])
+    for event, other in zip(data["events"], expected["events"], strict=True):
         assert in_order(event) == in_order(other), (event, other)
     visit.open(data)
+    assert visit.texts("#title") == [f"Room {audit.room}"]
     checks.check_states(visit, states)
 
 

@@ -76,7 +76,7 @@ class Visit:
 
 
 def example(visit: Visit) -> None:
-    visit.open({**made.example(), "room": "!r:a.example"})
+    visit.open(made.example())
     assert visit.texts("#title") == ["Room !r:a.example"] and visit.texts("#about") == ["version 6 · 13 events"]
     assert [words.split() for words in visit.texts("#counts button")] == [["11", "accepted"], ["1", "soft", "failed"], ["1", "rejected"]]
     assert visit.places() == list(range(1, 14)), visit.places()
@@ -96,6 +96,22 @@ def example(visit: Visit) -> None:
     told = visit.texts(".judged-by tbody tr")
     assert "@b:b.example has level 50; this event asks for 0" in told[1] and "membership: ban" in told[2], told
     assert '"body": "late"' in visit.texts("#panel pre")[0]
+
+
+def refused(visit: Visit) -> None:
+    """Events that were not kept are told below the graph, and nothing where there are none."""
+    visit.open(made.example())
+    assert visit.texts("#refused") == [""] and visit.value("document.title") == "Room !r:a.example: audit"
+    visit.open({**made.example(), "refused": made.refused_events()})
+    assert visit.texts("#refused summary") == ["2 refused events, kept nowhere"] and visit.texts("#title") == ["Room !r:a.example"]
+    visit.click("#refused summary")
+    first, second = (line["event_id"] for line in made.refused_events())
+    assert visit.texts("#refused li") == [f"@d:d.example m.room.message from d.example: missing events {first}",
+                                          f"@e:e.example m.room.message from ?: room full {second}"], visit.texts("#refused li")
+    assert visit.places() == list(range(1, 14)) and visit.selected() == 12, "they are no events of the graph"
+    graph, told = (visit.value(f"(() => {{ const b = document.querySelector('{part}').getBoundingClientRect(); return [b.left, b.right,"
+                               " b.top, b.bottom]; })()") for part in ("#list", "#refused"))
+    assert graph[:2] == told[:2] and graph[3] == told[2] and told[3] <= 760 and graph[3] - graph[2] > 200, (graph, told)
 
 
 def colours(visit: Visit) -> None:

@@ -95,10 +95,10 @@ def data_by_lines(audit: Audit) -> Value:
         if len(line["prev_events"]) > 1:
             event["resolution"] = audit.lines("--resolution", line["event_id"])
         events.append(event)
-    return {"events": events}
+    return {"room": audit.room, "events": events, "refused": []}
 
 
-def data_by_rules(lines: list[Value], resolutions: dict[str, list[Value]]) -> Value:
+def data_by_rules(room: str, lines: list[Value], resolutions: dict[str, list[Value]]) -> Value:
     """The same of lines and resolutions alone: what all states share, and what a resolution's steps allow, stands before an event."""
     places = {line["event_id"]: line["place"] for line in lines}
     keys = {line["event_id"]: (line["type"], line.get("state_key", "")) for line in lines}
@@ -118,7 +118,7 @@ def data_by_rules(lines: list[Value], resolutions: dict[str, list[Value]]) -> Va
         if len(prev) > 1:
             event["resolution"] = steps
         events.append(event)
-    return {"events": events}
+    return {"room": room, "events": events, "refused": []}
 
 
 def example() -> Value:
@@ -127,7 +127,17 @@ def example() -> Value:
         return [json.loads(line) for line in (TOP / "examples/audit" / name).read_text().splitlines()]
 
     lines = read("two_bans.lines.jsonl")
-    return data_by_rules(lines, {lines[10]["event_id"]: read("two_bans.resolution.jsonl")})
+    return data_by_rules("!r:a.example", lines, {lines[10]["event_id"]: read("two_bans.resolution.jsonl")})
+
+
+def refused_events() -> list[Value]:
+    """Lines of two events that were offered to that room and not kept; of the second nobody says who offered it."""
+    def line(sender: str, cause: str, **more: Any) -> Value:
+        return {"after": 13, "auth_events": [], "because": cause, "content": {"body": cause}, "content_hash": "good", "depth": 9,
+                "event_id": "$" + sender[1] * 43, "origin_server_ts": 9000, "prev_events": ["$" + "p" * 43], "sender": sender,
+                "type": "m.room.message", "verdict": "refused", **more}
+
+    return [line("@d:d.example", "missing events", origin="d.example", missing=["$" + "p" * 43]), line("@e:e.example", "room full")]
 
 
 def states_of(data: Value) -> list[tuple[State, State]]:
@@ -186,7 +196,7 @@ class MadeRoom:
         return self.events[place - 1]["line"]["event_id"]
 
     def data(self) -> Value:
-        return {"events": self.events}
+        return {"room": "!made:a.example", "events": self.events, "refused": []}
 
 
 def large_room(size: int) -> Value:
@@ -247,12 +257,11 @@ def hostile_room() -> Value:
         last = room.add("@a:a.example", MEMBER, content, [last], state_key=turned)
     for content in ({"body": 5}, {"body": attack}, {"body": {}}, {"msgtype": 5}, {"body": "\U0001f600" * 200}):
         last = room.add("@a:a.example", "m.room.message", content, [last], origin_server_ts=2**53 - 1)
-    refused = {"verdict": "rejected", "check": "state before", "rule": attack, "because": attack + turned}
-    room.add("toString", "constructor", {"body": attack}, [last], **refused)
+    rejected = {"verdict": "rejected", "check": "state before", "rule": attack, "because": attack + turned}
+    room.add("toString", "constructor", {"body": attack}, [last], **rejected)
     for number in range(2000):
         user = f"@{number}{turned if number % 7 == 0 else attack if number % 7 == 1 else ''}:s.example"
         last = room.add(user, MEMBER, {"membership": "join"}, [last], state_key=user, in_current_state=True)
     room.events[-1]["line"].update(is_extremity=True, redacted_by=[room.id(5)])
-    events: Value = room.data()
-    events["refused"] = [{"event_id": attack, "because": attack, "sender": turned, "type": attack, "origin": attack}]
-    return events
+    refused = {"event_id": attack, "because": attack, "sender": turned, "type": attack, "origin": attack}
+    return {"room": f"!{attack}{turned}:a.example", "events": room.events, "refused": [refused]}

@@ -18,9 +18,9 @@ from page_mistakes import MISTAKES, UNSEALED
 
 PageTest = Callable[[Visit], None]
 FRAME_TESTS: list[PageTest] = [
-    limits.text, limits.bare, checks.example, checks.colours, checks.graph, checks.states, checks.far_states, checks.resolution,
-    checks.links, checks.finding, checks.keyboard, checks.compare, checks.folds, limits.words, limits.hostile, limits.windows,
-    limits.roles, limits.policy, limits.large,
+    limits.text, limits.bare, checks.example, checks.refused, checks.colours, checks.graph, checks.states, checks.far_states,
+    checks.resolution, checks.links, checks.finding, checks.keyboard, checks.compare, checks.folds, limits.words, limits.hostile,
+    limits.windows, limits.roles, limits.policy, limits.large,
 ]
 
 

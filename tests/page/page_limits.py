@@ -79,6 +79,7 @@ def hostile(visit: Visit) -> None:
     assert len(visit.places()) > 5
     visit.click("#clear")
     visit.click("#refused summary")
+    assert visit.texts("#title")[0].startswith("Room !</script>") and "</script>" in visit.texts("#refused li")[0]
     assert visit.value("document.querySelectorAll('script').length") == 2
     assert visit.value("document.querySelectorAll('img, iframe, object, style ~ style, [onerror], [onclick]').length") == 0
     assert visit.value("window.harm === undefined && ({}).harm === undefined"), "a script of an event ran"
@@ -192,8 +193,9 @@ def bare(visit: Visit) -> None:
     assert "no event" in visit.texts("#panel")[0]
     room = made.MadeRoom()
     room.add("@a:a.example", made.CREATE, {"creator": "@a:a.example"}, state_key="")
-    visit.open(room.data())
-    assert visit.selected() == 1 and visit.texts("#title") == ["Room of @a:a.example"]
+    for data, title in ((room.data(), "Room !made:a.example"), ({"events": room.events}, "Room of @a:a.example")):
+        visit.open(data)
+        assert visit.selected() == 1 and visit.texts("#title") == [title]
 
 
 def text(visit: Visit) -> None:

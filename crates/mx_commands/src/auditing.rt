@@ -37,7 +37,7 @@ pub fn audit<R: Read, W: Write>(
     };
     let audit = audit_of(alloc, &room, rows, &mut progress)?;
     let mut lines = BufWriter::new(alloc, out).map_err(Failure::of_io)?;
-    tell(alloc, &audit, &question, &mut lines)?;
+    tell(alloc, &room, &audit, &question, &mut lines)?;
     flushed(&mut lines)
 }
 

@@ -20,3 +20,6 @@ array-of-three t a b c = simp (append_assoc)
 
 pub ten : (t a b c d e f g h i j : List ℕ) → (((((((((t ++ a) ++ b) ++ c) ++ d) ++ e) ++ f) ++ g) ++ h) ++ i) ++ j ≡ t ++ (a ++ (b ++ (c ++ (d ++ (e ++ (f ++ (g ++ (h ++ (i ++ j)))))))))
 ten t a b c d e f g h i j = simp (append_assoc)
+
+pub three : (t a b c : List ℕ) → ((t ++ a) ++ b) ++ c ≡ t ++ (a ++ (b ++ c))
+three t a b c = simp (append_assoc)

@@ -1,5 +1,8 @@
 -- The data of the page of a room (docs/AUDIT.md).
-use Rattle.std.specs.Prelude.{ℕ, zero, suc, nat_lt, if◌then◌else◌, List, [], ◌∷◌, ◌++◌, codes, length, slice_get, Option, None, Some}
+use Rattle.std.specs.Prelude.{ℕ, zero, suc, nat_lt, Bool, true, false, if◌then◌else◌, List, [], ◌∷◌, ◌++◌, codes, length, slice_get, Option, None, Some}
+use Rattle.serde_json.specs.Data.{string}
+use Rattle.mx_canon.specs.Canonical.{value_text}
+use Rattle.mx_canon.specs.Pieces.{comma_if}
 use Rattle.mx_graph.specs.Record.{event, prev_events}
 use Rattle.mx_orders.specs.StateMap.{State}
 use Rattle.mx_receipt.specs.Receipt.{Kept, rows_of, state_after, state_before, version_in}
@@ -7,7 +10,7 @@ use Rattle.mx_audit.specs.EventLines.{event_text, resolution_text}
 use Rattle.mx_audit.specs.Resolutions.{states_before}
 use Rattle.mx_audit.specs.Steps.{conflicted_entries, other_steps, power_steps}
 use Rattle.mx_page.specs.Changes.{Change, changes}
-use Rattle.mx_page.specs.EntryTexts.{entry_of}
+use Rattle.mx_page.specs.EntryTexts.{entry_of, without_end}
 use Rattle.mx_page.specs.Escaping.{escaped}
 
 -- ---- an event
@@ -50,8 +53,13 @@ entry_text kept p =
 
 -- ---- a room
 
-abbrev pub data_start : List ℕ
-data_start = codes "{\"events\":["
+-- the beginning, with the room's id, up to the first entry
+abbrev pub data_start : List ℕ → List ℕ
+data_start room = codes "{\"room\":" ++ (value_text (string room) ++ codes ",\"events\":[")
+
+-- between the entries and the lines of events that were not kept
+abbrev pub refused_start : List ℕ
+refused_start = codes "],\"refused\":["
 
 abbrev pub data_end : List ℕ
 data_end = codes "]}"
@@ -61,10 +69,25 @@ abbrev pub entries_text : List Kept → ℕ → List ℕ
 entries_text kept zero = []
 entries_text kept (suc n) = entries_text kept n ++ entry_text kept n
 
-unfoldable pub data_text : List Kept → List ℕ
-data_text kept = data_start ++ (entries_text kept (length kept) ++ data_end)
+-- the line of an event that was not kept, with a comma before each but the first
+abbrev pub refused_entry : Bool → List ℕ → List ℕ
+refused_entry later line = comma_if later ++ (without_end line ++ codes "\n")
+
+-- lines, the first of them later or not
+abbrev pub refused_entries : Bool → List (List ℕ) → List ℕ
+refused_entries later [] = []
+refused_entries later (line ∷ lines) = refused_entry later line ++ refused_entries true lines
+
+-- the data of a room, by its id, its record, and the lines of the events that were not kept
+unfoldable pub data_text : List ℕ → List Kept → List (List ℕ) → List ℕ
+data_text room kept refused =
+    data_start room ++ (entries_text kept (length kept) ++ (refused_start ++ (refused_entries false refused ++ data_end)))
 
 -- the same as they stand in the page
 abbrev pub escaped_entries : List Kept → ℕ → List ℕ
 escaped_entries kept zero = []
 escaped_entries kept (suc n) = escaped_entries kept n ++ escaped (entry_text kept n)
+
+abbrev pub escaped_refused : Bool → List (List ℕ) → List ℕ
+escaped_refused later [] = []
+escaped_refused later (line ∷ lines) = escaped (refused_entry later line) ++ escaped_refused true lines

@@ -93,8 +93,8 @@ fn write_item_byte<S: TextSink>(sink: &mut S, byte: u8)
     }
 }
 
-// A text without its last byte, which ends its last line.
-fn without_end(text: &[u8]) -> &[u8]
+/// A text without its last byte, which ends its last line.
+pub(crate) fn without_end(text: &[u8]) -> &[u8]
     ensures { result.now ≡ definition.without_end text.now }
 {
     if text.is_empty() {

@@ -6,7 +6,7 @@ ghost use Rattle.mx_orders.specs.StateMap.{State, key_cmp};
 ghost use Rattle.mx_receipt.specs.Receipt.{Kept};
 ghost use Rattle.mx_page.specs.Changes.{changed, changes};
 ghost use Rattle.mx_page.specs.Escaping.{escaped};
-ghost use Rattle.mx_page.specs.Page.{data_end, data_start, data_text, escaped_entries};
+ghost use Rattle.mx_page.specs.Page.{data_end, data_start, data_text, escaped_entries, escaped_refused, refused_start};
 
 /// A law: what differs between two states, read as changes of the first, gives the second. It does nothing: this is what it
 /// ensures.
@@ -22,8 +22,9 @@ pub fn data_has_no_tag()
     ensures { (text : List ℕ) → list_any (λ b. b == 60) (escaped text) ≡ false }
 {}
 
-/// A law: the entries as they are written, one after another between the beginning and the end, are the escaped data of the
-/// room. It does nothing: this is what it ensures.
+/// A law: the beginning, the entries as they are written, one after another, the lines of events that were not kept, and
+/// the end are the escaped data of the room. It does nothing: this is what it ensures.
 pub fn entries_make_the_data()
-    ensures { (kept : List Kept) → escaped (data_text kept) ≡ data_start ++ (escaped_entries kept (length kept) ++ data_end) }
+    ensures { (room : List ℕ) (kept : List Kept) (refused : List (List ℕ)) → escaped (data_text room kept refused)
+        ≡ escaped (data_start room) ++ (escaped_entries kept (length kept) ++ (refused_start ++ (escaped_refused false refused ++ data_end))) }
 {}

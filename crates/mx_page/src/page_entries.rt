@@ -1,4 +1,4 @@
-// The data of a page, event by event.
+// The entries of a page's data, event by event.
 ghost use Rattle.std.specs.Prelude.{◌≡◌, ◌<◌, ℕ, IfOk, IfSome, IsErrOf, None, Some, if◌then◌else◌, length, nat_lt, option_map, take};
 ghost use Rattle.mx_graph.specs.Adding.{add_error};
 ghost use Rattle.mx_graph.specs.Record.{row as row_at};
@@ -17,20 +17,6 @@ use mx_graph::{EventNo, GraphError};
 use mx_receipt::Timeline;
 use mx_state_res::StateMap;
 use std::alloc::{AllocError, Global};
-
-/// The beginning of a page's data, up to its first entry.
-pub fn data_start() -> &'static str
-    ensures { result.now ≡ definition.data_start }
-{
-    "{\"events\":["
-}
-
-/// The end of a page's data, behind its last entry.
-pub fn data_end() -> &'static str
-    ensures { result.now ≡ definition.data_end }
-{
-    "]}"
-}
 
 /// The entry of the event with this number in the data of a page, as it stands within a script of HTML, with a comma before
 /// each entry but the first: the event's line, the place of its first prev event, what differs between the state after that

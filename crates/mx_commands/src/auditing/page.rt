@@ -3,20 +3,28 @@ use crate::auditing::telling::{of_graph, write_bytes};
 use crate::output::Failure;
 use mx_audit::RoomAudit;
 use mx_graph::EventNo;
-use mx_page::{data_end, data_start, page_end, page_entry, page_head};
+use mx_ident::RoomId;
+use mx_page::{
+    data_end, data_start, page_end, page_entry, page_head, refused_entry, refused_start,
+};
 use mx_receipt::timeline_is_sound;
 use std::alloc::Global;
 use std::io::Write;
 
-/// Writes the page of a room, event by event.
+/// Writes the page of a room, event by event, with these lines of events that were offered and not kept.
 pub(crate) fn tell_page<W: Write>(
     alloc: Global,
+    room: &RoomId,
     audit: &RoomAudit,
+    refused: &[Vec<u8>],
     out: &mut W,
 ) -> Result<(), Failure> {
     write_pieces(out, &page_head())?;
-    write_bytes(out, data_start().as_bytes())?;
+    let start = data_start(alloc, room)?;
+    write_bytes(out, &start)?;
     tell_entries(alloc, audit, out)?;
+    write_bytes(out, refused_start().as_bytes())?;
+    tell_refused(alloc, refused, out)?;
     write_bytes(out, data_end().as_bytes())?;
     write_pieces(out, &page_end())
 }
@@ -28,6 +36,16 @@ fn tell_entries<W: Write>(alloc: Global, audit: &RoomAudit, out: &mut W) -> Resu
         if let Some(text) = entry {
             write_bytes(out, &text)?;
         }
+    }
+    Ok(())
+}
+
+fn tell_refused<W: Write>(alloc: Global, lines: &[Vec<u8>], out: &mut W) -> Result<(), Failure> {
+    let mut is_later = false;
+    for line in lines {
+        let entry = refused_entry(alloc, is_later, line)?;
+        write_bytes(out, &entry)?;
+        is_later = true;
     }
     Ok(())
 }

@@ -8,16 +8,17 @@ use mx_audit::{
     resolution_before, state_lines,
 };
 use mx_graph::{EventNo, GraphError};
-use mx_ident::EventId;
+use mx_ident::{EventId, RoomId};
 use mx_options::AuditQuestion;
 use mx_receipt::timeline_is_sound;
 use mx_state_res::StateRef;
 use std::alloc::Global;
 use std::io::Write;
 
-/// Writes the answer to a question.
+/// Writes the answer to a question about a room.
 pub(crate) fn tell<W: Write>(
     alloc: Global,
+    room: &RoomId,
     audit: &RoomAudit,
     question: &AuditQuestion,
     out: &mut W,
@@ -41,7 +42,7 @@ pub(crate) fn tell<W: Write>(
             tell_resolution(alloc, audit, number, out)
         }
         AuditQuestion::Picture => tell_picture(alloc, audit, out),
-        AuditQuestion::Page => tell_page(alloc, audit, out),
+        AuditQuestion::Page => tell_page(alloc, room, audit, &[], out),
     }
 }
 

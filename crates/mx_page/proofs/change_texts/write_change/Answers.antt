@@ -1,4 +1,4 @@
-use Rattle.std.proofs.Common.{◌++◌, ◌∷◌, [], subst, ap, ◌∙◌}
+use Rattle.std.proofs.Common.{◌++◌, ◌∷◌, [], subst, ◌∙◌}
 use Rattle.std.specs.Str.{chars}
 use Rattle.mx_canon.specs.Canonical.{string_text, value_text}
 use Rattle.mx_page.specs.EntryTexts.{place_data}
