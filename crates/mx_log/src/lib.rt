@@ -10,10 +10,12 @@ mod lines;
 mod log_servers;
 mod logs;
 mod steps;
+mod watching;
 
 pub use host_lines::{HostLineOutcome, host_by_line};
 pub use input::{InputError, read_all};
 pub use lines::splitting::first_line;
-pub use log_servers::server_after_log;
+pub use log_servers::{WatchedServer, server_after_log};
 pub use logs::{LinesError, run_lines};
 pub use steps::replies::{asked_reply, joined_reply, sent_reply};
+pub use watching::{LineForm, LogWatcher};

@@ -16,6 +16,7 @@ mod texts;
 use crate::lines::call_forms::{CallLine, call_line};
 use crate::lines::step_forms::{close_line, host_line, next_line, open_line};
 use crate::lines::texts::text_line;
+use crate::watching::LineForm;
 use json::Scratch;
 use mx_body::{BodyError, body_value};
 use mx_pdu::Verifier;
@@ -35,6 +36,18 @@ pub(crate) enum Line {
     Step(Step),
     // A request of another server.
     Call(CallLine),
+}
+
+impl Line {
+    /// What it is, for who is told of it.
+    pub(crate) fn form(&self) -> LineForm {
+        match self {
+            Line::Bad => LineForm::Bad,
+            Line::MalformedHost => LineForm::MalformedHost,
+            Line::Step(_) => LineForm::Step,
+            Line::Call(_) => LineForm::Request,
+        }
+    }
 }
 
 /// What a line asks for, by the `step` of its object. A key beyond its form makes it bad, and of a key that is repeated

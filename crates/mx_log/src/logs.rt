@@ -18,6 +18,7 @@ use crate::input::InputError;
 use crate::line_reader::LineReader;
 use crate::lines::read_line;
 use crate::steps::answer_line;
+use crate::watching::{LineDesk, LogWatcher, Nobody};
 use json::Scratch;
 use mx_ident::ServerName;
 use mx_keeper::{BookRow, CallError, Keeper, MemoryKeeper, ShardCount, ShardRow, Storable};
@@ -175,11 +176,14 @@ fn answer_log<K: Keeper<Row = ShardRow>, L: Keeper<Row = BookRow>, V: Verifier, 
     ensures { OnOk result ((start : Start) → IsAfter start [] world.old → IfSome (R.remaining input.old) (λ read.
         AreAnswered (offer_by (V.judges verifier.now)) server.now.name start (lines_of read) (W.contents out.old) (W.contents out.new) world.new)) }
 {
-    let mut scratch = Scratch::new(alloc);
+    let mut desk = LineDesk {
+        scratch: Scratch::new(alloc),
+        watcher: Nobody,
+    };
     let mut lines = LineReader::new(alloc)?;
     let mut line = Vec::new(alloc);
     while lines.next_line(alloc, input, &mut line)? {
-        answer_text(alloc, server, verifier, world, &mut scratch, &line, out)?;
+        answer_text(alloc, server, verifier, world, &mut desk, &line, out)?;
     }
     Ok(())
 }
@@ -190,13 +194,13 @@ fn answer_text<K: Keeper<Row = ShardRow>, L: Keeper<Row = BookRow>, V: Verifier,
     server: &WireServer,
     verifier: &V,
     world: &mut World<K, L>,
-    scratch: &mut Scratch,
+    desk: &mut LineDesk<Nobody>,
     text: &[u8],
     out: &mut W,
 ) -> io::Result<()>
     ensures { OnOk result (IsWritten (offer_by (V.judges verifier.now)) server.now.name text.now world.old world.new (W.contents out.old) (W.contents out.new)) }
 {
-    match answer_of(alloc, server, verifier, world, scratch, text) {
+    match answer_of(alloc, server, verifier, world, desk, text) {
         Ok(answer) => {
             let _told = write_answer(alloc, out, &answer)?;
             Ok(())
@@ -209,19 +213,25 @@ fn answer_text<K: Keeper<Row = ShardRow>, L: Keeper<Row = BookRow>, V: Verifier,
 }
 
 /// The answer to the line that a text is.
-pub(crate) fn answer_of<K: Keeper<Row = ShardRow>, L: Keeper<Row = BookRow>, V: Verifier>(
+pub(crate) fn answer_of<
+    K: Keeper<Row = ShardRow>,
+    L: Keeper<Row = BookRow>,
+    V: Verifier,
+    W: LogWatcher + Drop,
+>(
     alloc: Global,
     server: &WireServer,
     verifier: &V,
     world: &mut World<K, L>,
-    scratch: &mut Scratch,
+    desk: &mut LineDesk<W>,
     text: &[u8],
 ) -> Result<LineAnswer, LineRefusal>
     ensures { IfOk result (λ answer. (start : Start) (earlier : List AnyStep) → IsAfter start earlier world.old
         → IsDone (offer_by (V.judges verifier.now)) server.now.name (definition.read_line (offer_by (V.judges verifier.now)) text.now)
         (answer_output answer) start earlier world.new) }
 {
-    let line = read_line(alloc, scratch, verifier, text).map_err(LineRefusal::unread)?;
-    let answer = answer_line(alloc, server, verifier, world, scratch, line)?;
+    let line = read_line(alloc, &mut desk.scratch, verifier, text).map_err(LineRefusal::unread)?;
+    desk.watcher.see_line(text, line.form());
+    let answer = answer_line(alloc, server, verifier, world, desk, line)?;
     Ok(answer)
 }

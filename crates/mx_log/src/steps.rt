@@ -20,7 +20,7 @@ use crate::lines::Line;
 use crate::lines::call_forms::CallLine;
 use crate::steps::replies::write_reply;
 use crate::steps::sequences::{first_step_of, last_reply};
-use json::Scratch;
+use crate::watching::{LineDesk, LogWatcher};
 use mx_ident::ServerName;
 use mx_keeper::{BookRow, Keeper, ShardRow};
 use mx_pdu::Verifier;
@@ -32,12 +32,17 @@ use std::alloc::Global;
 /// Does the steps of a line, and gives what it is answered.
 ///
 /// A line that is refused has done the steps before the one that was, and a transaction that it opened is given up.
-pub(crate) fn answer_line<K: Keeper<Row = ShardRow>, L: Keeper<Row = BookRow>, V: Verifier>(
+pub(crate) fn answer_line<
+    K: Keeper<Row = ShardRow>,
+    L: Keeper<Row = BookRow>,
+    V: Verifier,
+    W: LogWatcher + Drop,
+>(
     alloc: Global,
     server: &WireServer,
     verifier: &V,
     world: &mut World<K, L>,
-    scratch: &mut Scratch,
+    desk: &mut LineDesk<W>,
     line: Line,
 ) -> Result<LineAnswer, LineRefusal>
     ensures { IfOk result (λ answer. (start : Start) (earlier : List AnyStep) → IsAfter start earlier world.old
@@ -47,45 +52,59 @@ pub(crate) fn answer_line<K: Keeper<Row = ShardRow>, L: Keeper<Row = BookRow>, V
         Line::Bad => Ok(LineAnswer::Bad),
         Line::MalformedHost => Ok(LineAnswer::MalformedHost),
         Line::Step(step) => {
-            let reply = taken(alloc, world, &step)?;
+            let reply = taken(alloc, world, &mut desk.watcher, &step)?;
             Ok(LineAnswer::Step(reply))
         }
         Line::Call(call) => {
-            let reply = answer_request(alloc, server, verifier, world, scratch, &call)?;
+            let reply = answer_request(alloc, server, verifier, world, desk, &call)?;
             Ok(LineAnswer::Response(reply))
         }
     }
 }
 
 // The step of a line.
-fn taken<K: Keeper<Row = ShardRow>, L: Keeper<Row = BookRow>>(
+fn taken<K: Keeper<Row = ShardRow>, L: Keeper<Row = BookRow>, W: LogWatcher>(
     alloc: Global,
     world: &mut World<K, L>,
+    watcher: &mut W,
     step: &Step,
 ) -> Result<StepReply, LineRefusal>
     ensures { IfOk result (λ reply. (start : Start) (earlier : List AnyStep) → IsAfter start earlier world.old
         → IsTaken start earlier step.now reply world.new) }
 {
     let reply = world.step(alloc, step).map_err(LineRefusal::of_step)?;
+    watcher.see_step(step, &reply);
     Ok(reply)
 }
 
 // The reply to a request at a moment.
-fn answer_request<K: Keeper<Row = ShardRow>, L: Keeper<Row = BookRow>, V: Verifier>(
+fn answer_request<
+    K: Keeper<Row = ShardRow>,
+    L: Keeper<Row = BookRow>,
+    V: Verifier,
+    W: LogWatcher + Drop,
+>(
     alloc: Global,
     server: &WireServer,
     verifier: &V,
     world: &mut World<K, L>,
-    scratch: &mut Scratch,
+    desk: &mut LineDesk<W>,
     line: &CallLine,
 ) -> Result<WireReply, LineRefusal>
     ensures { IfOk result (λ reply. (start : Start) (earlier : List AnyStep) → IsAfter start earlier world.old
         → IsDone (offer_by (V.judges verifier.now)) server.now.name (call_line line.entry.now.now (request_shown line.entry.now.request))
         (response_output (reply_shown reply)) start earlier world.new) }
 {
-    match read_request(alloc, scratch, server, verifier, &line.request) {
+    match read_request(alloc, &mut desk.scratch, server, verifier, &line.request) {
         Ok(call) => {
-            let reply = answer_call(alloc, &server.name, world, line.now, call)?;
+            let reply = answer_call(
+                alloc,
+                &server.name,
+                world,
+                &mut desk.watcher,
+                line.now,
+                call,
+            )?;
             Ok(reply)
         }
         Err(fault) => {
@@ -110,10 +129,11 @@ fn fault_answer(alloc: Global, fault: Fault) -> Result<WireReply, LineRefusal>
 }
 
 // The reply to a call at a moment.
-fn answer_call<K: Keeper<Row = ShardRow>, L: Keeper<Row = BookRow>>(
+fn answer_call<K: Keeper<Row = ShardRow>, L: Keeper<Row = BookRow>, W: LogWatcher>(
     alloc: Global,
     name: &ServerName,
     world: &mut World<K, L>,
+    watcher: &mut W,
     now: Moment,
     call: WireCall,
 ) -> Result<WireReply, LineRefusal>
@@ -121,7 +141,7 @@ fn answer_call<K: Keeper<Row = ShardRow>, L: Keeper<Row = BookRow>>(
         → IsCalled name.now now (call_shown call) (reply_shown reply) start earlier world.new) }
 {
     let first = first_step_of(call, now);
-    let last = last_reply(alloc, world, &first)?;
+    let last = last_reply(alloc, world, watcher, &first)?;
     let reply = write_reply(alloc, name, &first, last)?;
     Ok(reply)
 }

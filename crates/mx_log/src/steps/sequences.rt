@@ -11,6 +11,7 @@ ghost use Rattle.mx_requests.specs.CallsShown.{call_shown};
 ghost use Rattle.mx_log.specs.LineSteps.{first_step, step_shown};
 
 use crate::answers::LineRefusal;
+use crate::watching::LogWatcher;
 use mx_keeper::{BookRow, Keeper, ShardRow, TransactionId};
 use mx_requests::WireCall;
 use mx_room::Moment;
@@ -38,18 +39,19 @@ pub(crate) fn first_step_of(call: WireCall, now: Moment) -> Step
 /// Takes the steps of a request, of which this is the first, and gives the reply to the last of them.
 ///
 /// A transaction goes on only where its number was opened, and is given up where a later step of it is refused.
-pub(crate) fn last_reply<K: Keeper<Row = ShardRow>, L: Keeper<Row = BookRow>>(
+pub(crate) fn last_reply<K: Keeper<Row = ShardRow>, L: Keeper<Row = BookRow>, W: LogWatcher>(
     alloc: Global,
     world: &mut World<K, L>,
+    watcher: &mut W,
     first: &Step,
 ) -> Result<StepReply, LineRefusal>
     ensures { IfOk result (λ last. (start : Start) (earlier : List AnyStep) → IsAfter start earlier world.old
         → AreTakenFrom (step_shown first.now) last start earlier world.new) }
 {
-    let reply = take(alloc, world, first)?;
+    let reply = take(alloc, world, watcher, first)?;
     match first {
         Step::Open(key, events) => {
-            let last = follow(alloc, world, key, events.len(), reply)?;
+            let last = follow(alloc, world, watcher, key, events.len(), reply)?;
             Ok(last)
         }
         _ => Ok(reply),
@@ -57,9 +59,10 @@ pub(crate) fn last_reply<K: Keeper<Row = ShardRow>, L: Keeper<Row = BookRow>>(
 }
 
 // What follows an opening that has this reply.
-fn follow<K: Keeper<Row = ShardRow>, L: Keeper<Row = BookRow>>(
+fn follow<K: Keeper<Row = ShardRow>, L: Keeper<Row = BookRow>, W: LogWatcher>(
     alloc: Global,
     world: &mut World<K, L>,
+    watcher: &mut W,
     key: &TransactionKey,
     count: usize,
     reply: StepReply,
@@ -69,7 +72,7 @@ fn follow<K: Keeper<Row = ShardRow>, L: Keeper<Row = BookRow>>(
 {
     match reply {
         StepReply::Opened(_) => {
-            let last = finished(alloc, world, key, count)?;
+            let last = finished(alloc, world, watcher, key, count)?;
             Ok(last)
         }
         other => Ok(other),
@@ -77,16 +80,17 @@ fn follow<K: Keeper<Row = ShardRow>, L: Keeper<Row = BookRow>>(
 }
 
 // The turns of a transaction, and its close; it is given up where one is refused.
-fn finished<K: Keeper<Row = ShardRow>, L: Keeper<Row = BookRow>>(
+fn finished<K: Keeper<Row = ShardRow>, L: Keeper<Row = BookRow>, W: LogWatcher>(
     alloc: Global,
     world: &mut World<K, L>,
+    watcher: &mut W,
     key: &TransactionKey,
     count: usize,
 ) -> Result<StepReply, LineRefusal>
     ensures { IfOk result (λ last. (start : Start) (earlier : List AnyStep) → IsAfter start earlier world.old
         → AreTurned key.now count last start earlier world.new) }
 {
-    let reply = turned(alloc, world, key, count);
+    let reply = turned(alloc, world, watcher, key, count);
     if reply.is_err() {
         world.abandon(key);
     }
@@ -94,37 +98,40 @@ fn finished<K: Keeper<Row = ShardRow>, L: Keeper<Row = BookRow>>(
 }
 
 // Each event's turn, and the close.
-fn turned<K: Keeper<Row = ShardRow>, L: Keeper<Row = BookRow>>(
+fn turned<K: Keeper<Row = ShardRow>, L: Keeper<Row = BookRow>, W: LogWatcher>(
     alloc: Global,
     world: &mut World<K, L>,
+    watcher: &mut W,
     key: &TransactionKey,
     count: usize,
 ) -> Result<StepReply, LineRefusal>
     ensures { IfOk result (λ last. (start : Start) (earlier : List AnyStep) → IsAfter start earlier world.old
         → AreTurned key.now count last start earlier world.new) }
 {
-    turns(alloc, world, key, count)?;
-    let last = closed(alloc, world, key)?;
+    turns(alloc, world, watcher, key, count)?;
+    let last = closed(alloc, world, watcher, key)?;
     Ok(last)
 }
 
 // The close of a transaction.
-fn closed<K: Keeper<Row = ShardRow>, L: Keeper<Row = BookRow>>(
+fn closed<K: Keeper<Row = ShardRow>, L: Keeper<Row = BookRow>, W: LogWatcher>(
     alloc: Global,
     world: &mut World<K, L>,
+    watcher: &mut W,
     key: &TransactionKey,
 ) -> Result<StepReply, LineRefusal>
     ensures { IfOk result (λ reply. (start : Start) (earlier : List AnyStep) → IsAfter start earlier world.old
         → IsTaken start earlier (Close key.now) reply world.new) }
 {
     let close = Step::Close(key.clone()?);
-    take(alloc, world, &close)
+    take(alloc, world, watcher, &close)
 }
 
 // So many turns of a transaction.
-fn turns<K: Keeper<Row = ShardRow>, L: Keeper<Row = BookRow>>(
+fn turns<K: Keeper<Row = ShardRow>, L: Keeper<Row = BookRow>, W: LogWatcher>(
     alloc: Global,
     world: &mut World<K, L>,
+    watcher: &mut W,
     key: &TransactionKey,
     count: usize,
 ) -> Result<(), LineRefusal>
@@ -132,13 +139,14 @@ fn turns<K: Keeper<Row = ShardRow>, L: Keeper<Row = BookRow>>(
         → AreTaken key.now count start earlier world.new) }
 {
     let next = Step::Next(key.clone()?);
-    repeat(alloc, world, &next, count)
+    repeat(alloc, world, watcher, &next, count)
 }
 
 // A step, so many times.
-fn repeat<K: Keeper<Row = ShardRow>, L: Keeper<Row = BookRow>>(
+fn repeat<K: Keeper<Row = ShardRow>, L: Keeper<Row = BookRow>, W: LogWatcher>(
     alloc: Global,
     world: &mut World<K, L>,
+    watcher: &mut W,
     step: &Step,
     count: usize,
 ) -> Result<(), LineRefusal>
@@ -146,33 +154,36 @@ fn repeat<K: Keeper<Row = ShardRow>, L: Keeper<Row = BookRow>>(
         → IsAfter start earlier world.old → AreTaken key count start earlier world.new) }
 {
     for _turn in 0..count {
-        pass(alloc, world, step)?;
+        pass(alloc, world, watcher, step)?;
     }
     Ok(())
 }
 
 // A step, whose reply is told to nobody.
-fn pass<K: Keeper<Row = ShardRow>, L: Keeper<Row = BookRow>>(
+fn pass<K: Keeper<Row = ShardRow>, L: Keeper<Row = BookRow>, W: LogWatcher>(
     alloc: Global,
     world: &mut World<K, L>,
+    watcher: &mut W,
     step: &Step,
 ) -> Result<(), LineRefusal>
     ensures { OnOk result ((reply : AnyReply) × ((start : Start) (earlier : List AnyStep) → IsAfter start earlier world.old
         → IsTaken start earlier step.now reply world.new)) }
 {
-    let _reply = take(alloc, world, step)?;
+    let _reply = take(alloc, world, watcher, step)?;
     Ok(())
 }
 
 // A step of a request.
-fn take<K: Keeper<Row = ShardRow>, L: Keeper<Row = BookRow>>(
+fn take<K: Keeper<Row = ShardRow>, L: Keeper<Row = BookRow>, W: LogWatcher>(
     alloc: Global,
     world: &mut World<K, L>,
+    watcher: &mut W,
     step: &Step,
 ) -> Result<StepReply, LineRefusal>
     ensures { IfOk result (λ reply. (start : Start) (earlier : List AnyStep) → IsAfter start earlier world.old
         → IsTaken start earlier step.now reply world.new) }
 {
     let reply = world.step(alloc, step).map_err(LineRefusal::of_call)?;
+    watcher.see_step(step, &reply);
     Ok(reply)
 }
