@@ -18,7 +18,7 @@ from page_browser import Browser  # noqa: E402
 from page_checks import Visit  # noqa: E402
 from page_frame import FRAME_TESTS, PageTest, run  # noqa: E402
 
-LOGS = ("audit/two_bans.jsonl", "rows/forked_power_levels.jsonl", "rows/effective_redaction.jsonl")
+LOGS = ("audit/two_bans.jsonl", "rows/forked_power_levels.jsonl", "rows/effective_redaction.jsonl", "rows/refusals_in_their_order.jsonl")
 
 
 def in_browser(name: str, about: str | None, test: PageTest) -> Callable[[], None]:
@@ -46,7 +46,7 @@ def in_order(event: made.Value) -> made.Value:
 def check_page(visit: Visit, log: str) -> None:
     """The page of a log is the frame with the data in it, and shows the states that the program prints of each event."""
     audit = made.Audit(str(program()), TOP / "examples" / log)
-    states = [(audit.state("before", line["event_id"]), audit.state("after", line["event_id"])) for line in audit.lines()]
+    states = [(audit.state("before", line["event_id"]), audit.state("after", line["event_id"])) for line in audit.kept()]
     page = audit.run("--html")
     data = made.data_of(page)
     expected = made.data_by_lines(audit)

@@ -103,11 +103,12 @@ def refused(visit: Visit) -> None:
     visit.open(made.example())
     assert visit.texts("#refused") == [""] and visit.value("document.title") == "Room !r:a.example: audit"
     visit.open({**made.example(), "refused": made.refused_events()})
-    assert visit.texts("#refused summary") == ["2 refused events, kept nowhere"] and visit.texts("#title") == ["Room !r:a.example"]
+    assert visit.texts("#refused summary") == ["3 refused events, kept nowhere"] and visit.texts("#title") == ["Room !r:a.example"]
     visit.click("#refused summary")
-    first, second = (line["event_id"] for line in made.refused_events())
+    first, second = (line["event_id"] for line in made.refused_events()[:2])
     assert visit.texts("#refused li") == [f"@d:d.example m.room.message from d.example: missing events {first}",
-                                          f"@e:e.example m.room.message from ?: room full {second}"], visit.texts("#refused li")
+                                          f"@e:e.example m.room.message from ?: room full {second}",
+                                          "? ? from d.example: malformed depth wrong kind"], visit.texts("#refused li")
     assert visit.places() == list(range(1, 14)) and visit.selected() == 12, "they are no events of the graph"
     graph, told = (visit.value(f"(() => {{ const b = document.querySelector('{part}').getBoundingClientRect(); return [b.left, b.right,"
                                " b.top, b.bottom]; })()") for part in ("#list", "#refused"))

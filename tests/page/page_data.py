@@ -60,6 +60,10 @@ class Audit:
     def lines(self, *options: str) -> list[Value]:
         return [json.loads(line) for line in self.run(*options).splitlines()]
 
+    def kept(self) -> list[Value]:
+        """The lines of the events that the room kept."""
+        return [line for line in self.lines() if line["verdict"] != "refused"]
+
     def state(self, side: str, event_id: str) -> State:
         return {(entry["type"], entry["state_key"]): entry["event_id"] for entry in self.lines(f"--state-{side}", event_id)}
 
@@ -79,7 +83,7 @@ def changes(old: State, new: State, places: dict[str, int]) -> list[list[Any]]:
 
 def data_by_lines(audit: Audit) -> Value:
     """What `--html` puts into the frame, made of what the other options print of each event."""
-    lines = audit.lines()
+    lines = audit.kept()
     places = {line["event_id"]: line["place"] for line in lines}
     after: dict[int, State] = {}
     events = []
@@ -95,7 +99,7 @@ def data_by_lines(audit: Audit) -> Value:
         if len(line["prev_events"]) > 1:
             event["resolution"] = audit.lines("--resolution", line["event_id"])
         events.append(event)
-    return {"room": audit.room, "events": events, "refused": []}
+    return {"room": audit.room, "events": events, "refused": [line for line in audit.lines() if line["verdict"] == "refused"]}
 
 
 def data_by_rules(room: str, lines: list[Value], resolutions: dict[str, list[Value]]) -> Value:
@@ -131,13 +135,15 @@ def example() -> Value:
 
 
 def refused_events() -> list[Value]:
-    """Lines of two events that were offered to that room and not kept; of the second nobody says who offered it."""
+    """Lines of two events and a value that were offered to that room and not kept; of the second nobody says who offered it."""
     def line(sender: str, cause: str, **more: Any) -> Value:
         return {"after": 13, "auth_events": [], "because": cause, "content": {"body": cause}, "content_hash": "good", "depth": 9,
                 "event_id": "$" + sender[1] * 43, "origin_server_ts": 9000, "prev_events": ["$" + "p" * 43], "sender": sender,
                 "type": "m.room.message", "verdict": "refused", **more}
 
-    return [line("@d:d.example", "missing events", origin="d.example", missing=["$" + "p" * 43]), line("@e:e.example", "room full")]
+    malformed = {"after": 13, "because": "malformed", "fault": "wrong kind", "field": "depth", "origin": "d.example", "position": 2,
+                 "transaction": "t", "verdict": "refused"}
+    return [line("@d:d.example", "missing events", origin="d.example", missing=["$" + "p" * 43]), line("@e:e.example", "room full"), malformed]
 
 
 def states_of(data: Value) -> list[tuple[State, State]]:

@@ -48,9 +48,9 @@ function draw(tag, attributes, ...children) {
 const plain = (parts) => parts.map((part) => (Array.isArray(part) ? visible(part[0]) : part)).join("");
 const shown = (number) => number.toLocaleString("en");
 const count = (number, one, more = `${one}s`) => `${shown(number)} ${number === 1 ? one : more}`;
+const whyRefused = ({ because = "?", field, fault }) => [because, field, fault].filter(Boolean).join(" ");
 const own = (value, key) => (typeof value === "object" && value !== null && Object.hasOwn(value, key) ? value[key] : undefined);
 const classOf = (verdict) => verdict.replace(" ", "-");
-
 // ---- The room: events by place (from 1), the graph, and the states as changes.
 const LEVELS = "m.room.power_levels";
 const [KEPT_STATES, STATE_EVERY] = [24, 512];

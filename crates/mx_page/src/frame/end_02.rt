@@ -300,8 +300,8 @@ class Page {
     byName("legend").append(make("li", { class: "keys" }, keys));
   }
   refused() {
-    const items = this.room.refused.map(({ sender = "?", type = "?", because = "?", origin = "?", event_id: id = "" }) => make("li", {},
-      [sender], " ", [type], " from ", [origin], ": ", make("b", { class: "refused" }, [because]), " ", [id]));
+    const items = this.room.refused.map(({ sender = "?", type = "?", origin = "?", event_id: id = "", ...line }) => make("li", {}, [sender],
+      " ", [type], " from ", [origin], ": ", make("b", { class: "refused" }, [whyRefused(line)]), " ", [id]));
     if (items.length === 0) return;
     const words = `${count(items.length, "refused event")}, kept nowhere`; byName("refused").className = "refused-list";
     byName("refused").append(make("details", {}, make("summary", {}, words), make("ul", {}, ...items)));

@@ -6,7 +6,7 @@ pub(crate) fn text() -> &'static str {
 <head>
 <meta charset="utf-8">
 <meta http-equiv="Content-Security-Policy" content="default-src 'none'; base-uri 'none'; form-action 'none';
- style-src 'sha256-qMZUvfT4WF62yEFynX2Er1QkQNlzczQsp8Ww+McMFIk='; script-src 'sha256-UqOWU4IbAmgnHNC6O5soNGrYIHSLriaLOam8IsXCDRQ='">
+ style-src 'sha256-qMZUvfT4WF62yEFynX2Er1QkQNlzczQsp8Ww+McMFIk='; script-src 'sha256-ZRRpIt9xHgl2C95fpalIartxZlgfIsjYIKpHzJ2fmd8='">
 <meta name="viewport" content="width=device-width, initial-scale=1">
 <title>Audit of a room</title>
 <style>
