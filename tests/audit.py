@@ -17,6 +17,8 @@ from event_logs import Base, Log
 from matrix_events import A, B, C, ROOM, Event, Json, canonical, id_of, levels, topic
 from program import FAILED, Ended, run
 
+# What is said of examples/audit as a whole.
+TWO_BANS = b"accepted 11, soft failed 1, rejected 1; refused 0; malformed 0; bad lines 0\n"
 # A type and a state key.
 Key = tuple[str, str]
 # The lines that are told of the events of a log, by their ids, each with the id of its room.
@@ -27,17 +29,25 @@ def words_of_audit() -> None:
     """A room, where its events are, and at most one question."""
     name, room = ["--name", "hub.example"], ["--room", ROOM]
     for words in (
-        name, room, [*name, "--room", "r"], [*name, *room, "--data", "x"], [*room, "--data", ""], [*name, *room, "--event", "x"],
+        name, [*name, "--room", "r"], [*name, *room, "--data", "x"], [*room, "--data", ""], [*name, *room, "--event", "x"],
+        [*room, "--name", ""], [*room, "--event", "$x", "--at", "$x"],
         [*name, *room, "--event", "$x", "--dot"], [*name, *room, "--event", "$x", "--state-before", "$x"],
         [*name, *room, "--event", "$x", "--html"], [*name, *room, "--dot", "--html"],
     ):
         status, out, err = run("audit", *words)
         assert (status, out) == (2, b"") and err, (words, status, out, err)
-    assert run("audit", *name, *room) == (1, b"", b"refused: no such room\n")
-    assert run("audit", *room, "--data", "/dev/null") == (1, b"", FAILED)
+    for words in (room, [*name, *room]):
+        assert run("audit", *words) == (1, b"", sum_of() + b"refused: no such room\n"), words
+    assert run("audit", *room, "--data", "/dev/null") == (1, b"", FAILED + b"/dev/null/shard-0.db: it can't be read\n")
     assert run("audit", *name, *room, "--event", "x") == (2, b"", b"--event x is no event ID, which begins with $\n")
     _, _, both = run("audit", *name, *room, "--event", "$x", "--dot")
-    assert b"'--dot'" in both and b"'--event <EVENT_ID>'" in both and b"cannot be used with" in both, both
+    assert b"'--dot'" in both and b"'--event <EVENT_ID>...'" in both and b"cannot be used with" in both, both
+
+
+def sum_of(accepted: int = 0, soft_failed: int = 0, rejected: int = 0) -> bytes:
+    """The sum of a log in which nothing was refused."""
+    counts = f"accepted {accepted}, soft failed {soft_failed}, rejected {rejected}"
+    return f"{counts}; refused 0; malformed 0; bad lines 0\n".encode()
 
 
 def audit_of_two_bans() -> None:
@@ -51,7 +61,7 @@ def audit_of_two_bans() -> None:
 
     lines = (folder / "two_bans.lines.jsonl").read_bytes()
     for shards in ("1", "64"):
-        assert audit(shards=shards) == (0, lines, b"")
+        assert audit(shards=shards) == (0, lines, TWO_BANS)
     told = [json.loads(line) for line in lines.splitlines()]
     both = next(line for line in told if line["is_extremity"])
     for line in told:
@@ -59,7 +69,7 @@ def audit_of_two_bans() -> None:
     assert audit("--event", "$x") == (1, b"", b"refused: no such event\n")
     assert audit("--resolution", both["event_id"]) == (0, (folder / "two_bans.resolution.jsonl").read_bytes(), b"")
     assert audit("--resolution", told[1]["event_id"]) == (0, b"", b"")
-    assert audit("--dot") == (0, (folder / "two_bans.dot").read_bytes(), b"")
+    assert audit("--dot") == (0, (folder / "two_bans.dot").read_bytes(), TWO_BANS)
     state = sorted((line["type"], line["state_key"], line["event_id"]) for line in told if line["in_current_state"])
     wanted = b"".join(
         canonical({"type": kind, "state_key": key, "event_id": made}) + b"\n" for kind, key, made in state)
@@ -134,11 +144,12 @@ def labels_in_docs() -> set[str]:
 
 
 def lines_of(log: bytes) -> Told:
-    """The lines that `audit` tells of all rooms of a log, with the room of each, by the id of the event."""
+    """The lines that `audit` tells of the events that all rooms of a log kept, with the room of each, by the id of the event."""
     told: Told = {}
     for room in rooms_of(log):
         status, out, _ = run("audit", "--name=hub.example", "--room=" + room, source=log)
-        told |= {it["event_id"]: (room, it) for it in map(json.loads, out.splitlines())} if status == 0 else {}
+        lines = [json.loads(line) for line in out.splitlines()] if status == 0 else []
+        told |= {it["event_id"]: (room, it) for it in lines if it["verdict"] != "refused"}
     return told
 
 
@@ -203,7 +214,7 @@ def page_of_two_bans() -> None:
 
     told = [json.loads(line) for line in audit()[1].splitlines()]
     status, page, err = audit("--html")
-    assert (status, err) == (0, b"")
+    assert (status, err) == (0, TWO_BANS)
     entries = list(states_of_page(page))
     assert [entry["line"] for entry, _, _ in entries] == told
     for entry, *states in entries:
@@ -248,7 +259,7 @@ def audit_of_soft_failures() -> None:
         log = (TOP / "examples/rows" / (row + ".jsonl")).read_bytes()
         events = {id_of(it): it for line in map(json.loads, log.splitlines()) for it in line.get("pdus", [])}
         status, out, err = run("audit", "--name=hub.example", "--room=" + ROOM, source=log)
-        assert status == 0 and err == b"", row
+        assert status == 0 and err.startswith(b"accepted "), row
         lines = [json.loads(line) for line in out.splitlines()]
         failed = [it for it in lines if it["verdict"] == "soft failed" and (it["type"], it["sender"]) == (kind, sender)]
         assert [it["check"] for it in failed] == [check] and [it["rule"] for it in failed] == [rule], (row, failed)

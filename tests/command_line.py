@@ -168,7 +168,7 @@ def cut_input() -> None:
 
 def words_that_ask_for_nothing() -> None:
     """Words that name no subcommand, or more than it takes, are refused with status 2."""
-    for words in ([], [""], ["chek"], ["--help"], ["check=1"], ["check", "more"]):
+    for words in ([], [""], ["chek"], ["--help"], ["check=1"], ["check", "more", "more"]):
         status, out, err = run(*words, source=b"{}")
         assert (status, out) == (2, b"") and err, (words, status, out, err)
     assert run(b"check\xff") == (2, b"", b"a word is no UTF-8\n")
@@ -354,6 +354,32 @@ def failed_reads_and_writes() -> None:
             assert run(*words, source=source, stdout=full) == (1, None, FAILED), words
 
 
+def files_in_place_of_standard_input(folder: Path) -> None:
+    """`check`, `replay`, `log` and `audit` read a file that is named; one that can't be opened is named with the system's words."""
+    log = TOP / "examples/audit/two_bans.jsonl"
+    event = folder / "event.json"
+    event.write_bytes(canonical(POWER_LEVELS))
+    for words, file in ((["check"], event), (["replay", "--name=hub.example"], log), (["log"], log), (["audit", "--room=" + ROOM], log)):
+        assert run(*words, file) == run(*words, source=file.read_bytes()) != run(*words), words
+        assert run(*words, folder / "none") == (1, b"", FAILED + bytes(folder / "none") + b": No such file or directory (os error 2)\n"), words
+        assert run(*words, file, file)[0] == 2, words
+    assert run("audit", "--room=" + ROOM, "--data", folder, log)[0] == 2
+
+
+def output_that_nobody_reads_on() -> None:
+    """Where the reader of standard output goes, as `head` does, the program ends, and says nothing but what it says of a log."""
+    log = (TOP / "examples/audit/two_bans.jsonl").read_bytes()
+    for words, source in (
+        (["replay", "--name=hub.example"], b"[]\n" * 200_000), (["audit", "--room=" + ROOM], log), (["log"], log),
+        (["check"], canonical(POWER_LEVELS)),
+    ):
+        ours, theirs = os.pipe()
+        os.close(ours)
+        status, _, err = run(*words, source=source, stdout=theirs)
+        os.close(theirs)
+        assert status == 1 and FAILED not in err and (words[0] == "log" or err == b""), (words, status, err)
+
+
 def answers_of_the_logs() -> None:
     """Each log of examples/ and examples/rows gets its answers on one shard and on 64: no answer depends on their number."""
     logs = [*sorted((TOP / "examples").glob("*.answers.jsonl")), *sorted((TOP / "examples/rows").glob("*.answers.jsonl"))]
@@ -378,7 +404,7 @@ TESTS = [
     check_prints_three_lines, hashes_and_ids, canonical_texts, room_at_its_limit, check_refusals, deep_nesting, cut_input,
     words_that_ask_for_nothing, words_of_replay, words_of_serve, help_of_each_subcommand, progress_on_a_terminal, files_opened_on_a_terminal,
     words_of_migrate, migrated_files, answers_before_the_end_of_a_log, a_log_takes_the_memory_of_a_line,
-    failed_reads_and_writes, answers_of_the_logs, line_of_8_mebibytes, million_empty_lines,
+    failed_reads_and_writes, files_in_place_of_standard_input, output_that_nobody_reads_on, answers_of_the_logs, line_of_8_mebibytes, million_empty_lines,
 ]
 
 if __name__ == "__main__":

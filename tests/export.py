@@ -29,7 +29,7 @@ def bare(events: Iterable[Event]) -> list[Event]:
 
 def words_of_log() -> None:
     """A room id and a server name, where they are told; no events."""
-    for words in (["--room", "r"], ["--room", ""], ["--origin", ""], ["--missing", "x"], ["more"], ["--name", "a.example"]):
+    for words in (["--room", "r"], ["--room", ""], ["--origin", ""], ["--missing", "x", "x"], ["more", "more"], ["--name", "a.example"]):
         status, out, err = run("log", *words)
         assert (status, out) == (2, b"") and err, (words, status, out, err)
     for words in ([], ["--missing", "--origin", "a.example"]):

@@ -7,16 +7,24 @@ use clap::{ArgMatches, Error};
 use mx_ident::{EventId, IdError, RoomId, ServerName};
 use mx_keeper::ShardCount;
 use mx_options::{
-    AuditOptions, AuditQuestion, AuditSource, LogOptions, MigrateOptions, SeatCount, ServeOptions,
+    AskedOf, AuditOptions, AuditQuestion, AuditSource, EventQuestion, LogOptions, MigrateOptions,
+    SeatCount, ServeOptions,
 };
 use std::alloc::{AllocError, Global};
+
+/// What the program is asked to do, and the file that is read in place of standard input, if one is named.
+#[derive(Debug, Drop)]
+pub struct Invocation {
+    pub command: Command,
+    pub input: Option<String>,
+}
 
 /// What the program is asked to do.
 #[derive(Debug, Drop)]
 pub enum Command {
-    // One event from standard input, to its id.
+    // One event from the input, to its id.
     Check,
-    // A log from standard input, to the answers of a server of this name, over so many shards.
+    // A log from the input, to the answers of a server of this name, over so many shards.
     Replay {
         name: ServerName,
         shards: ShardCount,
@@ -27,7 +35,7 @@ pub enum Command {
     Audit(AuditOptions),
     // To bring the files of a directory to the current layout.
     Migrate(MigrateOptions),
-    // Events from standard input, to a log of them.
+    // Events from the input, to a log of them.
     Log(LogOptions),
     // This text of the program's version.
     Version(String),
@@ -59,24 +67,39 @@ fn refusal(alloc: Global, error: &Error) -> Result<String, AllocError> {
 /// What the words ask for. The first is the program's name.
 ///
 /// `Misused`, with the text to print, where they ask for nothing or for help; `Memory` where no memory is left.
-pub fn parse(alloc: Global, words: &[String]) -> Result<Command, CommandLineError> {
+pub fn parse(alloc: Global, words: &[String]) -> Result<Invocation, CommandLineError> {
     let program = clap::Command::new(alloc, "mx_federd")
         .about("A Matrix federation room server")
         .version(VERSION)
         .subcommand_required(true)
-        .subcommand(check_words(alloc))?
+        .subcommand(check_words(alloc)?)?
         .subcommand(replay_words(alloc)?)?
         .subcommand(serve_words(alloc)?)?
         .subcommand(audit_words(alloc)?)?
         .subcommand(migrate_words(alloc)?)?
         .subcommand(log_words(alloc)?)?;
     match program.try_get_matches_from(words) {
-        Ok(matches) => chosen(alloc, &matches),
+        Ok(matches) => {
+            let command = chosen(alloc, &matches)?;
+            let input = named_file(alloc, &matches)?;
+            Ok(Invocation { command, input })
+        }
         Err(error) if error.kind() == ErrorKind::OutOfMemory => Err(CommandLineError::Memory),
         Err(error) if error.kind() == ErrorKind::DisplayVersion => {
-            Ok(Command::Version(refusal(alloc, &error)?))
+            Ok(Invocation {
+                command: Command::Version(refusal(alloc, &error)?),
+                input: None,
+            })
         }
         Err(error) => Err(CommandLineError::Misused(refusal(alloc, &error)?)),
+    }
+}
+
+// The file that a subcommand is to read.
+fn named_file(alloc: Global, matches: &ArgMatches) -> Result<Option<String>, AllocError> {
+    match matches.subcommand() {
+        Some(("check" | "replay" | "audit" | "log", given)) => text_of(alloc, given, "file"),
+        _ => Ok(None),
     }
 }
 
@@ -125,12 +148,7 @@ fn audit_of(alloc: Global, given: &ArgMatches) -> Result<Command, CommandLineErr
             "--room takes a room ID, which begins with ! and ends with a server name\n",
         );
     };
-    let Some(source) = source_of(alloc, given)? else {
-        return misused(
-            alloc,
-            "--name takes a server name, for a log on standard input; --data takes a directory; one of them is needed\n",
-        );
-    };
+    let source = source_of(alloc, given)?;
     let question = question_of(alloc, given)?;
     Ok(Command::Audit(AuditOptions {
         source,
@@ -181,32 +199,25 @@ fn room_of(alloc: Global, given: &ArgMatches) -> Result<Option<RoomId>, CommandL
     }
 }
 
-// Where the events are, where that is told once.
-fn source_of(alloc: Global, given: &ArgMatches) -> Result<Option<AuditSource>, CommandLineError> {
-    let directory = text_of(alloc, given, "data")?;
+// Where the events are: in a directory, which excludes a name, or else in a log.
+fn source_of(alloc: Global, given: &ArgMatches) -> Result<AuditSource, CommandLineError> {
+    if let Some(directory) = text_of(alloc, given, "data")? {
+        if directory.is_empty() {
+            return misused(alloc, "--data takes a directory, whose name is not empty\n");
+        }
+        return Ok(AuditSource::Directory(directory));
+    }
     let name = name_of(alloc, given)?;
-    match directory {
-        Some(directory) => Ok(directory_alone(directory, name)),
-        None => Ok(log_of(name, shards_of(given))),
+    if name.is_none() && given.get_str("name").is_some() {
+        return misused(alloc, "--name takes a server name, such as hub.example\n");
+    }
+    match shards_of(given) {
+        Some(shards) => Ok(AuditSource::Log { name, shards }),
+        None => misused(alloc, "the number of shards is not 1 to 64\n"),
     }
 }
 
-// A directory, where no server is named beside it.
-fn directory_alone(directory: String, name: Option<ServerName>) -> Option<AuditSource> {
-    if directory.is_empty() || name.is_some() {
-        return None;
-    }
-    Some(AuditSource::Directory(directory))
-}
-
-// A log, where its server has a name and a number of shards that there may be.
-fn log_of(name: Option<ServerName>, shards: Option<ShardCount>) -> Option<AuditSource> {
-    let name = name?;
-    let shards = shards?;
-    Some(AuditSource::Log { name, shards })
-}
-
-// What is asked. Of the options that ask, at most one is given.
+// What is asked. Of the options that ask, at most one is given, perhaps several times.
 fn question_of(alloc: Global, given: &ArgMatches) -> Result<AuditQuestion, CommandLineError> {
     if given.get_flag("dot") {
         return Ok(AuditQuestion::Picture);
@@ -214,35 +225,73 @@ fn question_of(alloc: Global, given: &ArgMatches) -> Result<AuditQuestion, Comma
     if given.get_flag("html") {
         return Ok(AuditQuestion::Page);
     }
-    if let Some(id) = event_of(alloc, given, "event")? {
-        return Ok(AuditQuestion::Event(id));
+    let mut questions = Vec::new(alloc);
+    for (option, asked) in &QUESTIONS {
+        for id in events_of(alloc, given, option)? {
+            add_question(&mut questions, *asked, id)?;
+        }
     }
-    if let Some(id) = event_of(alloc, given, "state-before")? {
-        return Ok(AuditQuestion::StateBefore(id));
+    for id in events_of(alloc, given, "at")? {
+        add_all(&mut questions, &id)?;
     }
-    if let Some(id) = event_of(alloc, given, "state-after")? {
-        return Ok(AuditQuestion::StateAfter(id));
+    if questions.is_empty() {
+        return Ok(AuditQuestion::Events);
     }
-    match event_of(alloc, given, "resolution")? {
-        Some(id) => Ok(AuditQuestion::Resolution(id)),
-        None => Ok(AuditQuestion::Events),
-    }
+    Ok(AuditQuestion::OfEvents(questions))
 }
 
-// The event ID at an option, if it is given. `Misused` where what is given is none.
-fn event_of(
+// The options that ask one thing of events.
+const QUESTIONS: [(&str, AskedOf); 4] = [
+    ("event", AskedOf::Event),
+    ("state-before", AskedOf::StateBefore),
+    ("state-after", AskedOf::StateAfter),
+    ("resolution", AskedOf::Resolution),
+];
+
+// What `--at` asks of an event: all.
+const ALL_OF_AN_EVENT: [AskedOf; 4] = [
+    AskedOf::Event,
+    AskedOf::StateBefore,
+    AskedOf::Resolution,
+    AskedOf::StateAfter,
+];
+
+fn add_all(questions: &mut Vec<EventQuestion>, id: &EventId) -> Result<(), AllocError> {
+    for asked in &ALL_OF_AN_EVENT {
+        add_question(questions, *asked, id.clone()?)?;
+    }
+    Ok(())
+}
+
+fn add_question(
+    questions: &mut Vec<EventQuestion>,
+    asked: AskedOf,
+    event: EventId,
+) -> Result<(), AllocError> {
+    questions.push(EventQuestion { asked, event })?;
+    Ok(())
+}
+
+// The event IDs at an option. `Misused` where one that is given is none.
+fn events_of(
     alloc: Global,
     given: &ArgMatches,
     option: &str,
-) -> Result<Option<EventId>, CommandLineError> {
-    let Some(id) = given.get_str(option) else {
-        return Ok(None);
-    };
-    match EventId::parse(alloc, id) {
-        Ok(id) => Ok(Some(id)),
+) -> Result<Vec<EventId>, CommandLineError> {
+    let mut ids = Vec::new(alloc);
+    for text in given.get_strs(option).unwrap_or_default() {
+        let id = event_of(alloc, option, text)?;
+        ids.push(id).map_err(AllocError::from)?;
+    }
+    Ok(ids)
+}
+
+fn event_of(alloc: Global, option: &str, text: &str) -> Result<EventId, CommandLineError> {
+    match EventId::parse(alloc, text) {
+        Ok(id) => Ok(id),
         Err(IdError::Memory) => Err(CommandLineError::Memory),
         Err(IdError::NotAnId(_)) => Err(CommandLineError::Misused(format!(in alloc;
-            "--{option} {id} is no event ID, which begins with $\n"
+            "--{option} {text} is no event ID, which begins with $\n"
         )?)),
     }
 }
@@ -310,7 +359,7 @@ fn shards_of(given: &ArgMatches) -> Option<ShardCount> {
     ShardCount::of(count)
 }
 
-fn misused(alloc: Global, text: &str) -> Result<Command, CommandLineError> {
+fn misused<T>(alloc: Global, text: &str) -> Result<T, CommandLineError> {
     let text = String::from_str(alloc, text)?;
     Err(CommandLineError::Misused(text))
 }

@@ -4,4 +4,4 @@
 mod commands;
 mod words;
 
-pub use commands::{Command, CommandLineError, parse};
+pub use commands::{Command, CommandLineError, Invocation, parse};

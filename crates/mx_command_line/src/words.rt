@@ -7,12 +7,20 @@ use std::alloc::{AllocError, Global};
 // The program's version, and the layouts of files that it reads. CHANGELOG.md has a part on each version.
 pub(crate) const VERSION: &str = "1.0.0\nlayouts of files: 1, 2";
 
-pub(crate) fn check_words<'a>(alloc: Global) -> clap::Command<'a> {
+// The file that is read in place of standard input.
+fn file_word<'a>(alloc: Global) -> Arg<'a> {
+    Arg::new(alloc, "file")
+        .value_name("FILE")
+        .help("The file that is read in place of standard input")
+}
+
+pub(crate) fn check_words<'a>(alloc: Global) -> Result<clap::Command<'a>, AllocError> {
     clap::Command::new(alloc, "check")
         .about(
-            "Reads one event from standard input, and prints its ID, whether its content hash holds, and its canonical text",
+            "Reads one event, and prints its ID, whether its content hash holds, and its canonical text",
         )
-        .after_help("Example: mx_federd check < event.json\nPage: docs/LOG.md")
+        .after_help("Example: mx_federd check event.json\nPage: docs/LOG.md")
+        .arg(file_word(alloc))
 }
 
 fn name_word<'a>(alloc: Global) -> Arg<'a> {
@@ -42,8 +50,9 @@ fn shards_word<'a>(alloc: Global) -> Arg<'a> {
 
 pub(crate) fn replay_words<'a>(alloc: Global) -> Result<clap::Command<'a>, AllocError> {
     clap::Command::new(alloc, "replay")
-        .about("Reads a log from standard input, and prints what a server answers to each line")
-        .after_help("Example: mx_federd replay --name hub.example < log.jsonl\nPage: docs/LOG.md")
+        .about("Reads a log, and prints what a server answers to each line")
+        .after_help("Example: mx_federd replay --name hub.example log.jsonl\nPage: docs/LOG.md")
+        .arg(file_word(alloc))?
         .arg(name_word(alloc))?
         .arg(shards_word(alloc))
 }
@@ -102,44 +111,68 @@ fn questions<'a>(alloc: Global) -> Result<ArgGroup<'a>, AllocError> {
         .arg("state-before")?
         .arg("state-after")?
         .arg("resolution")?
+        .arg("at")?
         .arg("dot")?
         .arg("html")
 }
 
+// An option that is asked of an event, and of several where it is given several times.
 fn question_word<'a>(alloc: Global, name: &'a str) -> Arg<'a> {
-    text_word(alloc, name, "EVENT_ID")
+    Arg::new(alloc, name)
+        .long(name)
+        .value_name("EVENT_ID")
+        .num_args(1..)
+        .action(ArgAction::Append)
+}
+
+// Where the events are: in the log of a server with a name, or in a directory.
+fn named_sources<'a>(alloc: Global) -> Result<ArgGroup<'a>, AllocError> {
+    ArgGroup::new(alloc, "named source")
+        .arg("name")?
+        .arg("data")
+}
+
+// Where the events are: in the log in a file, or in a directory.
+fn sources<'a>(alloc: Global) -> Result<ArgGroup<'a>, AllocError> {
+    ArgGroup::new(alloc, "source").arg("file")?.arg("data")
 }
 
 pub(crate) fn audit_words<'a>(alloc: Global) -> Result<clap::Command<'a>, AllocError> {
     let name = text_word(alloc, "name", "SERVER").help(
-        "The name of the server that answers the log on standard input, whose room is told of",
+        "The name of the server that answers the log, where a line of it is a request",
     );
     let data = text_word(alloc, "data", "DIR").help(
-        "The directory of the files of a server that is stopped, in place of a log; they are only read",
+        "The directory of a server's files, in place of a log; they are only read, and it may be running",
     );
     let room = text_word(alloc, "room", "ROOM_ID")
         .required(true)
         .help("The ID of the room");
     clap::Command::new(alloc, "audit")
         .about(
-            "Tells of each event of a room why it was accepted or refused, and what its states are",
+            "Tells of each event of a room why it was accepted, soft failed, rejected or refused, and what its states are",
         )
         .after_help(
-            "Example: mx_federd log < events.json | mx_federd audit --name hub.example --room '!r:a.example'\nPage: docs/AUDIT.md",
+            "Example: mx_federd log events.json | mx_federd audit --room '!r:a.example'\nPage: docs/AUDIT.md",
         )
+        .arg(file_word(alloc))?
         .arg(name)?
         .arg(data)?
         .arg(room)?
         .arg(shards_word(alloc))?
-        .arg(question_word(alloc, "event").help("The ID of the one event to tell of"))?
-        .arg(question_word(alloc, "state-before").help("The ID of an event: the state before it"))?
-        .arg(question_word(alloc, "state-after").help("The ID of an event: the state after it"))?
+        .arg(question_word(alloc, "event").help("The IDs of the events to tell of"))?
+        .arg(question_word(alloc, "state-before").help("IDs of events: the state before each"))?
+        .arg(question_word(alloc, "state-after").help("IDs of events: the state after each"))?
         .arg(question_word(alloc, "resolution").help(
-            "The ID of an event: how the states after its prev events were resolved",
+            "IDs of events: how the states after the prev events of each were resolved",
+        ))?
+        .arg(question_word(alloc, "at").help(
+            "IDs of events: the line of each, the states before and after it, and the resolution",
         ))?
         .arg(flag_word(alloc, "dot").help("The room as a graph for Graphviz"))?
         .arg(flag_word(alloc, "html").help("The room as a page for a browser"))?
-        .group(questions(alloc)?)
+        .group(questions(alloc)?)?
+        .group(named_sources(alloc)?)?
+        .group(sources(alloc)?)
 }
 
 pub(crate) fn log_words<'a>(alloc: Global) -> Result<clap::Command<'a>, AllocError> {
@@ -154,9 +187,10 @@ pub(crate) fn log_words<'a>(alloc: Global) -> Result<clap::Command<'a>, AllocErr
     );
     clap::Command::new(alloc, "log")
         .about(
-            "Reads events of a room as other servers export them from standard input, in any order, and prints a log of them",
+            "Reads events of a room as other servers export them, in any order, and prints a log of them",
         )
-        .after_help("Example: mx_federd log < events.json > log.jsonl\nPage: docs/LOG.md")
+        .after_help("Example: mx_federd log events.json > log.jsonl\nPage: docs/LOG.md")
+        .arg(file_word(alloc))?
         .arg(room)?
         .arg(origin)?
         .arg(missing)

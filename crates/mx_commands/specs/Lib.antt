@@ -1,3 +1,4 @@
 pub mod CheckErrors
 pub mod Failures
 pub mod Lines
+pub mod LineKinds

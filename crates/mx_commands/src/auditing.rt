@@ -1,29 +1,38 @@
 // `audit`: why the events of a room were received as they were, and what its states are.
 mod file_rows;
+mod line_kinds;
 mod log_rows;
+mod offerings;
 mod page;
+mod questions;
+mod records;
+mod sums;
 mod telling;
 
 use crate::auditing::file_rows::rows_of_directory;
 use crate::auditing::log_rows::rows_of_log;
+use crate::auditing::records::RoomRecord;
+use crate::auditing::sums::sum_line;
 use crate::auditing::telling::tell;
-use crate::output::{Failure, flushed};
-use mx_audit::{AuditError, RoomAudit};
+use crate::output::{Failure, FailureAbout, flushed};
 use mx_directory::ProgressLine;
 use mx_ident::RoomId;
-use mx_keeper::ShardRow;
-use mx_options::{AuditOptions, AuditSource};
-use std::alloc::Global;
+use mx_options::{AuditOptions, AuditQuestion, AuditSource};
 use std::io::{BufWriter, Read, Write};
 
-/// Answers what is asked of a room. The log is read only where the events are in one. Where standard error is a terminal it
-/// tells how far it is.
-pub fn audit<R: Read, W: Write>(
+/// Answers what is asked of a room. The log is read only where the events are in one. Where all events are told, a sum of
+/// them is said on `err`. Where standard error is a terminal it tells how far it is.
+///
+/// `NoRoom` where the room is not hosted: then what was offered to it and not kept is told before. `NoEvent` where an event
+/// that is asked for is not there, `NameNeeded` where a line of the log is a request and no name was given, and `ReadOrWrite` or
+/// `Storage` with the path of a file that can't be read, or does not read as rows.
+pub fn audit<R: Read, W: Write, E: Write>(
     host: &HostRuntime,
     options: AuditOptions,
     log: &mut R,
     out: &mut W,
-) -> Result<(), Failure> {
+    err: &mut E,
+) -> Result<(), FailureAbout> {
     let AuditOptions {
         source,
         room,
@@ -31,53 +40,37 @@ pub fn audit<R: Read, W: Write>(
     } = options;
     let alloc = host.alloc();
     let mut progress = ProgressLine::new(host);
-    let rows = match source {
-        AuditSource::Log { name, shards } => rows_of_log(alloc, &name, shards, log)?,
-        AuditSource::Directory(directory) => rows_of_directory(host, &directory, &mut progress)?,
-    };
-    let audit = audit_of(alloc, &room, rows, &mut progress)?;
+    let record = record_of(host, source, &room, log, &mut progress)?;
     let mut lines = BufWriter::new(alloc, out).map_err(Failure::of_io)?;
-    tell(alloc, &room, &audit, &question, &mut lines)?;
-    flushed(&mut lines)
+    let told = tell(alloc, &room, &record, &question, &mut lines);
+    flushed(&mut lines)?;
+    if !matches!(question, AuditQuestion::OfEvents(_)) {
+        let sum = sum_line(alloc, &record)?;
+        let _ = err.write_all(sum.as_bytes());
+    }
+    told?;
+    Ok(())
 }
 
-// The audit of the events of a room among these rows.
-fn audit_of(
-    alloc: Global,
+// What is known of the room.
+fn record_of<R: Read>(
+    host: &HostRuntime,
+    source: AuditSource,
     room: &RoomId,
-    rows: Vec<ShardRow>,
+    log: &mut R,
     progress: &mut ProgressLine<'_>,
-) -> Result<RoomAudit, Failure> {
-    let mut audit = None;
-    let mut count: u64 = 0;
-    for row in rows {
-        count = count.saturating_add(1);
-        progress.tell(count, "rows judged");
-        if &row.room == room {
-            receive_row(alloc, &mut audit, row)?;
+) -> Result<RoomRecord, FailureAbout> {
+    let alloc = host.alloc();
+    match source {
+        AuditSource::Log { name, shards } => {
+            let logged = rows_of_log(alloc, name.as_ref(), shards, room, log)?;
+            let record = RoomRecord::of_log(alloc, room, logged, progress)?;
+            Ok(record)
         }
-    }
-    audit.ok_or(Failure::NoRoom)
-}
-
-// Receives the event of a row, the first of which begins the room.
-fn receive_row(alloc: Global, audit: &mut Option<RoomAudit>, row: ShardRow) -> Result<(), Failure> {
-    let id = row.event.event_id(alloc)?;
-    match audit {
-        Some(audit) => audit.receive(alloc, row.event, id).map_err(of_audit),
-        None => {
-            let begun = RoomAudit::begin(alloc, row.event, id).map_err(of_audit)?;
-            *audit = Some(begun);
-            Ok(())
+        AuditSource::Directory(directory) => {
+            let rows = rows_of_directory(host, &directory, progress)?;
+            let record = RoomRecord::of_rows(alloc, room, rows, progress)?;
+            Ok(record)
         }
-    }
-}
-
-// Rows that are no room's are no rows.
-fn of_audit(error: AuditError) -> Failure {
-    match error {
-        AuditError::Memory => Failure::Memory,
-        AuditError::NotACreateEvent => Failure::Storage,
-        AuditError::NotReceived(_) => Failure::Storage,
     }
 }

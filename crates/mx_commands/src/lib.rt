@@ -11,5 +11,7 @@ mod replaying;
 pub use auditing::audit;
 pub use checking::{CheckError, Checked, check, check_event};
 pub use logging::log;
-pub use output::{Failure, MISUSED, REFUSED, SUCCESS, lines_of, report, report_server};
+pub use output::{
+    Failure, FailureAbout, MISUSED, REFUSED, SUCCESS, lines_of, report, report_about, report_server,
+};
 pub use replaying::replay;

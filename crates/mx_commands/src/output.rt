@@ -43,6 +43,8 @@ pub enum Failure {
     SeveralRooms,
     #[error("refused: no create event")]
     NoCreateEvent,
+    #[error("refused: a line is a request, for which --name says whose server answers")]
+    NameNeeded,
 }
 
 impl Failure {
@@ -115,6 +117,59 @@ impl From<CheckError> for Failure {
     fn from(error: CheckError) -> Failure {
         Failure::Check(error)
     }
+}
+
+/// Why the program did not do what it was asked, and what that is about, where that is known.
+#[derive(Debug, Drop)]
+pub struct FailureAbout {
+    pub failure: Failure,
+    pub cause: Option<String>,
+}
+
+impl FailureAbout {
+    /// A failure at a path. Where no memory is left for the path it is left out.
+    pub(crate) fn at(alloc: Global, failure: Failure, path: &str, words: &str) -> FailureAbout {
+        let cause = format!(in alloc; "{path}: {words}").ok();
+        FailureAbout { failure, cause }
+    }
+}
+
+impl From<Failure> for FailureAbout {
+    ghost use Rattle.std.specs.Prelude.{◌≡◌};
+
+    ghost from_gives = { λ failure about. about.failure ≡ failure };
+
+    fn from(failure: Failure) -> FailureAbout {
+        FailureAbout {
+            failure,
+            cause: None,
+        }
+    }
+}
+
+impl From<AllocError> for FailureAbout {
+    ghost use Rattle.std.specs.Prelude.{◌≡◌};
+    ghost use Rattle.mx_commands.specs.declared.output.Failure.TheVariants.{Memory};
+
+    ghost from_gives = { λ _ about. about.failure ≡ Memory };
+
+    fn from(_refused: AllocError) -> FailureAbout {
+        FailureAbout {
+            failure: Failure::Memory,
+            cause: None,
+        }
+    }
+}
+
+/// Says on `err` what failed, and in a second line what that is about, where that can be written, and gives the exit status.
+pub fn report_about<E: Write>(about: FailureAbout, err: &mut E) -> u8
+    ensures { result ≡ REFUSED }
+{
+    let status = report(about.failure, err);
+    if let Some(cause) = about.cause {
+        let _ = writeln!(err, "{cause}");
+    }
+    status
 }
 
 /// Says in one line on `err` what failed, where that can be written, and gives the exit status.

@@ -7,15 +7,21 @@
 #![tactic(auto)]
 
 mod counted_input;
+mod noted_output;
 
 use counted_input::CountedInput;
-use mx_command_line::{Command, CommandLineError};
-use mx_commands::{Failure, MISUSED, SUCCESS, audit, check, log, replay, report, report_server};
+use mx_command_line::{Command, CommandLineError, Invocation};
+use mx_commands::{
+    Failure, MISUSED, REFUSED, SUCCESS, audit, check, log, replay, report, report_about,
+    report_server,
+};
 use mx_directory::{ProgressLine, migrate};
 use mx_options::{AuditOptions, MigrateOptions, ServeOptions};
 use mx_server::serve;
+use noted_output::NotedOutput;
 use std::alloc::{AllocError, AllocGlobal, Global};
 use std::env;
+use std::fs::File;
 use std::io::{self, ErrorKind, Read, Write};
 use std::net::{Net, TcpListener, TcpStream};
 use std::process::ExitCode;
@@ -37,36 +43,44 @@ pub enum Asked {
     Migrate(MigrateOptions),
 }
 
-/// Does what the words of the command line ask for, the first of which is the program's name, all but to serve, to
-/// audit and to migrate. The exit status is 0, or 1 where the input is refused, memory runs out, storage fails, or a
-/// read or a write fails, or 2 where the command line is wrong. What went wrong is said on `err`, in one line but for
-/// the command line's own text.
-pub fn main_with<R: Read, W: Write, E: Write>(
+/// What the words of the command line ask for, the first of which is the program's name, or the exit status where they ask for
+/// nothing: 1 where no memory is left, and else 2. What is wrong is said on `err`.
+pub fn invocation_of<E: Write>(
     alloc: Global,
     words: &[String],
+    err: &mut E,
+) -> Result<Invocation, u8> {
+    match mx_command_line::parse(alloc, words) {
+        Ok(invocation) => Ok(invocation),
+        Err(CommandLineError::Memory) => Err(report(Failure::Memory, err)),
+        Err(CommandLineError::Misused(text)) => {
+            let _ = err.write_all(text.as_bytes());
+            Err(MISUSED)
+        }
+    }
+}
+
+/// Does what the program is asked, all but to serve, to audit and to migrate. The exit status is 0, or 1 where the input is
+/// refused, memory runs out, storage fails, or a read or a write fails. What went wrong is said on `err`, in one line;
+/// where the reader of `out` has closed it, as `head` does, nothing is said.
+pub fn main_with<R: Read, W: Write, E: Write>(
+    alloc: Global,
+    command: Command,
     input: &mut R,
     out: &mut W,
     err: &mut E,
 ) -> Asked {
-    match mx_command_line::parse(alloc, words) {
-        Ok(Command::Check) => Asked::Ended(status_of(check(alloc, input, out), err)),
-        Ok(Command::Replay { name, shards }) => {
-            Asked::Ended(status_of(replay(alloc, &name, shards, input, out), err))
-        }
-        Ok(Command::Serve(options)) => Asked::Serve(options),
-        Ok(Command::Audit(options)) => Asked::Audit(options),
-        Ok(Command::Migrate(options)) => Asked::Migrate(options),
-        Ok(Command::Log(options)) => {
-            let ran = log(alloc, &options, input, out, err);
-            Asked::Ended(status_of(ran, err))
-        }
-        Ok(Command::Version(text)) => Asked::Ended(status_of(told(out, &text), err)),
-        Err(CommandLineError::Memory) => Asked::Ended(report(Failure::Memory, err)),
-        Err(CommandLineError::Misused(text)) => {
-            let _ = err.write_all(text.as_bytes());
-            Asked::Ended(MISUSED)
-        }
-    }
+    let mut out = NotedOutput::new(out);
+    let ran = match command {
+        Command::Check => check(alloc, input, &mut out),
+        Command::Replay { name, shards } => replay(alloc, &name, shards, input, &mut out),
+        Command::Log(options) => log(alloc, &options, input, &mut out, err),
+        Command::Version(text) => told(&mut out, &text),
+        Command::Serve(options) => return Asked::Serve(options),
+        Command::Audit(options) => return Asked::Audit(options),
+        Command::Migrate(options) => return Asked::Migrate(options),
+    };
+    Asked::Ended(status_of(ran, out.is_closed(), err))
 }
 
 // Writes a text.
@@ -75,11 +89,28 @@ fn told<W: Write>(out: &mut W, text: &str) -> Result<(), Failure> {
     out.flush().map_err(Failure::of_io)
 }
 
-// The exit status of a run that gave so.
-fn status_of<E: Write>(ran: Result<(), Failure>, err: &mut E) -> u8 {
+// The exit status of a run that gave so, and whose output is closed or not.
+fn status_of<E: Write>(ran: Result<(), Failure>, is_closed: bool, err: &mut E) -> u8 {
     match ran {
         Ok(()) => SUCCESS,
+        Err(Failure::ReadOrWrite) if is_closed => REFUSED,
         Err(failure) => report(failure, err),
+    }
+}
+
+// Audits a room, and gives the exit status.
+fn audited<R: Read, W: Write, E: Write>(
+    host: &HostRuntime,
+    options: AuditOptions,
+    log: &mut R,
+    out: &mut W,
+    err: &mut E,
+) -> u8 {
+    let mut out = NotedOutput::new(out);
+    match audit(host, options, log, &mut out, err) {
+        Ok(()) => SUCCESS,
+        Err(_) if out.is_closed() => REFUSED,
+        Err(about) => report_about(about, err),
     }
 }
 
@@ -103,7 +134,7 @@ fn words_of(rt: &HostRuntime) -> io::Result<Vec<String>> {
     Ok(words)
 }
 
-// Does what the words ask for, and gives the exit status. Where standard error is a terminal it tells how much was read.
+// Does what the words ask for, with the file that they name in place of standard input, and gives the exit status.
 fn status_by<R, I: Read, W: Write, E: Write>(
     rt: &R,
     host: &HostRuntime,
@@ -125,14 +156,59 @@ where
         + Send
         + Sync,
 {
+    let Invocation {
+        command,
+        input: file,
+    } = match invocation_of(rt.alloc(), words, err) {
+        Ok(invocation) => invocation,
+        Err(status) => return status,
+    };
+    match file {
+        None => status_with(rt, host, command, input, out, err),
+        Some(path) => match File::open(host, path.as_str()) {
+            Ok(mut file) => status_with(rt, host, command, &mut file, out, err),
+            Err(error) => unopened(&path, &error, err),
+        },
+    }
+}
+
+// Says that a file can't be opened, and gives the exit status.
+fn unopened<E: Write>(path: &str, error: &io::Error, err: &mut E) -> u8 {
+    let status = report(Failure::ReadOrWrite, err);
+    let _ = writeln!(err, "{path}: {error}");
+    status
+}
+
+// Does what the program is asked, and gives the exit status. Where standard error is a terminal it tells how much was read.
+fn status_with<R, I: Read, W: Write, E: Write>(
+    rt: &R,
+    host: &HostRuntime,
+    command: Command,
+    input: &mut I,
+    out: &mut W,
+    err: &mut E,
+) -> u8
+where
+    R: Threads
+        + Wait
+        + Clock
+        + Eprint
+        + Net<Listener = TcpListener, Stream = TcpStream>
+        + RandomSource
+        + AllocGlobal
+        + Copy
+        + Drop
+        + Send
+        + Sync,
+{
     let mut counted = CountedInput::new(input, ProgressLine::new(host));
-    match main_with(rt.alloc(), words, &mut counted, out, err) {
+    match main_with(rt.alloc(), command, &mut counted, out, err) {
         Asked::Ended(status) => status,
         Asked::Serve(options) => match serve(rt, host, options, out, err) {
             Ok(()) => SUCCESS,
             Err(error) => report_server(error, err),
         },
-        Asked::Audit(options) => status_of(audit(host, options, &mut counted, out), err),
+        Asked::Audit(options) => audited(host, options, &mut counted, out, err),
         Asked::Migrate(options) => match migrate(host, &options.data, options.shards, out) {
             Ok(()) => SUCCESS,
             Err(error) => report_server(error, err),

@@ -2,19 +2,32 @@
 use mx_ident::{EventId, RoomId, ServerName};
 use mx_keeper::ShardCount;
 
+/// What is asked of one event.
+///
+/// `Event`: its line. `StateBefore` and `StateAfter`: a line for each entry of the state before and after it. `Resolution`: how
+/// the state before it was resolved.
+#[derive(Clone, Copy, Debug, PartialEq, Eq)]
+pub enum AskedOf {
+    Event,
+    StateBefore,
+    StateAfter,
+    Resolution,
+}
+
+/// What is asked of which event.
+#[derive(Debug, Drop)]
+pub struct EventQuestion {
+    pub asked: AskedOf,
+    pub event: EventId,
+}
+
 /// What is asked of a room.
 #[derive(Debug, Drop)]
 pub enum AuditQuestion {
     // A line for each event.
     Events,
-    // The line of one event.
-    Event(EventId),
-    // A line for each entry of the state before an event.
-    StateBefore(EventId),
-    // A line for each entry of the state after an event.
-    StateAfter(EventId),
-    // How the state before an event was resolved.
-    Resolution(EventId),
+    // Of one event each, in this order.
+    OfEvents(Vec<EventQuestion>),
     // The room as a graph for Graphviz.
     Picture,
     // The room as a page for a browser.
@@ -24,12 +37,12 @@ pub enum AuditQuestion {
 /// Where the events of a room are.
 #[derive(Debug, Drop)]
 pub enum AuditSource {
-    // A log on standard input, answered by a server of this name over so many shards.
+    // A log on standard input, answered by a server of this name, if one is given, over so many shards.
     Log {
-        name: ServerName,
+        name: Option<ServerName>,
         shards: ShardCount,
     },
-    // The files of a server that is stopped, in this directory.
+    // The files of a server, in this directory.
     Directory(String),
 }
 

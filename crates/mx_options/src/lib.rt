@@ -6,7 +6,7 @@ mod logging;
 mod migrating;
 mod serving;
 
-pub use auditing::{AuditOptions, AuditQuestion, AuditSource};
+pub use auditing::{AskedOf, AuditOptions, AuditQuestion, AuditSource, EventQuestion};
 pub use logging::LogOptions;
 pub use migrating::MigrateOptions;
 pub use serving::{SeatCount, ServeOptions};

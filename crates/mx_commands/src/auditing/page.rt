@@ -1,4 +1,5 @@
 // The page of a room.
+use crate::auditing::offerings::NotKept;
 use crate::auditing::telling::{of_graph, write_bytes};
 use crate::output::Failure;
 use mx_audit::RoomAudit;
@@ -11,12 +12,12 @@ use mx_receipt::timeline_is_sound;
 use std::alloc::Global;
 use std::io::Write;
 
-/// Writes the page of a room, event by event, with these lines of events that were offered and not kept.
+/// Writes the page of a room, event by event, with what was offered to it and not kept.
 pub(crate) fn tell_page<W: Write>(
     alloc: Global,
     room: &RoomId,
     audit: &RoomAudit,
-    refused: &[Vec<u8>],
+    not_kept: &[NotKept],
     out: &mut W,
 ) -> Result<(), Failure> {
     write_pieces(out, &page_head())?;
@@ -24,7 +25,7 @@ pub(crate) fn tell_page<W: Write>(
     write_bytes(out, &start)?;
     tell_entries(alloc, audit, out)?;
     write_bytes(out, refused_start().as_bytes())?;
-    tell_refused(alloc, refused, out)?;
+    tell_not_kept(alloc, not_kept, out)?;
     write_bytes(out, data_end().as_bytes())?;
     write_pieces(out, &page_end())
 }
@@ -40,10 +41,15 @@ fn tell_entries<W: Write>(alloc: Global, audit: &RoomAudit, out: &mut W) -> Resu
     Ok(())
 }
 
-fn tell_refused<W: Write>(alloc: Global, lines: &[Vec<u8>], out: &mut W) -> Result<(), Failure> {
+fn tell_not_kept<W: Write>(
+    alloc: Global,
+    not_kept: &[NotKept],
+    out: &mut W,
+) -> Result<(), Failure> {
     let mut is_later = false;
-    for line in lines {
-        let entry = refused_entry(alloc, is_later, line)?;
+    for it in not_kept {
+        let line = it.line(alloc)?;
+        let entry = refused_entry(alloc, is_later, &line)?;
         write_bytes(out, &entry)?;
         is_later = true;
     }

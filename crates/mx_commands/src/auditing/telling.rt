@@ -1,70 +1,92 @@
 // The answers of `audit`.
-ghost use Rattle.std.specs.Prelude.{◌<◌, IfOk, length};
-
+use crate::auditing::offerings::NotKept;
 use crate::auditing::page::tell_page;
+use crate::auditing::questions::tell_answers;
+use crate::auditing::records::RoomRecord;
 use crate::output::Failure;
-use mx_audit::{
-    RoomAudit, event_line, lines_of_resolution, picture_end, picture_head, picture_lines,
-    resolution_before, state_lines,
-};
+use mx_audit::{RoomAudit, event_line, picture_end, picture_head, picture_lines};
 use mx_graph::{EventNo, GraphError};
-use mx_ident::{EventId, RoomId};
+use mx_ident::RoomId;
 use mx_options::AuditQuestion;
 use mx_receipt::timeline_is_sound;
-use mx_state_res::StateRef;
 use std::alloc::Global;
 use std::io::Write;
 
-/// Writes the answer to a question about a room.
+/// Writes the answer to a question about a room. `NoRoom` where the room is not hosted, once what was offered to it is told.
 pub(crate) fn tell<W: Write>(
     alloc: Global,
     room: &RoomId,
-    audit: &RoomAudit,
+    record: &RoomRecord,
     question: &AuditQuestion,
     out: &mut W,
 ) -> Result<(), Failure> {
+    if let AuditQuestion::OfEvents(questions) = question {
+        return tell_answers(alloc, record, questions, out);
+    }
+    let Some(audit) = &record.audit else {
+        return tell_of_no_room(alloc, record, question, out);
+    };
     match question {
-        AuditQuestion::Events => tell_events(alloc, audit, out),
-        AuditQuestion::Event(id) => {
-            let number = number_of(audit, id)?;
-            tell_event(alloc, audit, number, out)
-        }
-        AuditQuestion::StateBefore(id) => {
-            let number = number_of(audit, id)?;
-            tell_state(alloc, audit, &audit.timeline().state_before(number), out)
-        }
-        AuditQuestion::StateAfter(id) => {
-            let number = number_of(audit, id)?;
-            tell_state(alloc, audit, &audit.timeline().state_after(number), out)
-        }
-        AuditQuestion::Resolution(id) => {
-            let number = number_of(audit, id)?;
-            tell_resolution(alloc, audit, number, out)
-        }
         AuditQuestion::Picture => tell_picture(alloc, audit, out),
-        AuditQuestion::Page => tell_page(alloc, room, audit, &[], out),
+        AuditQuestion::Page => tell_page(alloc, room, audit, &record.not_kept, out),
+        _ => tell_events(alloc, audit, &record.not_kept, out),
     }
 }
 
-// The number of the event with this id.
-fn number_of(audit: &RoomAudit, id: &EventId) -> Result<EventNo, Failure>
-    ensures { IfOk result (λ number. number < length audit.now) }
-{
-    match audit.timeline().find(id) {
-        Some(number) => Ok(number),
-        None => Err(Failure::NoEvent),
+// Of a room that is not hosted there is neither a picture nor a page.
+fn tell_of_no_room<W: Write>(
+    alloc: Global,
+    record: &RoomRecord,
+    question: &AuditQuestion,
+    out: &mut W,
+) -> Result<(), Failure> {
+    if matches!(question, AuditQuestion::Events) {
+        tell_refused(alloc, &record.not_kept, out)?;
     }
+    Err(Failure::NoRoom)
 }
 
-fn tell_events<W: Write>(alloc: Global, audit: &RoomAudit, out: &mut W) -> Result<(), Failure> {
+// All events in order of arrival, with what was offered between them and not kept.
+fn tell_events<W: Write>(
+    alloc: Global,
+    audit: &RoomAudit,
+    not_kept: &[NotKept],
+    out: &mut W,
+) -> Result<(), Failure> {
     timeline_is_sound(audit.timeline());
+    let mut left = not_kept;
     for number in 0..audit.timeline().len() {
+        let (now, later) = parted(left, number);
+        tell_refused(alloc, now, out)?;
+        left = later;
         tell_event(alloc, audit, EventNo::at(number as u32), out)?;
+    }
+    tell_refused(alloc, left, out)
+}
+
+// Those that were offered when the room had at most so many events, and the others. They are in order of arrival.
+fn parted(not_kept: &[NotKept], after: usize) -> (&[NotKept], &[NotKept]) {
+    let place = not_kept.partition_point(|it| it.after() <= after);
+    match not_kept.split_at_checked(place) {
+        Some(parts) => parts,
+        None => (not_kept, &[]),
+    }
+}
+
+/// Writes a line for each of what was not kept.
+pub(crate) fn tell_refused<W: Write>(
+    alloc: Global,
+    not_kept: &[NotKept],
+    out: &mut W,
+) -> Result<(), Failure> {
+    for it in not_kept {
+        write_bytes(out, &it.line(alloc)?)?;
     }
     Ok(())
 }
 
-fn tell_event<W: Write>(
+/// Writes the line of an event.
+pub(crate) fn tell_event<W: Write>(
     alloc: Global,
     audit: &RoomAudit,
     number: EventNo,
@@ -74,29 +96,6 @@ fn tell_event<W: Write>(
         Some(line) => write_bytes(out, &line),
         None => Ok(()),
     }
-}
-
-fn tell_state<W: Write>(
-    alloc: Global,
-    audit: &RoomAudit,
-    state: &StateRef<'_>,
-    out: &mut W,
-) -> Result<(), Failure> {
-    let lines = state_lines(alloc, audit.timeline(), state)?;
-    write_bytes(out, &lines)
-}
-
-fn tell_resolution<W: Write>(
-    alloc: Global,
-    audit: &RoomAudit,
-    number: EventNo,
-    out: &mut W,
-) -> Result<(), Failure>
-    requires { number < length audit.now }
-{
-    let steps = resolution_before(alloc, audit.timeline(), number).map_err(of_graph)?;
-    let lines = lines_of_resolution(alloc, audit.timeline(), &steps)?;
-    write_bytes(out, &lines)
 }
 
 // Events that make no graph are no room's.
