@@ -1,5 +1,5 @@
 -- What each step of reading a log gives.
-use Rattle.std.proofs.Common.{◌≡◌, ◌∙◌, ℕ, suc, ◌+◌, ◌-◌, ◌*◌, ◌==◌, Bool, not, ◌&&◌, ◌||◌, List, take, drop, ap, ap₂, arith}
+use Rattle.std.proofs.Common.{◌≡◌, ◌∙◌, ℕ, suc, ◌+◌, ◌-◌, ◌==◌, Bool, not, ◌&&◌, ◌||◌, List, take, drop, ap, ap₂, arith}
 use Rattle.sqlite_wal.specs.Format.{part, be32, stored_sum, checksum, count_page}
 use Rattle.mx_directory.specs.LogDamage.{same_sum, has_head, frame_at, frame_sum, sum_before, is_whole_at, is_whole, fails_within, begins_behind}
 

@@ -1,5 +1,5 @@
 -- SQLite's write-ahead log as bytes, and where it is damaged: https://www.sqlite.org/fileformat2.html#walformat
-use Rattle.std.specs.Prelude.{ℕ, zero, suc, ◌+◌, ◌-◌, ◌*◌, ◌/◌, ◌==◌, nat_lt, Bool, true, false, not, ◌&&◌, ◌||◌, if◌then◌else◌, List, length, slice_index}
+use Rattle.std.specs.Prelude.{ℕ, zero, suc, ◌+◌, ◌-◌, ◌*◌, ◌/◌, ◌==◌, nat_lt, Bool, false, not, ◌&&◌, ◌||◌, if◌then◌else◌, List, length, slice_index}
 use Rattle.sqlite_wal.specs.Format.{part, be32, stored_sum, checksum, count_page}
 
 -- the head's magic number says that checksums read words with the highest byte first

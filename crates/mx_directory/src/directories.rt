@@ -1,6 +1,7 @@
 // The files of a server: its rows, in a directory.
-ghost use Rattle.std.specs.Prelude.{◌≡◌, ◌≤◌, ◌+◌, IfOk, OnOk, length};
+ghost use Rattle.std.specs.Prelude.{◌≡◌, ◌≤◌, ◌<◌, ◌+◌, ◌^◌, IfOk, OnOk, length};
 
+use crate::batches::FirstFiles;
 use crate::errors::{ServerError, StartError};
 use crate::losses::{Losses, check_log};
 use crate::presence::{
@@ -8,14 +9,14 @@ use crate::presence::{
 };
 use crate::progress_lines::ProgressLine;
 use crate::row_files::RowFile;
-use crate::row_openings::{FileRows, count_of_rows, noting_file_at, opened_at};
+use crate::row_openings::{FileRows, NotingFile, count_of_rows, noting_file_at, opened_at};
 use crate::server_file::{check_name, check_shards, make_server_file, server_file};
-use mx_keeper::{BookRow, FailureNote, MOST_PLACES, ShardCount, ShardRow, TableRow};
+use mx_keeper::{BookRow, MOST_PLACES, ShardCount, ShardRow, TableRow};
 use std::alloc::{AllocError, Global};
 use std::fs::DirBuilder;
 use std::io::Write;
 use std::os::unix::fs::DirBuilderExt;
-use std::sync::Arc;
+use std::thread::{self, Threads};
 
 // Who may look at a directory of rows: its owner, who may change it too.
 const OWNER_ALONE: u32 = 0o700;
@@ -50,7 +51,8 @@ struct OpenedSoFar<'a> {
 /// or not be looked at, and `Memory` where no memory is left. After an error the rows are as before; files without a row may
 /// have been made. Where standard error is a terminal, it is told each second how many files are opened, and at the end that
 /// all are.
-pub fn open_directory(
+pub fn open_directory<T: Threads + Sync>(
+    rt: &T,
     host: &HostRuntime,
     directory: &str,
     name: &str,
@@ -66,7 +68,7 @@ pub fn open_directory(
     make_directory(host, directory)?;
     let mut losses = Losses::new(host.alloc(), accepts_loss);
     check_directory(host, directory, name, count, &mut losses)?;
-    opened_files(host, directory, count, losses)
+    opened_files(rt, host, directory, count, losses)
 }
 
 // Looks at what a directory was made for, at the logs of its files, and at which files it has. Its file `server.json` is
@@ -121,7 +123,8 @@ fn check_logs(
 }
 
 // Opens the files of a directory.
-fn opened_files(
+fn opened_files<T: Threads + Sync>(
+    rt: &T,
     host: &HostRuntime,
     directory: &str,
     count: usize,
@@ -135,8 +138,17 @@ fn opened_files(
         files: Vec::new(host.alloc()),
         progress: ProgressLine::new(host),
     };
-    let shards = keepers(host, directory, "shard", count, &mut opened)?;
-    let books = keepers(host, directory, "book", count, &mut opened)?;
+    let shards = FirstFiles {
+        directory,
+        kind: "shard",
+        count,
+    };
+    let books = FirstFiles {
+        kind: "book",
+        ..shards
+    };
+    let shards = keepers(rt, host, shards, &mut opened)?;
+    let books = keepers(rt, host, books, &mut opened)?;
     let OpenedSoFar {
         is_moved,
         files,
@@ -159,7 +171,8 @@ fn opened_files(
 /// read, where one is empty beside one with rows, where there are more, and where SQLite's log beside one is damaged; it is then as it was.
 /// `ReadOrWrite` where the directory can't be looked at, or the telling not be written, and `Memory` where no memory is
 /// left.
-pub fn migrate<W: Write>(
+pub fn migrate<T: Threads + Sync, W: Write>(
+    rt: &T,
     host: &HostRuntime,
     directory: &str,
     shards: ShardCount,
@@ -167,15 +180,28 @@ pub fn migrate<W: Write>(
 ) -> Result<(), StartError> {
     let count = shards.get();
     check_shard_files(host, directory, count)?;
+    let paths = FirstFiles {
+        directory,
+        kind: "shard",
+        count,
+    };
     let mut progress = ProgressLine::new(host);
-    for number in 0..count {
-        let path = path_of(host.alloc(), directory, "shard", number)?;
-        let opened = opened_at::<ShardRow>(host, &path)?;
-        progress.tell(number as u64 + 1, "files opened");
-        let rows = count_of_rows(host, &path, opened.keeper)?;
-        tell_rows(host.alloc(), number, rows, out)?;
+    let mut told = 0;
+    while told < count {
+        let batch = paths.batch(host.alloc(), told)?;
+        let counts = thread::map_vec(rt, batch, &|path: String| moved_rows(host, &path))?;
+        let first = told;
+        told += counts.len();
+        tell_counts(host.alloc(), first, counts, out)?;
+        progress.tell(told as u64, "files opened");
     }
     Ok(())
+}
+
+// How many rows the file of a shard has, once it is brought to the current layout.
+fn moved_rows(host: &HostRuntime, path: &str) -> Result<usize, StartError> {
+    let opened = opened_at::<ShardRow>(host, path)?;
+    count_of_rows(host, path, opened.keeper)
 }
 
 // `Storage` where a directory was made for another number of shards, lacks the file of one, or has a damaged log beside one.
@@ -193,6 +219,23 @@ fn check_shard_files(host: &HostRuntime, directory: &str, count: usize) -> Resul
 fn check_shard_logs(host: &HostRuntime, directory: &str, count: usize) -> Result<(), StartError> {
     let mut losses = Losses::new(host.alloc(), false);
     check_logs(host, directory, "shard", count, &mut losses)
+}
+
+// Tells how many rows each of some shards has, from the first one that can't be opened on nothing.
+fn tell_counts<W: Write>(
+    alloc: Global,
+    first: usize,
+    counts: Vec<Result<usize, StartError>>,
+    out: &mut W,
+) -> Result<(), StartError>
+    requires { first + length counts.items < 2 ^ 64 }
+{
+    let mut number = first;
+    for rows in counts {
+        tell_rows(alloc, number, rows?, out)?;
+        number += 1;
+    }
+    Ok(())
 }
 
 // Tells how many rows a shard has.
@@ -218,29 +261,43 @@ fn make_directory(host: &HostRuntime, directory: &str) -> Result<(), StartError>
     }
 }
 
-// The rows of the first files of a kind, each of which is added to those that were opened so far.
-fn keepers<R: TableRow>(
+// The rows of the first files of a kind, each of which is added to those that were opened so far. A few are opened at
+// once; where one can't be, the first of them tells why.
+fn keepers<T: Threads + Sync, R: TableRow + Send>(
+    rt: &T,
     host: &HostRuntime,
-    directory: &str,
-    kind: &str,
-    count: usize,
+    paths: FirstFiles<'_>,
     so_far: &mut OpenedSoFar<'_>,
 ) -> Result<Vec<FileRows<R>>, StartError>
-    ensures { IfOk result (λ keepers. length keepers.items ≡ count) }
+    ensures { IfOk result (λ keepers. length keepers.items ≡ paths.entry.count) }
 {
     let mut keepers = Vec::new(host.alloc());
-    for number in 0..count {
-        let path = path_of(host.alloc(), directory, kind, number)?;
-        let note = Arc::new(host.alloc(), FailureNote::new(host.alloc()))?;
-        let opened = noting_file_at(host, &path, &note)?;
-        so_far.is_moved |= opened.is_moved;
-        so_far.files.push(RowFile::new(path, note))?;
+    while keepers.len() < paths.count {
+        let batch = paths.batch(host.alloc(), keepers.len())?;
+        let opened = thread::map_vec(rt, batch, &|path: String| noting_file_at::<R>(host, path))?;
+        take(opened, &mut keepers, so_far)?;
         so_far
             .progress
             .tell(so_far.files.len() as u64, "files opened");
-        push(&mut keepers, opened.keeper)?;
     }
     Ok(keepers)
+}
+
+// Adds files that were opened to those before them, in their order.
+fn take<R: TableRow>(
+    opened: Vec<Result<NotingFile<R>, StartError>>,
+    keepers: &mut Vec<FileRows<R>>,
+    so_far: &mut OpenedSoFar<'_>,
+) -> Result<(), StartError>
+    ensures { OnOk result (length keepers.new.items ≡ length keepers.old.items + length opened.items) }
+{
+    for found in opened {
+        let NotingFile { opened, file } = found?;
+        so_far.is_moved |= opened.is_moved;
+        so_far.files.push(file)?;
+        push(keepers, opened.keeper)?;
+    }
+    Ok(())
 }
 
 fn push<K: Drop>(keepers: &mut Vec<K>, keeper: K) -> Result<(), StartError>

@@ -1,14 +1,22 @@
 // The rows of a file, opened.
+ghost use Rattle.std.specs.Prelude.{◌≡◌, IfOk};
 
 use crate::errors::{ServerError, StartError};
+use crate::new_files::make_file;
+use crate::opened_names::OpenedName;
+use crate::row_files::RowFile;
 use mx_keeper::{FailureNote, Keeper, KeeperFault, SqliteKeeper, TableRow};
-use sqlite::{Alter, Connection, Error, ErrorCode, File, FileStore};
-use std::fs::{self, OpenOptions};
-use std::os::unix::fs::OpenOptionsExt;
+use sqlite::{Alter, Connection, Error, ErrorCode, File, FileStore, Options, Unknown};
+use sqlite_std_file::OpenError;
+use std::alloc::Global;
+use std::fs;
+use std::hash::{BuildHasher, RandomState};
+use std::io::ErrorKind;
 use std::sync::Arc;
 
-// Who may read and write a file of rows: its owner. SQLite's log beside it gets the same.
-const OWNER_READS_AND_WRITES: u32 = 0o600;
+// How many pages of 4,096 bytes SQLite keeps of a file in memory, which it takes as it opens the file. A row that is added
+// reads the pages from the table's root to its end, and those of an index.
+const CACHED_PAGES: usize = 64;
 
 // A log of so many bytes at most has nothing: it is cut to so many once it is copied.
 const LENGTH_OF_EMPTY_LOG: u64 = 41;
@@ -23,16 +31,36 @@ pub(crate) struct OpenedFile<R: TableRow> {
     pub(crate) is_moved: bool,
 }
 
-/// The rows of a file, whose keeper notes its failure here.
+/// Rows of one kind in a file, and what is told where it fails.
+#[derive(Drop)]
+pub(crate) struct NotingFile<R: TableRow> {
+    pub(crate) opened: OpenedFile<R>,
+    pub(crate) file: RowFile,
+}
+
+/// The rows of a file, which is made where it is not there, and what its keeper notes where it fails.
 pub(crate) fn noting_file_at<R: TableRow>(
     host: &HostRuntime,
-    path: &str,
-    note: &Arc<FailureNote>,
-) -> Result<OpenedFile<R>, StartError> {
-    let OpenedFile { keeper, is_moved } = file_at(host, path)?;
-    let mut keeper = keeper;
-    keeper.note_failures_in(Arc::try_clone(note)?);
-    Ok(OpenedFile { keeper, is_moved })
+    path: String,
+) -> Result<NotingFile<R>, StartError> {
+    let note = Arc::new(host.alloc(), FailureNote::new(host.alloc()))?;
+    let mut opened = file_at(host, &path)?;
+    opened.keeper.note_failures_in(Arc::try_clone(&note)?);
+    let file = row_file(host, path, note)?;
+    Ok(NotingFile { opened, file })
+}
+
+// A file that is open, under its name, and SQLite's log beside it.
+fn row_file(
+    host: &HostRuntime,
+    path: String,
+    note: Arc<FailureNote>,
+) -> Result<RowFile, StartError> {
+    let log = format!(in host.alloc(); "{path}-wal")?;
+    match OpenedName::new(host, path) {
+        Ok(rows) => Ok(RowFile::new(rows, OpenedName::new(host, log).ok(), note)),
+        Err((error, path)) => Err(StartError::of_storage(host.alloc(), &path, &error)),
+    }
 }
 
 /// Whether a file has rows.
@@ -68,19 +96,9 @@ fn unread(host: &HostRuntime, path: &str, fault: KeeperFault) -> StartError {
     )
 }
 
-// Makes a file, where it is not there, for its owner alone. Where it can't be made, opening it tells why.
-fn make_file(host: &HostRuntime, path: &str) {
-    let mut maker = OpenOptions::new();
-    maker
-        .write(true)
-        .create_new(true)
-        .mode(OWNER_READS_AND_WRITES);
-    let _made = maker.open(host, path);
-}
-
 // The rows of a file, which is made where it is not there.
 fn file_at<R: TableRow>(host: &HostRuntime, path: &str) -> Result<OpenedFile<R>, StartError> {
-    make_file(host, path);
+    make_file::<R>(host, path);
     opened_at(host, path)
 }
 
@@ -121,9 +139,27 @@ fn connection_at(
     host: &HostRuntime,
     path: &str,
 ) -> Result<Connection<FileStore<File>>, StartError> {
-    match Connection::open_with_sums(host, path) {
+    let files = match sqlite_std_file::open(host, path, Unknown) {
+        Ok(files) => files,
+        Err(error) => return Err(no_file(host, path, error)),
+    };
+    let options = options(host, path)?;
+    match Connection::open_files_with(host.alloc(), files, options, true) {
         Ok(connection) => Ok(connection),
-        Err(error) => Err(unopened(host, path, &error)),
+        Err((error, _files)) => Err(unopened(host, path, &error)),
+    }
+}
+
+// How a file is opened: the usual options, with few pages in memory.
+fn options(host: &HostRuntime, path: &str) -> Result<Options, StartError>
+    ensures { IfOk result (λ options. options.cache_pages ≡ CACHED_PAGES) }
+{
+    match RandomState::new(host) {
+        Ok(random) => Ok(Options {
+            cache_pages: CACHED_PAGES,
+            ..Options::new(random.hash_one(&0u8))
+        }),
+        Err(error) => Err(StartError::of_storage(host.alloc(), path, &error)),
     }
 }
 
@@ -138,7 +174,27 @@ fn adopted<S: Alter + Drop, R: TableRow>(
     }
 }
 
-// A file that can't be opened.
+// A file that the system does not open, or that is in use. Behind SQLite's words stand the system's.
+fn no_file(host: &HostRuntime, path: &str, error: OpenError) -> StartError {
+    let code = match error {
+        OpenError::OutOfMemory => ErrorCode::OutOfMemory,
+        OpenError::Io(error) if error.kind() == ErrorKind::OutOfMemory => ErrorCode::OutOfMemory,
+        OpenError::Busy => ErrorCode::DatabaseBusy,
+        _ => return not_opened(host.alloc(), path, &error),
+    };
+    unopened(host, path, &Error::SqliteFailure(code))
+}
+
+// A file that the system does not open, and why.
+fn not_opened(alloc: Global, path: &str, why: &OpenError) -> StartError {
+    let words = Error::SqliteFailure(ErrorCode::CannotOpen);
+    StartError {
+        error: ServerError::Storage,
+        cause: format!(in alloc; "{path}: {words}: {why}").ok(),
+    }
+}
+
+// A database that can't be opened.
 fn unopened(host: &HostRuntime, path: &str, error: &Error) -> StartError {
     let kind = match error {
         Error::SqliteFailure(ErrorCode::OutOfMemory) => ServerError::Memory,

@@ -2,13 +2,10 @@
 
 use crate::errors::{ServerError, StartError};
 use crate::made_for::{MadeFor, NotMadeFor, made_line};
+use crate::whole_files::write_whole;
 use std::alloc::Global;
-use std::fs::{self, OpenOptions};
-use std::io::{self, ErrorKind, Write};
-use std::os::unix::fs::OpenOptionsExt;
-
-// Who may read and write the file: its owner.
-const OWNER_READS_AND_WRITES: u32 = 0o600;
+use std::fs;
+use std::io::ErrorKind;
 
 /// What the file of a directory says that it was made for; none where it is not there.
 ///
@@ -81,20 +78,10 @@ pub(crate) fn make_server_file(
     let line = made_line(alloc, name, shards as u64)?;
     let path = path_in(alloc, directory)?;
     let new = format!(in alloc; "{path}.new")?;
-    match write_whole(host, &new, &path, &line) {
+    match write_whole(host, &new, &path, line.as_bytes()) {
         Ok(()) => Ok(()),
         Err(error) => Err(StartError::of_storage(alloc, &path, &error)),
     }
-}
-
-fn write_whole(host: &HostRuntime, new: &str, path: &str, line: &str) -> io::Result<()> {
-    let mut maker = OpenOptions::new();
-    maker.write(true).create(true).truncate(true);
-    maker.mode(OWNER_READS_AND_WRITES);
-    let mut file = maker.open(host, new)?;
-    file.write_all(line.as_bytes())?;
-    file.sync_all()?;
-    fs::rename(host, new, path)
 }
 
 fn path_in(alloc: Global, directory: &str) -> Result<String, StartError> {

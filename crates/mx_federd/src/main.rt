@@ -209,7 +209,7 @@ where
             Err(error) => report_server(error, err),
         },
         Asked::Audit(options) => audited(host, options, &mut counted, out, err),
-        Asked::Migrate(options) => match migrate(host, &options.data, options.shards, out) {
+        Asked::Migrate(options) => match migrate(rt, host, &options.data, options.shards, out) {
             Ok(()) => SUCCESS,
             Err(error) => report_server(error, err),
         },

@@ -41,7 +41,7 @@ pub fn serve<R: ServerRuntime, W: Write, E: Write>(
     out: &mut W,
     err: &mut E,
 ) -> Result<(), StartError> {
-    let (files, rooms) = rows_and_rooms(host, &options)?;
+    let (files, rooms) = rows_and_rooms(rt, host, &options)?;
     let ServerFiles {
         shards,
         books,
@@ -69,7 +69,8 @@ fn tell_losses<E: Write>(losses: &[String], err: &mut E) {
 }
 
 // The files of the server's directory, and the bytes of its file of rooms.
-fn rows_and_rooms(
+fn rows_and_rooms<R: ServerRuntime>(
+    rt: &R,
     host: &HostRuntime,
     options: &ServeOptions,
 ) -> Result<(ServerFiles, Vec<u8>), StartError>
@@ -80,7 +81,14 @@ fn rows_and_rooms(
 {
     let name = options.name.as_str();
     let is_accepted = options.accept_loss;
-    let files = open_directory(host, &options.data, name, options.shards, is_accepted)?;
+    let files = open_directory(
+        rt,
+        host,
+        &options.data,
+        name,
+        options.shards,
+        is_accepted,
+    )?;
     let rooms = rooms_to_host(host, options)?;
     Ok((files, rooms))
 }

@@ -1,6 +1,6 @@
-use Rattle.std.proofs.Common.{◌≡◌, ◌∙◌, ◌+◌, ◌-◌, ◌*◌, ◌/◌, length, refl, sym, ap, add-one, arith}
+use Rattle.std.proofs.Common.{◌∙◌, ◌+◌, ◌*◌, refl, sym, ap, add-one}
 use Rattle.sqlite_wal.specs.Format.{stored_sum}
-use Rattle.mx_directory.specs.LogDamage.{sum_before, fails_within, begins_behind, frame_at}
+use Rattle.mx_directory.specs.LogDamage.{sum_before, fails_within, begins_behind}
 use Rattle.mx_directory.proofs.LogDamageLemmas.{whole_is, fails_step, begins_step}
 use Rattle.mx_directory.proofs.log_damage.begins_behind_failed.Goals as goal
 
