@@ -1,0 +1,93 @@
+#!/usr/bin/env python3
+"""How `mx_federd serve` opens its files: many at once, those that the system does not open, and those that lose their names
+while it runs."""
+
+import os
+import shutil
+import stat
+import sys
+import time
+from pathlib import Path
+
+from suite import run_tests
+from running_server import SECONDS, Refused, Server, is_refused, memory_of, refusal, serving
+
+# How long a start over 64 shards without rows may take on a busy machine.
+EMPTY_SHARDS_SECONDS = 4
+# How long a server runs whose files have lost their names. It looks each second.
+SECONDS_TO_BE_TOLD = 4
+# The user that has nothing.
+NOBODY = 65_534
+
+
+def empty_shards(folder: Path) -> None:
+    """64 shards without rows are made, and opened again, each within seconds and 60 MB. The directory has nothing but its
+    files, and is as a start over one shard after another leaves it."""
+    data, names = folder / "many", {"server.json"}
+    names |= {"%s-%d.db%s" % (kind, number, end) for kind in ("shard", "book") for number in range(64) for end in ("", "-wal")}
+    for _ in range(2):
+        begun = time.monotonic()
+        with serving(data, "--shards", "64") as server:
+            seconds, kilobytes = time.monotonic() - begun, memory_of(server.process)
+        print("64 shards without rows: %.2f seconds, %d KB" % (seconds, kilobytes))
+        assert kilobytes < 60_000, kilobytes
+        assert seconds < EMPTY_SHARDS_SECONDS, seconds
+        assert {it.name for it in data.iterdir()} == names
+        assert all(stat.S_IMODE(os.stat(it).st_mode) == 0o600 for it in data.iterdir())
+
+
+def first_of_the_failing_files(folder: Path) -> None:
+    """Of several files that can't be opened, the first one by its number is told, shards before books."""
+    data = folder / "failing"
+    assert refusal(data, "--shards", "12") is None
+    for names in (("book-2.db", "book-11.db"), ("shard-9.db", "shard-10.db"), ("shard-3.db", "shard-4.db")):
+        for name in names:
+            (data / name).write_bytes(b"no database")
+        for _ in range(3):
+            assert is_refused(refusal(data, "--shards", "12"), b"storage", bytes(data / names[0]) + b": "), names
+
+
+def words_of_the_system(folder: Path) -> None:
+    """A file that the system does not open is told with the system's words behind SQLite's."""
+    data, whole = folder / "words", folder / "whole"
+    assert refusal(whole) is None
+    shutil.copytree(whole, data)
+    os.link(data / "shard-0.db", data / "other")
+    told = b"storage\n" + bytes(data / "shard-0.db") + b": unable to open database file: "
+    assert refusal(data) == (1, told + b"unsupported\n")
+    (data / "other").unlink()
+    # Owned by another, who may only read it. Root may write it all the same.
+    (data / "shard-0.db").chmod(0o400)
+    how: dict[str, object] = {}
+    if os.getuid() == 0:
+        how = {"user": NOBODY, "group": NOBODY, "extra_groups": []}
+        for path in (folder, data, *data.iterdir()):
+            os.chown(path, NOBODY, NOBODY)
+    try:
+        Server(data, **how).stop()
+        raise AssertionError("a file that can't be written was opened")
+    except Refused as refused:
+        assert refused.args == (1, told + b"Permission denied (os error 13)\n"), refused.args
+
+
+def files_that_lose_their_names(folder: Path) -> None:
+    """A file, or a log, that is renamed, removed or replaced under a running server is told within seconds, once,
+    and nothing else is."""
+    for number, name in enumerate(("shard-0.db", "shard-0.db-wal", "book-1.db")):
+        data = folder / str(number)
+        with serving(data, "--shards", "2") as server:
+            os.rename(data / name, folder / name)
+            if number == 2:
+                shutil.copy(folder / name, data / name)
+            time.sleep(SECONDS_TO_BE_TOLD)
+            server.process.terminate()
+            server.process.wait(SECONDS)
+            said = [line for line in server.process.stderr.read().splitlines() if not line.startswith(b"serving ")]
+        told = b"storage: " + bytes(data / name) + b": it was removed, renamed or replaced"
+        assert len(said) == 1 and said[0].startswith(told), said
+
+
+TESTS = [empty_shards, first_of_the_failing_files, words_of_the_system, files_that_lose_their_names]
+
+if __name__ == "__main__":
+    sys.exit(run_tests(TESTS, "opened files"))
