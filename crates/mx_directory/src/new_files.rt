@@ -1,6 +1,5 @@
 // New files of rows.
 
-use crate::errors::StartError;
 use crate::row_openings::has_log;
 use crate::whole_files::{OWNER_READS_AND_WRITES, write_whole};
 use mx_keeper::{SqliteKeeper, TableRow};
@@ -22,9 +21,9 @@ pub(crate) fn make_file<R: TableRow>(host: &HostRuntime, path: &str) {
     }
 }
 
-// Whether a file is not there or is empty, and has no log.
+// Whether a file is not there or is empty, and has no log. A link is neither.
 fn is_without_content(host: &HostRuntime, path: &str) -> bool {
-    let is_blank = match fs::metadata(host, path) {
+    let is_blank = match fs::symlink_metadata(host, path) {
         Ok(about) => about.len() == 0,
         Err(error) => error.kind() == ErrorKind::NotFound,
     };
