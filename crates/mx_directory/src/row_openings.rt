@@ -16,7 +16,7 @@ use std::sync::Arc;
 
 // How many pages of 4,096 bytes SQLite keeps of a file in memory, which it takes as it opens the file. A row that is added
 // reads the pages from the table's root to its end, and those of an index.
-const CACHED_PAGES: usize = 64;
+const CACHED_PAGES: usize = 32;
 
 // A log of so many bytes at most has nothing: it is cut to so many once it is copied.
 const LENGTH_OF_EMPTY_LOG: u64 = 41;
