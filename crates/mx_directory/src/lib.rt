@@ -8,7 +8,6 @@ mod log_damage;
 mod losses;
 mod made_for;
 mod new_files;
-mod opened_names;
 mod presence;
 mod progress_lines;
 mod row_files;

@@ -3,7 +3,6 @@ ghost use Rattle.std.specs.Prelude.{◌≡◌, IfOk};
 
 use crate::errors::{ServerError, StartError};
 use crate::new_files::make_file;
-use crate::opened_names::OpenedName;
 use crate::row_files::RowFile;
 use mx_keeper::{FailureNote, Keeper, KeeperFault, SqliteKeeper, TableRow};
 use sqlite::{Alter, Connection, Error, ErrorCode, File, FileStore, Options, Unknown};
@@ -46,21 +45,8 @@ pub(crate) fn noting_file_at<R: TableRow>(
     let note = Arc::new(host.alloc(), FailureNote::new(host.alloc()))?;
     let mut opened = file_at(host, &path)?;
     opened.keeper.note_failures_in(Arc::try_clone(&note)?);
-    let file = row_file(host, path, note)?;
+    let file = RowFile::new(path, note);
     Ok(NotingFile { opened, file })
-}
-
-// A file that is open, under its name, and SQLite's log beside it.
-fn row_file(
-    host: &HostRuntime,
-    path: String,
-    note: Arc<FailureNote>,
-) -> Result<RowFile, StartError> {
-    let log = format!(in host.alloc(); "{path}-wal")?;
-    match OpenedName::new(host, path) {
-        Ok(rows) => Ok(RowFile::new(rows, OpenedName::new(host, log).ok(), note)),
-        Err((error, path)) => Err(StartError::of_storage(host.alloc(), &path, &error)),
-    }
 }
 
 /// Whether a file has rows.
