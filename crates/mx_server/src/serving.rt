@@ -81,14 +81,7 @@ fn rows_and_rooms<R: ServerRuntime>(
 {
     let name = options.name.as_str();
     let is_accepted = options.accept_loss;
-    let files = open_directory(
-        rt,
-        host,
-        &options.data,
-        name,
-        options.shards,
-        is_accepted,
-    )?;
+    let files = open_directory(rt, host, &options.data, name, options.shards, is_accepted)?;
     let rooms = rooms_to_host(host, options)?;
     Ok((files, rooms))
 }
