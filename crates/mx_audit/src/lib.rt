@@ -29,6 +29,6 @@ pub use explaining::Explanation;
 pub use laws::{deciding_check_makes_the_verdict, steps_make_the_state};
 pub use pictures::{picture_end, picture_head, picture_lines};
 pub use resolution_lines::lines_of_resolution;
-pub use resolutions::resolution_before;
+pub use resolutions::{resolution_before, room_graph};
 pub use room_audits::RoomAudit;
 pub use steps::{ResolutionStep, ResolutionSteps, resolution_steps};

@@ -13,34 +13,32 @@ use mx_receipt::{Timeline, timeline_is_sound};
 use mx_state_res::StateMap;
 use std::alloc::{AllocError, Global};
 
-/// How the state before the event with this number was resolved: the states after its prev events, each once, rising.
+/// How the state before the event with this number was resolved: the states after its prev events, each once, rising. The
+/// graph is that of the room's events, as [`room_graph`] makes it.
 ///
-/// `Memory` where no memory is left. `NotAdded` would say that the room's events make no graph, which those of a room
-/// that took each of them do. The time is that of a copy of the graph, and of [`resolution_steps`].
+/// The one error is that no memory is left. The time is that of [`resolution_steps`], and of a copy of the states.
 ///
 /// Source: the Matrix specification, Room Version 2, "State resolution".
 pub fn resolution_before(
     alloc: Global,
     timeline: &Timeline,
+    graph: &Graph,
     number: EventNo,
-) -> Result<ResolutionSteps, GraphError>
-    requires { number < length timeline.now.kept }
+) -> Result<ResolutionSteps, AllocError>
+    requires below { number < length timeline.now.kept }
+    requires graph { graph.now ≡ rows_of timeline.now.kept }
     ensures conflicted { IfOk result (λ steps. steps.conflicted.items
         ≡ definition.conflicted_entries (states_before timeline.now.kept number)) }
     ensures power { IfOk result (λ steps. steps.power.items ≡ definition.power_steps
         (version_in (rows_of timeline.now.kept)) (rows_of timeline.now.kept) (states_before timeline.now.kept number)) }
     ensures others { IfOk result (λ steps. steps.others.items ≡ definition.other_steps
         (version_in (rows_of timeline.now.kept)) (rows_of timeline.now.kept) (states_before timeline.now.kept number)) }
-    ensures refused { (cause : Cause) → IsErrOf result (GraphError.NotAdded cause)
-        → (p : ℕ) × (p < length timeline.now.kept)
-        × (add_error (take p (rows_of timeline.now.kept)) (row_at (rows_of timeline.now.kept) p) ≡ Some cause) }
 {
     timeline_is_sound(timeline);
-    let graph = graph_of(alloc, timeline)?;
     let prev_events = rising(alloc, timeline.prev_events(number))?;
     let states = states_after(alloc, timeline, &prev_events)?;
     let borrowed = borrowed_of(alloc, &states)?;
-    let steps = resolution_steps(timeline.version(), alloc, &graph, &borrowed)?;
+    let steps = resolution_steps(timeline.version(), alloc, graph, &borrowed)?;
     Ok(steps)
 }
 
@@ -70,8 +68,11 @@ fn borrowed_of(alloc: Global, states: &[StateMap]) -> Result<Vec<&StateMap>, All
     Ok(borrowed)
 }
 
-// The events of a room as a graph.
-fn graph_of(alloc: Global, timeline: &Timeline) -> Result<Graph, GraphError>
+/// The events of a room as a graph.
+///
+/// `Memory` where no memory is left. `NotAdded` would say that they make none, which those of a room that took each of them
+/// do. The time is that of a copy of the events.
+pub fn room_graph(alloc: Global, timeline: &Timeline) -> Result<Graph, GraphError>
     ensures graph { IfOk result (λ graph. graph ≡ rows_of timeline.now.kept) }
     ensures refused { (cause : Cause) → IsErrOf result (GraphError.NotAdded cause)
         → (p : ℕ) × (p < length timeline.now.kept)

@@ -1,8 +1,5 @@
 // The entries of a page's data, event by event.
-ghost use Rattle.std.specs.Prelude.{◌≡◌, ◌<◌, ℕ, IfOk, IfSome, IsErrOf, None, Some, if◌then◌else◌, length, nat_lt, option_map, take};
-ghost use Rattle.mx_graph.specs.Adding.{add_error};
-ghost use Rattle.mx_graph.specs.Record.{row as row_at};
-ghost use Rattle.mx_graph.specs.declared.refusals.NotAdded.{NotAdded as Cause};
+ghost use Rattle.std.specs.Prelude.{◌≡◌, ◌<◌, IfOk, IfSome, None, Some, if◌then◌else◌, length, nat_lt, option_map};
 ghost use Rattle.mx_receipt.specs.Receipt.{rows_of};
 ghost use Rattle.mx_audit.specs.EventLines.{event_text};
 ghost use Rattle.mx_page.specs.EntryParts.{AreParts};
@@ -13,7 +10,7 @@ use crate::entry_texts::{EntryParts, text_of_parts};
 use crate::escaping::escaped;
 use crate::state_changes::{StateChange, changes, changes_by_put};
 use mx_audit::{RoomAudit, event_line, lines_of_resolution, resolution_before};
-use mx_graph::{EventNo, GraphError};
+use mx_graph::{EventNo, Graph};
 use mx_receipt::Timeline;
 use mx_state_res::StateMap;
 use std::alloc::{AllocError, Global};
@@ -23,36 +20,40 @@ use std::alloc::{AllocError, Global};
 /// event and the state before this one, and between the states before and after this one, and where it has several prev
 /// events the lines of their resolution. None where there is no such event.
 ///
-/// `Memory` where no memory is left, and `NotAdded` as [`resolution_before`] says. The time is that of [`event_line`], and of
-/// a look-up in the state before the event; of an event with several prev events also that of [`changes`] and of
-/// [`resolution_before`].
+/// The graph is that of the room's events, as [`mx_audit::room_graph`] makes it. The one error is that no memory is left. The
+/// time is that of [`event_line`], and of a look-up in the state before the event; of an event with several prev events also
+/// that of [`changes`] and of [`resolution_before`].
 pub fn page_entry(
     alloc: Global,
     audit: &RoomAudit,
+    graph: &Graph,
     number: EventNo,
-) -> Result<Option<Vec<u8>>, GraphError>
-    ensures entry { IfOk result (λ entry. option_map (λ text. text.items) entry
+) -> Result<Option<Vec<u8>>, AllocError>
+    requires { graph.now ≡ rows_of audit.now }
+    ensures { IfOk result (λ entry. option_map (λ text. text.items) entry
         ≡ (if nat_lt number (length audit.now) then Some (escaped_text (definition.entry_text audit.now number)) else None)) }
-    ensures refused { (cause : Cause) → IsErrOf result (GraphError.NotAdded cause)
-        → (p : ℕ) × (p < length audit.now) × (add_error (take p (rows_of audit.now)) (row_at (rows_of audit.now) p) ≡ Some cause) }
 {
     if number.index() >= audit.timeline().len() {
         return Ok(None);
     }
-    let parts = parts_of(alloc, audit, number)?;
+    let parts = parts_of(alloc, audit, graph, number)?;
     let entry = text_of_parts(alloc, number, &parts)?;
     let bytes = escaped(alloc, &entry)?;
     Ok(Some(bytes))
 }
 
-fn parts_of(alloc: Global, audit: &RoomAudit, number: EventNo) -> Result<EntryParts, GraphError>
-    requires { number < length audit.now }
-    ensures parts { IfOk result (AreParts audit.now number) }
-    ensures refused { (cause : Cause) → IsErrOf result (GraphError.NotAdded cause)
-        → (p : ℕ) × (p < length audit.now) × (add_error (take p (rows_of audit.now)) (row_at (rows_of audit.now) p) ≡ Some cause) }
+fn parts_of(
+    alloc: Global,
+    audit: &RoomAudit,
+    graph: &Graph,
+    number: EventNo,
+) -> Result<EntryParts, AllocError>
+    requires below { number < length audit.now }
+    requires graph { graph.now ≡ rows_of audit.now }
+    ensures { IfOk result (AreParts audit.now number) }
 {
     let timeline = audit.timeline();
-    let resolution = resolution_lines(alloc, timeline, number)?;
+    let resolution = resolution_lines(alloc, timeline, graph, number)?;
     let line = line_of_event(alloc, audit, number)?;
     let base = first_prev_event(timeline, number);
     let before = changes_before(alloc, timeline, number)?;
@@ -151,16 +152,15 @@ fn changes_after(
 fn resolution_lines(
     alloc: Global,
     timeline: &Timeline,
+    graph: &Graph,
     number: EventNo,
-) -> Result<Option<Vec<u8>>, GraphError>
-    requires { number < length timeline.now.kept }
-    ensures lines { IfOk result (λ lines. option_map (λ text. text.items) lines ≡ definition.resolution_of timeline.now.kept number) }
-    ensures refused { (cause : Cause) → IsErrOf result (GraphError.NotAdded cause)
-        → (p : ℕ) × (p < length timeline.now.kept)
-        × (add_error (take p (rows_of timeline.now.kept)) (row_at (rows_of timeline.now.kept) p) ≡ Some cause) }
+) -> Result<Option<Vec<u8>>, AllocError>
+    requires below { number < length timeline.now.kept }
+    requires graph { graph.now ≡ rows_of timeline.now.kept }
+    ensures { IfOk result (λ lines. option_map (λ text. text.items) lines ≡ definition.resolution_of timeline.now.kept number) }
 {
     if has_several_prev_events(timeline, number) {
-        let lines = lines_before(alloc, timeline, number)?;
+        let lines = lines_before(alloc, timeline, graph, number)?;
         Ok(Some(lines))
     } else {
         Ok(None)
@@ -174,14 +174,17 @@ fn has_several_prev_events(timeline: &Timeline, number: EventNo) -> bool
     timeline.prev_events(number).len() > 1
 }
 
-fn lines_before(alloc: Global, timeline: &Timeline, number: EventNo) -> Result<Vec<u8>, GraphError>
-    requires { number < length timeline.now.kept }
-    ensures lines { IfOk result (λ lines. lines.items ≡ definition.resolution_lines timeline.now.kept number) }
-    ensures refused { (cause : Cause) → IsErrOf result (GraphError.NotAdded cause)
-        → (p : ℕ) × (p < length timeline.now.kept)
-        × (add_error (take p (rows_of timeline.now.kept)) (row_at (rows_of timeline.now.kept) p) ≡ Some cause) }
+fn lines_before(
+    alloc: Global,
+    timeline: &Timeline,
+    graph: &Graph,
+    number: EventNo,
+) -> Result<Vec<u8>, AllocError>
+    requires below { number < length timeline.now.kept }
+    requires graph { graph.now ≡ rows_of timeline.now.kept }
+    ensures { IfOk result (λ lines. lines.items ≡ definition.resolution_lines timeline.now.kept number) }
 {
-    let steps = resolution_before(alloc, timeline, number)?;
+    let steps = resolution_before(alloc, timeline, graph, number)?;
     let lines = lines_of_resolution(alloc, timeline, &steps)?;
     Ok(lines)
 }

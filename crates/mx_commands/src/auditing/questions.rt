@@ -1,11 +1,12 @@
 // Questions about one event each.
-ghost use Rattle.std.specs.Prelude.{◌<◌, IfOk, length};
+ghost use Rattle.std.specs.Prelude.{◌≡◌, ◌<◌, length};
+ghost use Rattle.mx_receipt.specs.Receipt.{rows_of};
 
 use crate::auditing::records::RoomRecord;
 use crate::auditing::telling::{of_graph, tell_event, write_bytes};
 use crate::output::Failure;
-use mx_audit::{RoomAudit, lines_of_resolution, resolution_before, state_lines};
-use mx_graph::EventNo;
+use mx_audit::{RoomAudit, lines_of_resolution, resolution_before, room_graph, state_lines};
+use mx_graph::{EventNo, Graph};
 use mx_ident::EventId;
 use mx_options::{AskedOf, EventQuestion};
 use mx_state_res::StateRef;
@@ -25,11 +26,61 @@ pub(crate) fn tell_answers<W: Write>(
     for question in questions {
         find_event(record, question)?;
     }
-    for question in questions {
-        if questions.len() > 1 {
-            tell_question(alloc, question, out)?;
+    match &record.audit {
+        Some(audit) => {
+            let graph = room_graph(alloc, audit.timeline()).map_err(of_graph)?;
+            tell_each(alloc, record, audit, &graph, questions, out)
         }
-        tell_answer(alloc, record, question, out)?;
+        None => tell_each_refused(alloc, record, questions, out),
+    }
+}
+
+fn tell_each<W: Write>(
+    alloc: Global,
+    record: &RoomRecord,
+    audit: &RoomAudit,
+    graph: &Graph,
+    questions: &[EventQuestion],
+    out: &mut W,
+) -> Result<(), Failure>
+    requires { graph.now ≡ rows_of audit.now }
+{
+    for question in questions {
+        tell_head(alloc, record, question, questions.len(), out)?;
+        if let Some(number) = audit.timeline().find(&question.event) {
+            tell_of(alloc, audit, graph, question.asked, number, out)?;
+        }
+    }
+    Ok(())
+}
+
+// Of a room that is not hosted there are refused events alone.
+fn tell_each_refused<W: Write>(
+    alloc: Global,
+    record: &RoomRecord,
+    questions: &[EventQuestion],
+    out: &mut W,
+) -> Result<(), Failure> {
+    for question in questions {
+        tell_head(alloc, record, question, questions.len(), out)?;
+    }
+    Ok(())
+}
+
+// What stands before what is told of an event that was kept: the question, where it is one of several, and where the event's
+// line is asked for, its lines for each time that it was refused.
+fn tell_head<W: Write>(
+    alloc: Global,
+    record: &RoomRecord,
+    question: &EventQuestion,
+    several: usize,
+    out: &mut W,
+) -> Result<(), Failure> {
+    if several > 1 {
+        tell_question(alloc, question, out)?;
+    }
+    if question.asked == AskedOf::Event {
+        tell_refused(alloc, record, &question.event, out)?;
     }
     Ok(())
 }
@@ -68,24 +119,6 @@ fn tell_question<W: Write>(
     write_bytes(out, line.as_bytes())
 }
 
-fn tell_answer<W: Write>(
-    alloc: Global,
-    record: &RoomRecord,
-    question: &EventQuestion,
-    out: &mut W,
-) -> Result<(), Failure> {
-    if question.asked == AskedOf::Event {
-        tell_refused(alloc, record, &question.event, out)?;
-    }
-    let Some(audit) = &record.audit else {
-        return Ok(());
-    };
-    match audit.timeline().find(&question.event) {
-        Some(number) => tell_of(alloc, audit, question.asked, number, out),
-        None => Ok(()),
-    }
-}
-
 // The lines of the event with this ID for each time that it was refused.
 fn tell_refused<W: Write>(
     alloc: Global,
@@ -104,11 +137,13 @@ fn tell_refused<W: Write>(
 fn tell_of<W: Write>(
     alloc: Global,
     audit: &RoomAudit,
+    graph: &Graph,
     asked: AskedOf,
     number: EventNo,
     out: &mut W,
 ) -> Result<(), Failure>
-    requires { number < length audit.now }
+    requires below { number < length audit.now }
+    requires graph { graph.now ≡ rows_of audit.now }
 {
     match asked {
         AskedOf::Event => tell_event(alloc, audit, number, out),
@@ -118,7 +153,7 @@ fn tell_of<W: Write>(
         AskedOf::StateAfter => {
             tell_state(alloc, audit, &audit.timeline().state_after(number), out)
         }
-        AskedOf::Resolution => tell_resolution(alloc, audit, number, out),
+        AskedOf::Resolution => tell_resolution(alloc, audit, graph, number, out),
     }
 }
 
@@ -135,12 +170,14 @@ fn tell_state<W: Write>(
 fn tell_resolution<W: Write>(
     alloc: Global,
     audit: &RoomAudit,
+    graph: &Graph,
     number: EventNo,
     out: &mut W,
 ) -> Result<(), Failure>
-    requires { number < length audit.now }
+    requires below { number < length audit.now }
+    requires graph { graph.now ≡ rows_of audit.now }
 {
-    let steps = resolution_before(alloc, audit.timeline(), number).map_err(of_graph)?;
+    let steps = resolution_before(alloc, audit.timeline(), graph, number)?;
     let lines = lines_of_resolution(alloc, audit.timeline(), &steps)?;
     write_bytes(out, &lines)
 }

@@ -2,7 +2,7 @@ use Rattle.std.proofs.Common.{◌≡◌, ◌∙◌, ◌++◌, ◌∷◌, [], Lis
 use Rattle.std.proofs.lemmas.List.{length-map, take_more, take_all}
 use Rattle.mx_graph.specs.Record.{Row, row, no_row}
 use Rattle.mx_receipt.specs.Receipt.{rows_of}
-use Rattle.mx_audit.proofs.resolutions.graph_of.Goals as goal
+use Rattle.mx_audit.proofs.resolutions.room_graph.Goals as goal
 
 pub loop-place-preserved : goal.loop-place-preserved
 loop-place-preserved c =
