@@ -6,9 +6,10 @@ It is compared with the answers of examples/rows, which are written by the rules
 
 import json
 import re
+import resource
+import subprocess
 import sys
 import threading
-import time
 from collections import Counter
 from collections.abc import Iterator
 from pathlib import Path
@@ -233,6 +234,13 @@ def event_that_lacks_in_the_middle() -> None:
     assert id_of(without(lacking, "event_id", "unsigned")) in refused[0]["missing"]
 
 
+def processor_seconds(log: bytes, *words: str, room: str = ROOM) -> float:
+    """How many seconds of a processor `audit` takes for an answer."""
+    before = resource.getrusage(resource.RUSAGE_CHILDREN).ru_utime
+    assert audit(log, *words, room=room)[0] == 0
+    return resource.getrusage(resource.RUSAGE_CHILDREN).ru_utime - before
+
+
 def several_questions() -> None:
     """Of several events, and of all that is told of one, the answers are those to each question alone, each behind its line."""
     log = (TOP / "examples/audit/two_bans.jsonl").read_bytes()
@@ -256,13 +264,24 @@ def cost_of_several_questions() -> None:
     ids = [line["event_id"] for line in lines_of(log)]
 
     def seconds(*words: str) -> float:
-        start = time.monotonic()
-        assert audit(log, *words)[0] == 0
-        return time.monotonic() - start
+        return processor_seconds(log, *words)
 
     one = min(seconds("--event", ids[-1]) for _ in range(3))
     many = min(seconds("--event", *ids[::40]) for _ in range(3))
     assert many < 1.5 * one + 0.05, (one, many)
+
+
+def cost_of_a_page_with_merges() -> None:
+    """A page of 4,000 events, 500 of which join branches in conflict, costs a few times its lines: each resolution that is told reads
+    what it is about, and not the room."""
+    words = [sys.executable, TOP / "benchmarks/make_log.py", "--shape", "conflict", "--events", "4000"]
+    log = subprocess.run(words, stdout=subprocess.PIPE, check=True).stdout
+    room = json.loads(log.splitlines()[0])["event"]["room_id"]
+
+    lines = processor_seconds(log, room=room)
+    page = processor_seconds(log, "--html", room=room)
+    print("of a processor: lines %.2f seconds, page %.2f" % (lines, page))
+    assert page < 8 * lines, (lines, page)
 
 
 def name_where_it_is_needed() -> None:
@@ -318,8 +337,8 @@ def files_of_a_running_server(folder: Path) -> None:
 
 TESTS = [
     refusals_of_the_rows, place_of_refused_events, malformed_values, rooms_that_are_not_hosted, joins_that_are_refused, forged_body,
-    access_list_in_the_midst, event_that_lacks_in_the_middle, several_questions, cost_of_several_questions, name_where_it_is_needed,
-    files_of_a_running_server,
+    access_list_in_the_midst, event_that_lacks_in_the_middle, several_questions, cost_of_several_questions, cost_of_a_page_with_merges,
+    name_where_it_is_needed, files_of_a_running_server,
 ]
 
 if __name__ == "__main__":
