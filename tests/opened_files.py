@@ -7,8 +7,9 @@ import stat
 import sys
 import time
 from pathlib import Path
+from unittest.mock import patch
 
-from suite import run_tests
+from suite import Chosen, LeftOut, program, run_tests
 from running_server import Refused, Server, is_refused, memory_of, refusal, serving
 
 # How long a start over 64 shards without rows may take on a busy machine.
@@ -53,18 +54,26 @@ def words_of_the_system(folder: Path) -> None:
     told = b"storage\n" + bytes(data / "shard-0.db") + b": unable to open database file: "
     assert refusal(data) == (1, told + b"unsupported\n")
     (data / "other").unlink()
-    # Owned by another, who may only read it. Root may write it all the same.
     (data / "shard-0.db").chmod(0o400)
+    assert start_of_its_owner(folder, data) == (1, told + b"Permission denied (os error 13)\n")
+
+
+def start_of_its_owner(folder: Path, data: Path) -> object:
+    """What a refused start says to a user who may do what the modes of the files allow. Root may do more, and becomes another one."""
     how: dict[str, object] = {}
+    own = Path(shutil.copy(program(), folder / "mx_federd"))
     if os.getuid() == 0:
         how = {"user": NOBODY, "group": NOBODY, "extra_groups": []}
-        for path in (folder, data, *data.iterdir()):
+        for path in (folder, own, data, *data.iterdir()):
             os.chown(path, NOBODY, NOBODY)
-    try:
-        Server(data, **how).stop()
-        raise AssertionError("a file that can't be written was opened")
-    except Refused as refused:
-        assert refused.args == (1, told + b"Permission denied (os error 13)\n"), refused.args
+    with patch.object(Chosen.values, "program", own):
+        try:
+            Server(data, **how).stop()
+        except Refused as refused:
+            return refused.args
+        except PermissionError as error:
+            raise LeftOut(f"no other user may run a program here: {error}") from error
+    return None
 
 
 TESTS = [empty_shards, first_of_the_failing_files, words_of_the_system]
