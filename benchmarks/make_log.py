@@ -1,8 +1,8 @@
 #!/usr/bin/env python3
 """Makes logs for `mx_federd replay`, for measuring, with true ids and hashes, and signatures of the presence form.
 
-    make_log.py --shape linear|fork|conflict|joins|wide|soft|siblings|members|topics|bans|ladder --events N
-                 [--members 50] [--batch 50] [--form step|call] [--times rising|falling|random] [--ask COUNT]
+    make_log.py --shape linear|fork|conflict|joins|wide|soft|siblings|members|topics|bans|ladder|renames|all_banned
+                 --events N [--members 50] [--batch 50] [--form step|call] [--times rising|falling|random] [--ask COUNT]
                  [--seed 1] [--body BYTES] [--room ID] > log
     make_log.py --check-power BYTES > event       (one power levels event for `check`)
 
@@ -19,6 +19,10 @@ members   the same, three members in turn: the states differ at three keys.
 topics    N topics by moderators on the same event.
 bans      one moderator bans and unbans a member N times, each time on the same event.
 ladder    two members rename themselves side by side, and the next two renames each cite both.
+renames   one member renames herself N - 2 times, each time on the event before; a message on the event before all of
+          these, and a ban of the member on the last: the renames stand in the ban's auth chain, and are in conflict.
+all_banned  half of the N events are joins of new members, one after the other, and the others a moderator's bans of
+          each of them, all on the last join.
 soft      A moderator is demoted; N topics of hers follow one another on the other side of a fork.
 
 In `soft` the topics are soft failed; every other event is accepted. Each transaction is an open line, its next lines
@@ -37,7 +41,8 @@ sys.dont_write_bytecode = True
 from event_logs import FEDERATION, header, quoted  # noqa: E402
 from matrix_events import Event, canonical, content_hash, id_of, reference_hash, server_of, unpadded  # noqa: E402
 
-SHAPES = ["linear", "fork", "conflict", "joins", "wide", "soft", "siblings", "members", "topics", "bans", "ladder"]
+SHAPES = ["linear", "fork", "conflict", "joins", "wide", "soft", "siblings", "members", "topics", "bans", "ladder",
+          "renames", "all_banned"]
 ROOM = "!room:s0.example"
 
 
@@ -185,6 +190,28 @@ class Room:
         left, right = self.rename(one, prev, self.member[one]), self.rename(other, prev, self.member[other])
         self.member[one], self.member[other] = left, right
         self.tips = [left, right]
+
+    def ban(self, target, prev):
+        return self.add("m.room.member", self.mods[0], prev, self.auth(self.mods[0], self.member[target]),
+                        {"membership": "ban"}, target)
+
+    def renames(self):
+        user, left = self.users[-1], self.base + self.options.events - len(self.events)
+        if len(self.events) == self.base:
+            self.first = self.tip
+        if left == 2:
+            self.message(self.admin, [self.first])
+        elif left == 1:
+            self.ban(user, [self.tip])
+        else:
+            self.member[user] = self.tip = self.rename(user, [self.tip], self.member[user])
+
+    def all_banned(self):
+        number, joins = len(self.events) - self.base, (self.options.events + 1) // 2
+        if number < joins:
+            self.joins()
+        else:
+            self.ban(self.users[self.options.members + number - joins], [self.tip])
 
     def soft(self):
         if len(self.events) == self.base:

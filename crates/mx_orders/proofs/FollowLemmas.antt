@@ -1,23 +1,21 @@
 -- Steps of the loops that find which ranks follow which.
-use Rattle.std.proofs.Common.{◌≡◌, ℕ, zero, suc, ◌+◌, ◌==◌, ◌≤◌, ◌<◌, ◌⊎◌, Bool, true, false, cond, ◌||◌, ◌&&◌, if◌then◌else◌, inl, inr, List, [], ◌∷◌, ◌++◌, length, take, set, slice_index, slice_index_or, nat_le, nat_lt, refl, sym, ap, subst, ◌∙◌, arith, eq-eqb, eqb-true, lt-ltb, ltb-true}
-use Rattle.std.specs.List.{All}
+use Rattle.std.proofs.Common.{◌≡◌, ℕ, zero, suc, ◌+◌, ◌==◌, ◌≤◌, ◌<◌, ◌⊎◌, Bool, true, false, cond, ◌||◌, ◌&&◌, if◌then◌else◌, inl, inr, List, [], ◌∷◌, ◌++◌, length, take, set, slice_index, slice_index_or, nat_lt, refl, sym, ap, subst, ◌∙◌, arith, eq-eqb, eqb-true, lt-ltb, ltb-true}
 use Rattle.std.specs.Prelude.{Vec, Option, Some, None, IfSome}
 use Rattle.std.specs.Ordering.{nat_cmp, is_eq}
 use Rattle.std.specs.declared.alloc.Global.{Global}
 use Rattle.std.proofs.lemmas.List.Sums.{sum_by-set, sum_by_push}
 use Rattle.std.proofs.lemmas.List.{length-append, length-set, take_more, get_or_append_left}
-use Rattle.std.proofs.lemmas.Bool.{cases_lt, le-leb}
+use Rattle.std.proofs.lemmas.Bool.{cases_lt}
 use Rattle.std.proofs.Math.ListN.{get_or-eq_default}
 use Rattle.std.proofs.Math.Seq.{get_or-append_seam}
 use Rattle.std.proofs.Math.Nat.{eq-or-lt_of_le}
 use Rattle.mx_redact.specs.Fields.{is_some_and}
 use Rattle.mx_graph.specs.Edges.{cited}
-use Rattle.mx_graph.specs.Record.{Row, is_in}
-use Rattle.mx_graph.specs.Graph.{auth_chain}
+use Rattle.mx_graph.specs.Record.{Row, is_in, event, auth_events}
 use Rattle.mx_graph.proofs.WalkLemmas.{equal_to, equal_from}
 use Rattle.mx_orders.proofs.Members.{Distinct}
 use Rattle.mx_orders.proofs.RankLemmas.{at_any, distinct-at}
-use Rattle.mx_orders.specs.Ranks.{IsRanked, before, leads, times, total_of}
+use Rattle.mx_orders.specs.Ranks.{IsRanked, cites, leads, times, total_of}
 
 -- ---- lists of followers
 
@@ -247,17 +245,17 @@ within xs lists found r e x = by (found x) refl
     by None k = tt
     by (Some u) k = let l = (r.at x u k).0 in omega (arith, l, e)
 
--- the first ranks follow those of their auth chains
+-- the first ranks follow those that their events cite
 pub record AreFollowing (rows : List Row) (xs : List ℕ) (lists : Lists) (awaited : List ℕ) (count : ℕ) : Type 0 where
   pub followed : length lists ≡ length xs
-  pub members : (u p : ℕ) → u < length xs → is_in (cited lists u) p ≡ (nat_lt p count && before rows xs u p)
+  pub members : (u p : ℕ) → u < length xs → is_in (cited lists u) p ≡ (nat_lt p count && cites rows xs u p)
   pub waiting : length awaited ≡ count
   pub counted : (p : ℕ) → slice_index awaited p ≡ total_of lists p
 
 pub none_following : (rows : List Row) (xs : List ℕ) (lists : Lists) (awaited : List ℕ) → length lists ≡ length xs → ((u : ℕ) → cited lists u ≡ []) → ((p : ℕ) → total_of lists p ≡ 0) → awaited ≡ [] → AreFollowing rows xs lists awaited 0
 none_following rows xs lists awaited len empty none e = record {
   followed = len;
-  members = λ u p h. ap (λ ys. is_in ys p) (empty u) ∙ sym (ap (λ b. b && before rows xs u p) (below p (nat_lt p 0) refl));
+  members = λ u p h. ap (λ ys. is_in ys p) (empty u) ∙ sym (ap (λ b. b && cites rows xs u p) (below p (nat_lt p 0) refl));
   waiting = ap length e;
   counted = λ p. ap (λ ys. slice_index ys p) e ∙ sym (none p);
 }
@@ -306,31 +304,26 @@ not_below n = by (nat_lt n n) refl
     by false k = refl
 
 -- one more rank
-pub one_more_following : (rows : List Row) (xs chain awaited after : List ℕ) (lists more : Lists) (found : ℕ → Option ℕ) (count x n : ℕ) → IsRanked xs found → count < length xs → x ≡ slice_index_or xs count x → ((u : ℕ) → u < length xs → is_in chain (slice_index xs u) ≡ is_in (auth_chain rows (x ∷ [])) (slice_index xs u))
+pub one_more_following : (rows : List Row) (xs chain awaited after : List ℕ) (lists more : Lists) (found : ℕ → Option ℕ) (count x n : ℕ) → IsRanked xs found → count < length xs → x ≡ slice_index_or xs count x → chain ≡ auth_events rows (event rows x)
     → length more ≡ length lists → ((u p : ℕ) → is_in (cited more u) p ≡ (is_in (cited lists u) p || ((count == p) && leads found u chain))) → ((p : ℕ) → total_of more p ≡ total_of lists p + (if count == p then n else 0)) → after ≡ awaited ++ n ∷ []
     → AreFollowing rows xs lists awaited count → AreFollowing rows xs more after (count + 1)
-one_more_following rows xs chain awaited after lists more found count x n ranked l e chained len members total push f = record {
+one_more_following rows xs chain awaited after lists more found count x n ranked l e cited_now len members total push f = record {
   followed = len ∙ f.followed;
-  members = λ u p h. members u p ∙ ap (λ b. b || ((count == p) && leads found u chain)) (f.members u p h) ∙ ap (λ b. (nat_lt p count && before rows xs u p) || ((count == p) && b)) (here u h) ∙ all u p (count == p) refl;
+  members = λ u p h. members u p ∙ ap (λ b. b || ((count == p) && leads found u chain)) (f.members u p h) ∙ ap (λ b. (nat_lt p count && cites rows xs u p) || ((count == p) && b)) (here u h) ∙ all u p (count == p) refl;
   waiting = let k = ap length push in let m = length-append awaited (n ∷ []) in let w = f.waiting in omega (arith, k, m, w);
   counted = λ p. ap (λ ys. slice_index ys p) push ∙ index-push awaited n p ∙ ap (λ b. slice_index awaited p + (if b == p then n else 0)) f.waiting ∙ ap (λ a. a + (if count == p then n else 0)) (f.counted p) ∙ sym (total p);
 }
   where
-    here : (u : ℕ) → u < length xs → leads found u chain ≡ before rows xs u count
-    here u h = leads-in xs found u chain ranked h ∙ chained u h ∙ ap (λ y. is_in (auth_chain rows (y ∷ [])) (slice_index xs u)) (at_any xs count x l e)
+    here : (u : ℕ) → u < length xs → leads found u chain ≡ cites rows xs u count
+    here u h = leads-in xs found u chain ranked h ∙ ap (λ ys. is_in ys (slice_index xs u)) (cited_now ∙ ap (λ y. auth_events rows (event rows y)) (at_any xs count x l e))
 
     or_nothing : (b : Bool) → (b || false) ≡ b
     or_nothing true = refl
     or_nothing false = refl
 
-    all : (u p : ℕ) (b : Bool) → (count == p) ≡ b → ((nat_lt p count && before rows xs u p) || (b && before rows xs u count)) ≡ (nat_lt p (count + 1) && before rows xs u p)
+    all : (u p : ℕ) (b : Bool) → (count == p) ≡ b → ((nat_lt p count && cites rows xs u p) || (b && cites rows xs u count)) ≡ (nat_lt p (count + 1) && cites rows xs u p)
     all u p true k =
         let same = eqb-true count p k in
         let next : p < count + 1 = omega (arith, same) in
-        ap (λ b. (b && before rows xs u p) || before rows xs u count) (subst (λ y. nat_lt y count ≡ false) same (not_below count)) ∙ ap (before rows xs u) same ∙ sym (ap (λ b. b && before rows xs u p) (lt-ltb p (count + 1) next))
-    all u p false k = or_nothing (nat_lt p count && before rows xs u p) ∙ sym (ap (λ b. b && before rows xs u p) (lt_more p count (λ q. absurd (cc (sym (eq-eqb count p q) ∙ k)))))
-
--- of events from the least of all ranks on, the chain is whole
-pub whole-above : (xs chain other : List ℕ) (least : ℕ) → All (λ x. least ≤ x) xs → ((p : ℕ) → is_in chain p ≡ (nat_le least p && is_in other p)) → (u : ℕ) → u < length xs → is_in chain (slice_index xs u) ≡ is_in other (slice_index xs u)
-whole-above xs chain other least low part u h =
-    part (slice_index xs u) ∙ ap (λ b. b && is_in other (slice_index xs u)) (le-leb least (slice_index xs u) (low u 0 h))
+        ap (λ b. (b && cites rows xs u p) || cites rows xs u count) (subst (λ y. nat_lt y count ≡ false) same (not_below count)) ∙ ap (cites rows xs u) same ∙ sym (ap (λ b. b && cites rows xs u p) (lt-ltb p (count + 1) next))
+    all u p false k = or_nothing (nat_lt p count && cites rows xs u p) ∙ sym (ap (λ b. b && cites rows xs u p) (lt_more p count (λ q. absurd (cc (sym (eq-eqb count p q) ∙ k)))))

@@ -9,10 +9,9 @@ pub mod CountLemmas
 pub mod PlaceLemmas
 pub mod TieLemmas
 pub mod CandidateLemmas
-pub mod Taken
-pub mod WaitingLemmas
 pub mod ReadyLemmas
 pub mod RankLemmas
+pub mod PassedLemmas
 pub mod RankedOrder
 pub mod FollowLemmas
 pub mod FallingLemmas

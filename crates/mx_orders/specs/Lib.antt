@@ -6,5 +6,5 @@ pub mod MainlineWalk
 pub mod Places
 pub mod Ties
 pub mod Candidates
-pub mod Waiting
+pub mod Passed
 pub mod Ranks

@@ -1,14 +1,13 @@
 -- Events by their ranks, which are their places in a list, and which of these follow which, for private clauses.
-use Rattle.std.specs.Prelude.{◌≡◌, ℕ, ◌<◌, ◌==◌, Bool, List, [], ◌∷◌, length, slice_index, Option, Some, Vec}
+use Rattle.std.specs.Prelude.{◌≡◌, ℕ, ◌<◌, ◌==◌, Bool, List, length, slice_index, Option, Some, Vec}
 use Rattle.std.specs.List.{list_any, sum_by, count_by}
 use Rattle.std.specs.declared.alloc.Global.{Global}
 use Rattle.mx_redact.specs.Fields.{is_some_and}
-use Rattle.mx_graph.specs.Record.{Row, is_in}
-use Rattle.mx_graph.specs.Graph.{auth_chain}
+use Rattle.mx_graph.specs.Record.{Row, is_in, event, auth_events}
 
--- the event of rank u stands in the auth chain of the event of rank p
-abbrev pub before : List Row → List ℕ → ℕ → ℕ → Bool
-before rows xs u p = is_in (auth_chain rows (slice_index xs p ∷ [])) (slice_index xs u)
+-- the event of rank p cites that of rank u
+abbrev pub cites : List Row → List ℕ → ℕ → ℕ → Bool
+cites rows xs u p = is_in (auth_events rows (event rows (slice_index xs p))) (slice_index xs u)
 
 -- what is found for each number of the list is its place there
 pub record IsRanked (xs : List ℕ) (found : ℕ → Option ℕ) : Type 0 where

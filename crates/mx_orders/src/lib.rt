@@ -9,6 +9,7 @@ mod levels;
 mod mainline_ordering;
 mod mainline_walks;
 mod mainlines;
+mod passed_rows;
 pub mod plain;
 mod power_ordering;
 mod ranking;

@@ -8,6 +8,8 @@ mod conflict_tests;
 #[cfg(test)]
 mod order_tests;
 #[cfg(test)]
+mod plain_orders;
+#[cfg(test)]
 mod random_graphs;
 #[cfg(test)]
 mod resolution_tests;

@@ -1,6 +1,7 @@
+use crate::plain_orders::plain_power_order;
 use crate::random_graphs::{random_events, random_graph};
 use crate::rows::next;
-use mx_orders::plain::{plain_mainline_order, plain_power_order};
+use mx_orders::plain::plain_mainline_order;
 use mx_orders::{mainline_order, power_order};
 use std::test::Fail;
 

@@ -22,14 +22,14 @@ loop-event-preserved c =
           record {
             few = omega arith;
             so_far =
-                step-one c.args.followers.now.items c.loop-event.followers.items c.match-get.followers.items (get nat_cmp c.args.places.now) c.args.rank c.loop-event.event-index c.event-item.result c.loop-event.found c.match-get.found c.args.chain.now
+                step-one c.args.followers.now.items c.loop-event.followers.items c.match-get.followers.items (get nat_cmp c.args.places.now) c.args.rank c.loop-event.event-index c.event-item.result c.loop-event.found c.match-get.found c.args.cited_events.now
                 c.loop-event-test.true c.event-item.is c.loop-event.invariant.so_far w.index_mut.result.now w.push.new.self w.in-Some.place.now (sym w.in-Some.ensures.value) (omega (arith, h, e)) (ap (λ v. v.items) w.followers-is) w.index_mut.ensures.value
                 w.in_ok-push.ensures.items w.found-is;
           }
       | in_default w ↦ record {
         few = omega arith;
         so_far =
-            step-none c.args.followers.now.items c.loop-event.followers.items c.match-get.followers.items (get nat_cmp c.args.places.now) c.args.rank c.loop-event.event-index c.event-item.result c.loop-event.found c.match-get.found c.args.chain.now c.loop-event-test.true
+            step-none c.args.followers.now.items c.loop-event.followers.items c.match-get.followers.items (get nat_cmp c.args.places.now) c.args.rank c.loop-event.event-index c.event-item.result c.loop-event.found c.match-get.found c.args.cited_events.now c.loop-event-test.true
             c.event-item.is c.loop-event.invariant.so_far (sym c.get.ensures.value ∙ ap option_copied w.in_default.is) (ap (λ v. v.items) w.followers-is) w.found-is;
       }
     ]

@@ -8,5 +8,5 @@ use Rattle.mx_orders.proofs.following.follow.Given as goal
 abbrev pub invariant-loop-event : goal.invariant-loop-event
 invariant-loop-event l = record {
   few : l.found ≤ l.event-index;
-  so_far : HasFollowed l.fn.followers.items l.followers.items (get nat_cmp l.places) l.rank (take l.event-index l.chain) l.found;
+  so_far : HasFollowed l.fn.followers.items l.followers.items (get nat_cmp l.places) l.rank (take l.event-index l.cited_events) l.found;
 }
