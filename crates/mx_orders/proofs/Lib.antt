@@ -12,6 +12,7 @@ pub mod CandidateLemmas
 pub mod ReadyLemmas
 pub mod RankLemmas
 pub mod PassedLemmas
+pub mod PassingLemmas
 pub mod RankedOrder
 pub mod FollowLemmas
 pub mod FallingLemmas

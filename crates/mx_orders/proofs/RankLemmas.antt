@@ -8,7 +8,6 @@ use Rattle.std.specs.List.{All, range_with_len}
 use Rattle.std.proofs.lemmas.List.Elements.{All-push}
 use Rattle.std.specs.declared.alloc.Global.{Global}
 use Rattle.std.proofs.lemmas.Bool.Decides.{nat_tests}
-use Rattle.std.proofs.lemmas.List.FromFn.{fill_by_all}
 use Rattle.std.proofs.lemmas.List.Sums.{sum_by-cons}
 use Rattle.std.proofs.Math.Nat.{eq-or-lt_of_le}
 use Rattle.mx_graph.specs.Edges.{cited}
@@ -85,9 +84,6 @@ module _ (cmp : ℕ → ℕ → Ordering) (o : IsTotalOrder cmp) where
 
 abbrev pub ranks : List ℕ → List ℕ
 ranks xs = range_with_len 0 (length xs)
-
-pub map-ranks : (xs : List ℕ) → map (slice_index xs) (ranks xs) ≡ xs
-map-ranks xs = sym (fill_by_all (slice_index xs) xs (length xs) 0 refl (λ k h. refl))
 
 in_range : (a n x : ℕ) → a ≤ x → x < a + n → In x (range_with_len a n)
 in_range a zero x h k = absurd (omega (arith, h, k))

@@ -5,7 +5,8 @@ use Rattle.std.specs.Ordering.{nat_cmp, is_eq}
 use Rattle.mx_graph.proofs.WalkLemmas.{empty-from}
 use Rattle.mx_orders.specs.Lists.{Distinct}
 use Rattle.mx_orders.specs.PowerOrder.{power_order}
-use Rattle.mx_orders.proofs.RankedOrder.{numbers-passing, of_events, passing-known, taking-begins, rank-followed, followers-known, taking-goes, taking-ends}
+use Rattle.mx_orders.proofs.PassingLemmas.{numbers-passing, of_events, passing-known}
+use Rattle.mx_orders.proofs.RankedOrder.{taking-begins, rank-followed, followers-known, taking-goes, taking-ends}
 use Rattle.mx_orders.proofs.power_ordering.power_order.Goals as goal
 
 pub following_of-requires-clause-known : goal.following_of-requires-clause-known
