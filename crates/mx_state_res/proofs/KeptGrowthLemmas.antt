@@ -71,25 +71,25 @@ option-grown v rows old more new are (Some kept) h = kept-grown v rows old more 
 
 -- ---- one state more
 
-pub kept-one-more : (v : RoomVersion) (rows : List Row) → IsSound rows → (old more new : List State) (kept next : KeptResolution) (h : IsKept v rows old kept) (newest : ℕ) (key : Key) (x : ℕ) (s : State) → AreKnown rows old → newest < length old → is_some (entry kept.differing key) ≡ true
-    → IsOneMore rows (states_of old kept) s key x → state_at old newest ≡ put key_cmp key x s → (place : ℕ)
+pub kept-one-more : (v : RoomVersion) (rows : List Row) → IsSound rows → (old more new : List State) (kept next : KeptResolution) (h : IsKept v rows old kept) (newest : ℕ) (key : Key) (x : ℕ) (s : State) → AreKnown rows old → newest < length old
+    → IsOneMore rows (states_of old kept) s (state_at old newest) key x → (place : ℕ)
     → put_in_order (mainline_cmp rows (agreed_line rows (states_of old kept))) x (events_checked kept.order.items) ≡ take place (events_checked kept.order.items) ++ (x ∷ drop place (events_checked kept.order.items))
     → (o : Outcome) → IsOutcome v rows key x (iterative_auth_checks v rows (unconflicted (states_of old kept)) (take place (events_checked kept.order.items))) (drop place (events_checked kept.order.items)) o
-    → (c : CheckedEvent) → c.event ≡ x → c.is_put ≡ is_put_by o → next.numbers.items ≡ kept.numbers.items ++ newest ∷ [] → next.differing ≡ kept.differing → next.are_settled ≡ kept.are_settled → next.order.items ≡ take place kept.order.items ++ c ∷ drop place kept.order.items
+    → (c : CheckedEvent) → c.event ≡ x → c.is_put ≡ is_put_by o → next.numbers.items ≡ kept.numbers.items ++ newest ∷ [] → next.differing ≡ put key_cmp key x kept.differing → next.are_settled ≡ kept.are_settled → next.order.items ≡ take place kept.order.items ++ c ∷ drop place kept.order.items
     → new ≡ old ++ more → next.resolved < length new → state_at new next.resolved ≡ made_by o key x (state_at old kept.resolved)
     → IsKept v rows new next
-kept-one-more v rows sound old more new kept next h newest key x s known below there one is place placed o outcome c event flag numbers same settled items are l resolved =
+kept-one-more v rows sound old more new kept next h newest key x s known below one place placed o outcome c event flag numbers same settled items are l resolved =
     record {
       numbers = subst (All (λ n. n < length new)) (sym numbers) (all-grown old more new are (kept.numbers.items ++ newest ∷ []) all_below);
       some = (let e : length next.numbers.items ≡ length (kept.numbers.items ++ newest ∷ []) = ap length numbers in let f : length (kept.numbers.items ++ newest ∷ []) ≡ length kept.numbers.items + 1 = length-append kept.numbers.items (newest ∷ []) in omega arith);
       known = subst (AreKnown rows) (sym together) (each-known rows old (kept.numbers.items ++ newest ∷ []) known all_below);
-      at_keys = subst (λ ts. DifferAtKeys rows ts (first_of new next) next) (sym ss) (subst (λ b. DifferAtKeys rows (states_of old kept ++ put key_cmp key x s ∷ []) b next) (sym base)
-          (differ-more rows sound v (states_of old kept) (first_of old kept) kept h.at_keys h.checked s key x there one place placed o outcome c event flag next same settled items));
-      checked = subst (λ ts. AreChecked v rows (unconflicted ts) next.order.items) (sym ss) (subst (AreChecked v rows (unconflicted (states_of old kept ++ put key_cmp key x s ∷ []))) (sym items)
-          (checked-more rows sound v (states_of old kept) (first_of old kept) kept h.at_keys h.checked s key x there one place placed o outcome c event flag));
+      at_keys = subst (λ ts. DifferAtKeys rows ts (first_of new next) next) (sym ss) (subst (λ b. DifferAtKeys rows (states_of old kept ++ state_at old newest ∷ []) b next) (sym base)
+          (differ-more rows sound v (states_of old kept) (first_of old kept) kept h.at_keys h.checked s (state_at old newest) key x one place placed o outcome c event flag next same settled items));
+      checked = subst (λ ts. AreChecked v rows (unconflicted ts) next.order.items) (sym ss) (subst (AreChecked v rows (unconflicted (states_of old kept ++ state_at old newest ∷ []))) (sym items)
+          (checked-more rows sound v (states_of old kept) (first_of old kept) kept h.at_keys h.checked s (state_at old newest) key x one place placed o outcome c event flag));
       below = l;
       resolved = resolved ∙ ap (made_by o key x) h.resolved
-          ∙ sym (resolved-more rows sound v (states_of old kept) (first_of old kept) kept h.at_keys h.checked s key x there one place placed o outcome) ∙ ap (resolve v rows) (sym ss);
+          ∙ sym (resolved-more rows sound v (states_of old kept) (first_of old kept) kept h.at_keys h.checked s (state_at old newest) key x one place placed o outcome) ∙ ap (resolve v rows) (sym ss);
     }
   where
     all_below : All (λ n. n < length old) (kept.numbers.items ++ newest ∷ [])
@@ -98,10 +98,10 @@ kept-one-more v rows sound old more new kept next h newest key x s known below t
     together : states_of new next ≡ map (state_at old) (kept.numbers.items ++ newest ∷ [])
     together = ap (map (state_at new)) numbers ∙ grown-states old more new are (kept.numbers.items ++ newest ∷ []) all_below
 
-    ss : states_of new next ≡ states_of old kept ++ put key_cmp key x s ∷ []
+    ss : states_of new next ≡ states_of old kept ++ state_at old newest ∷ []
     ss =
         together
-        ∙ map-append (state_at old) kept.numbers.items (newest ∷ []) ∙ ap (λ t. states_of old kept ++ t ∷ []) is
+        ∙ map-append (state_at old) kept.numbers.items (newest ∷ [])
 
     base : first_of new next ≡ first_of old kept
     base =

@@ -131,24 +131,24 @@ module _ (v : RoomVersion) (rows : List Row) (k : Key) (x : ℕ) (at_key : key_o
 
 -- ---- the law
 
-module _ (rows : List Row) (sound : IsSound rows) (v : RoomVersion) (states : List State) (state : State) (key : Key) (x : ℕ) (one : IsOneMore rows states state key x) where
-  abbrev later : List State
-  later = put key_cmp key x state ∷ states
+module _ (rows : List Row) (sound : IsSound rows) (v : RoomVersion) (states : List State) (before_it later : State) (key : Key) (x : ℕ) (one : IsOneMore rows states before_it later key x) where
+  abbrev more : List State
+  more = later ∷ states
 
-  agreed-same : unconflicted later ≡ unconflicted states
-  agreed-same = unconflicted-later states one.sorted state one.member key x one.in_conflict
+  agreed-same : unconflicted more ≡ unconflicted states
+  agreed-same = unconflicted-later states one.sorted before_it one.member later one.sorted_later key x one.there one.open_at (full_conflicted rows states) one.elsewhere
 
-  full-is : (p : ℕ) → is_in (full_conflicted rows later) p ≡ (is_in (full_conflicted rows states) p || (x == p))
-  full-is p = full-later states one.sorted state one.member key x one.in_conflict rows sound one.other one.there one.same_auth one.known p
+  full-is : (p : ℕ) → is_in (full_conflicted rows more) p ≡ (is_in (full_conflicted rows states) p || (x == p))
+  full-is p = full-later states one.sorted before_it one.member later one.sorted_later key x one.there one.open_at (full_conflicted rows states) one.elsewhere rows sound refl one.cited one.cited_before one.known p
 
-  pub order-is : checking_order rows later ≡ put_in_order (mainline_cmp rows (agreed_line rows states)) x (checking_order rows states)
+  pub order-is : checking_order rows more ≡ put_in_order (mainline_cmp rows (agreed_line rows states)) x (checking_order rows states)
   order-is =
-      ap (λ u. mainline_order rows (mainline rows (entry u power_key)) (full_conflicted rows later)) agreed-same
-      ∙ order-later rows sound (agreed_line rows states) (full_conflicted rows states) (full_conflicted rows later) x
-      (λ p m. all-at (λ p. p < length rows) (full_conflicted rows later) (full-known rows later) p m) (distinct-full rows states) (distinct-full rows later) one.new full-is
+      ap (λ u. mainline_order rows (mainline rows (entry u power_key)) (full_conflicted rows more)) agreed-same
+      ∙ order-later rows sound (agreed_line rows states) (full_conflicted rows states) (full_conflicted rows more) x
+      (λ p m. all-at (λ p. p < length rows) (full_conflicted rows more) (full-known rows more) p m) (distinct-full rows states) (distinct-full rows more) one.new full-is
 
-  pub no-powers : power_events rows (full_conflicted rows later) ≡ []
-  no-powers = powers-none rows (full_conflicted rows later) (λ p m. by p (or_cases (is_in (full_conflicted rows states) p) (x == p) (sym (full-is p) ∙ is_in-from p (full_conflicted rows later) m)))
+  pub no-powers : power_events rows (full_conflicted rows more) ≡ []
+  no-powers = powers-none rows (full_conflicted rows more) (λ p m. by p (or_cases (is_in (full_conflicted rows states) p) (x == p) (sym (full-is p) ∙ is_in-from p (full_conflicted rows more) m)))
     where
       by : (p : ℕ) → (is_in (full_conflicted rows states) p ≡ true) ⊎ ((x == p) ≡ true) → is_power_event (event rows p) ≡ false
       by p (inl e) = no-power rows (full_conflicted rows states) one.no_powers p (is_in-to p (full_conflicted rows states) e)
@@ -161,35 +161,35 @@ module _ (rows : List Row) (sound : IsSound rows) (v : RoomVersion) (states : Li
     sorted-agreed : Sorted agreed
     sorted-agreed = sorted-unconflicted states one.sorted
 
-    resolved-later : resolve v rows later ≡ overwritten (iterative_auth_checks v rows agreed (before ++ (x ∷ after))) agreed
+    resolved-later : resolve v rows more ≡ overwritten (iterative_auth_checks v rows agreed (before ++ (x ∷ after))) agreed
     resolved-later =
-        resolve-plainly v rows later no-powers
+        resolve-plainly v rows more no-powers
         ∙ ap₂ (λ u ps. overwritten (iterative_auth_checks v rows u ps) u) agreed-same (order-is ∙ ap (put_in_order (mainline_cmp rows (agreed_line rows states)) x) order ∙ placed)
 
     resolved-before : resolve v rows states ≡ overwritten (iterative_auth_checks v rows agreed (before ++ after)) agreed
     resolved-before = resolve-plainly v rows states one.no_powers ∙ ap (λ ps. overwritten (iterative_auth_checks v rows agreed ps) agreed) order
 
-    abbrev before_it : State
-    before_it = iterative_auth_checks v rows agreed before
+    abbrev reached : State
+    reached = iterative_auth_checks v rows agreed before
 
     from-end : (o : Option Bool) → IsEnd key x o (iterative_auth_checks v rows agreed (before ++ (x ∷ after))) (iterative_auth_checks v rows agreed (before ++ after))
-        → IfSome (option_map (λ here. if here then put key_cmp key x (resolve v rows states) else resolve v rows states) o) (λ resolved. resolve v rows later ≡ resolved)
+        → IfSome (option_map (λ here. if here then put key_cmp key x (resolve v rows states) else resolve v rows states) o) (λ resolved. resolve v rows more ≡ resolved)
     from-end None e = tt
     from-end (Some true) e =
         resolved-later ∙ ap (λ s. overwritten s agreed) e
         ∙ overwritten-put key x (iterative_auth_checks v rows agreed (before ++ after)) agreed (sorted-checks v rows (before ++ after) agreed sorted-agreed) sorted-agreed
-        (unconflicted-none states one.sorted state one.member key x one.in_conflict)
+        (unconflicted-none states one.sorted before_it one.member later one.sorted_later key x one.there one.open_at (full_conflicted rows states) one.elsewhere)
         ∙ ap (put key_cmp key x) (sym resolved-before)
     from-end (Some false) e = resolved-later ∙ ap (λ s. overwritten s agreed) e ∙ sym resolved-before
 
-    pub from-one-before : IfSome (resolution_with v rows states key x before after) (λ resolved. resolve v rows later ≡ resolved)
-    from-one-before = by (is_put v rows before_it x) (checks-with v rows key x one.at_key agreed before after sorted-agreed)
+    pub from-one-before : IfSome (resolution_with v rows states key x before after) (λ resolved. resolve v rows more ≡ resolved)
+    from-one-before = by (is_put v rows reached x) (checks-with v rows key x one.at_key agreed before after sorted-agreed)
       where
-        by : (b : Bool) → IsEnd key x (if b then stays v rows key x before_it after else Some false) (iterative_auth_checks v rows agreed (before ++ (x ∷ after))) (iterative_auth_checks v rows agreed (before ++ after))
-            → IfSome (if b then option_map (λ here. if here then put key_cmp key x (resolve v rows states) else resolve v rows states) (stays v rows key x before_it after) else Some (resolve v rows states))
-            (λ resolved. resolve v rows later ≡ resolved)
-        by true e = from-end (stays v rows key x before_it after) e
+        by : (b : Bool) → IsEnd key x (if b then stays v rows key x reached after else Some false) (iterative_auth_checks v rows agreed (before ++ (x ∷ after))) (iterative_auth_checks v rows agreed (before ++ after))
+            → IfSome (if b then option_map (λ here. if here then put key_cmp key x (resolve v rows states) else resolve v rows states) (stays v rows key x reached after) else Some (resolve v rows states))
+            (λ resolved. resolve v rows more ≡ resolved)
+        by true e = from-end (stays v rows key x reached after) e
         by false e = from-end (Some false) e
 
 pub resolves-from-the-one-before : (rows : List Row) → IsSound rows → ResolvesFromTheOneBefore rows
-resolves-from-the-one-before rows sound v states state key x one before after order placed = from-one-before rows sound v states state key x one before after order placed
+resolves-from-the-one-before rows sound v states before later key x one front back order placed = from-one-before rows sound v states before later key x one front back order placed

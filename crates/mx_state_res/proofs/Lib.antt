@@ -48,6 +48,7 @@ pub mod LaterResolutionLemmas
 pub mod KeyOrderLemmas
 pub mod KeyEventLemmas
 pub mod KeptResolutionLemmas
+pub mod BesideLemmas
 pub mod OneMoreLemmas
 pub mod KeptStateLemmas
 pub mod KeptGrowthLemmas

@@ -1,9 +1,9 @@
 -- One state more among those that were resolved.
-use Rattle.std.proofs.Common.{◌≡◌, ℕ, ◌+◌, ◌<◌, Bool, true, false, List, [], ◌∷◌, ◌++◌, length, take, drop, Option, Some, None, inl, inr, refl, sym, ap, ap₂, subst, ◌∙◌, arith, ◌||◌}
-use Rattle.std.specs.Prelude.{if◌then◌else◌, option_map, unwrap_or, IfSome, is_some}
+use Rattle.std.proofs.Common.{◌≡◌, ℕ, ◌+◌, ◌<◌, Bool, true, false, List, [], ◌∷◌, ◌++◌, length, take, drop, Option, Some, None, inl, inr, ◌⊎◌, refl, sym, ap, ap₂, subst, ◌∙◌, arith, ◌||◌}
+use Rattle.std.specs.Prelude.{if◌then◌else◌, option_map, unwrap_or, IfSome, cond, filter, get_or, is_none, is_some}
 use Rattle.std.specs.List.{All}
 use Rattle.std.specs.FinMap.Entries.{put}
-use Rattle.std.specs.Ordering.{eq_by_cmp}
+use Rattle.std.specs.Ordering.{eq_by_cmp, is_eq}
 use Rattle.mx_redact.specs.Fields.{is_some_and}
 use Rattle.std.proofs.lemmas.List.{drop-map, get_or_append_left, length-append, map-append, take-append-drop, take-map}
 use Rattle.std.proofs.lemmas.List.Elements.{All-append, All-cons, All-drop, All-take}
@@ -11,8 +11,8 @@ use Rattle.mx_auth.specs.Rules.{Key, key_of}
 use Rattle.mx_auth.specs.declared.versions.RoomVersion.{RoomVersion}
 use Rattle.mx_graph.specs.Record.{Row, event}
 use Rattle.mx_graph.specs.Graph.{IsSound}
-use Rattle.mx_graph.proofs.Members.{In}
-use Rattle.mx_graph.proofs.Closure.{or_left}
+use Rattle.mx_graph.proofs.Members.{In, in_filter}
+use Rattle.mx_graph.proofs.Closure.{or_cases, or_left, or_right}
 use Rattle.mx_orders.specs.StateMap.{State, key_cmp, entry, with_event}
 use Rattle.mx_orders.specs.Mainline.{mainline, mainline_cmp, mainline_order, power_key, put_in_order}
 use Rattle.mx_state_res.specs.Numbered.{AllAlike, without}
@@ -26,7 +26,9 @@ use Rattle.mx_state_res.specs.declared.kept_resolutions.outcomes.Outcome.TheVari
 use Rattle.mx_state_res.proofs.KeyLemmas.{Sorted}
 use Rattle.mx_state_res.proofs.LaterCheckLemmas.{put-beside, put-twice, sorted-checks, sorted-with}
 use Rattle.mx_state_res.proofs.EntryLemmas.{equal-keys}
-use Rattle.mx_state_res.proofs.LaterStateLemmas.{all-sorted, unconflicted-later}
+use Rattle.mx_state_res.proofs.EqualStateLemmas.{find-own}
+use Rattle.mx_state_res.proofs.LaterStateLemmas.{all-sorted, put-elsewhere, put-there, unconflicted-later, unconflicted-none}
+use Rattle.mx_state_res.proofs.SetLemmas.{all-at}
 use Rattle.mx_state_res.proofs.LaterResolutionLemmas.{from-one-before, no-powers, order-is}
 use Rattle.mx_state_res.proofs.SameMembersLemmas.{Within, full-same, resolve-members, sorted-unconflicted, unconflicted-same}
 use Rattle.mx_state_res.proofs.KeptResolutionLemmas.{passed}
@@ -142,10 +144,30 @@ alike-front key (u ∷ ss) t h = λ k d l.
     subst (λ w. entry w key ≡ entry u key) (get_or_append_left ss (t ∷ []) d k l)
     (h k d (let e : length (ss ++ t ∷ []) ≡ length ss + 1 = length-append ss (t ∷ []) in omega arith))
 
+alike-two : (key : Key) (us : List State) → AllAlike key us → (a b : State) → In a us → In b us → entry a key ≡ entry b key
+alike-two key [] h a b m n = absurd m
+alike-two key (u ∷ us) h a b m n = as-first a m ∙ sym (as-first b n)
+  where
+    as-first : (w : State) → In w (u ∷ us) → entry w key ≡ entry u key
+    as-first w (inl e) = ap (λ v. entry v key) e
+    as-first w (inr i) = all-at (λ v. entry v key ≡ entry u key) us h w i
+
+filter-alike : (f g : Key × ℕ → Bool) (es : State) → ((e : Key × ℕ) → In e es → f e ≡ g e) → filter f es ≡ filter g es
+filter-alike f g [] h = refl
+filter-alike f g (e ∷ es) h = λ i. cond (h e (inl refl) i) (e ∷ filter-alike f g es (λ d m. h d (inr m)) i) (filter-alike f g es (λ d m. h d (inr m)) i)
+
+-- what is put stays beside what was there
+differs-put : (key : Key) (x : ℕ) (s : State) (q : Key) → is_some (entry s q) ≡ true → is_some (entry (put key_cmp key x s) q) ≡ true
+differs-put key x s q e = by (is_eq (key_cmp q key)) refl
+  where
+    by : (b : Bool) → is_eq (key_cmp q key) ≡ b → is_some (entry (put key_cmp key x s) q) ≡ true
+    by true c = ap is_some (ap (entry (put key_cmp key x s)) (equal-keys q key c) ∙ put-there key x s)
+    by false c = ap is_some (put-elsewhere key x s q c) ∙ e
+
 -- ---- the resolution with one state more
 
 module _ (rows : List Row) (sound : IsSound rows) (v : RoomVersion) (ss : List State) (base : State) (kept : KeptResolution) (at_keys : DifferAtKeys rows ss base kept)
-    (checked : AreChecked v rows (unconflicted ss) kept.order.items) (s : State) (key : Key) (x : ℕ) (there : is_some (entry kept.differing key) ≡ true) (one : IsOneMore rows ss s key x) (place : ℕ)
+    (checked : AreChecked v rows (unconflicted ss) kept.order.items) (s t : State) (key : Key) (x : ℕ) (one : IsOneMore rows ss s t key x) (place : ℕ)
     (placed : put_in_order (mainline_cmp rows (agreed_line rows ss)) x (events_checked kept.order.items) ≡ take place (events_checked kept.order.items) ++ (x ∷ drop place (events_checked kept.order.items)))
     (o : Outcome) (outcome : IsOutcome v rows key x (iterative_auth_checks v rows (unconflicted ss) (take place (events_checked kept.order.items))) (drop place (events_checked kept.order.items)) o) where
   abbrev order : List CheckedEvent
@@ -164,22 +186,22 @@ module _ (rows : List Row) (sound : IsSound rows) (v : RoomVersion) (ss : List S
   before_it = iterative_auth_checks v rows agreed before
 
   abbrev later : List State
-  later = put key_cmp key x s ∷ ss
+  later = t ∷ ss
 
   abbrev more : List State
-  more = ss ++ put key_cmp key x s ∷ []
+  more = ss ++ t ∷ []
 
   to : Within more later
-  to = λ y m. to-front ss (put key_cmp key x s) y m
+  to = λ y m. to-front ss t y m
 
   from : Within later more
-  from = λ y m. to-back ss (put key_cmp key x s) y m
+  from = λ y m. to-back ss t y m
 
-  sorted : (t : State) → In t more → Sorted t
-  sorted t m = all-sorted ss one.sorted s one.member key x one.in_conflict t (to t m)
+  sorted : (u : State) → In u more → Sorted u
+  sorted u m = all-sorted ss one.sorted s one.member t one.sorted_later key x one.there one.open_at (full_conflicted rows ss) one.elsewhere u (to u m)
 
   unconflicted-more : unconflicted more ≡ agreed
-  unconflicted-more = unconflicted-same more later sorted to from ∙ unconflicted-later ss one.sorted s one.member key x one.in_conflict
+  unconflicted-more = unconflicted-same more later sorted to from ∙ unconflicted-later ss one.sorted s one.member t one.sorted_later key x one.there one.open_at (full_conflicted rows ss) one.elsewhere
 
   full-more : full_conflicted rows more ≡ full_conflicted rows later
   full-more = full-same more later sorted to from rows
@@ -187,7 +209,7 @@ module _ (rows : List Row) (sound : IsSound rows) (v : RoomVersion) (ss : List S
   order-more : checking_order rows more ≡ put_in_order (mainline_cmp rows (agreed_line rows ss)) x (checking_order rows ss)
   order-more =
       ap₂ (λ u full. mainline_order rows (mainline rows (entry u power_key)) full) (unconflicted-same more later sorted to from) full-more
-      ∙ order-is rows sound v ss s key x one
+      ∙ order-is rows sound v ss s t key x one
 
   in-turn : checking_order rows ss ≡ before ++ after
   in-turn = sym at_keys.order ∙ sym (take-append-drop place (events_checked order))
@@ -201,7 +223,7 @@ module _ (rows : List Row) (sound : IsSound rows) (v : RoomVersion) (ss : List S
   resolved-more =
       resolve-members more later sorted to from v rows
       ∙ subst (λ r. IfSome r (λ resolved. resolve v rows later ≡ resolved)) (resolution-is o outcome)
-      (from-one-before rows sound v ss s key x one before after in-turn (ap (put_in_order (mainline_cmp rows (agreed_line rows ss)) x) (take-append-drop place (events_checked order)) ∙ placed))
+      (from-one-before rows sound v ss s t key x one before after in-turn (ap (put_in_order (mainline_cmp rows (agreed_line rows ss)) x) (take-append-drop place (events_checked order)) ∙ placed))
 
   -- the events that were checked, with the event among them
   module _ (c : CheckedEvent) (is : c.event ≡ x) (flag : c.is_put ≡ is_put_by o) where
@@ -214,11 +236,25 @@ module _ (rows : List Row) (sound : IsSound rows) (v : RoomVersion) (ss : List S
         All-append P (take place order) (c ∷ drop place order) (All-take P place order at_keys.known)
         (All-cons P c (drop place order) (subst (λ n. n < length rows) (sym is) one.known) (All-drop P place order at_keys.known))
 
-    settled-more : AreSettled rows kept.differing base order → AreSettled rows kept.differing base order_more
+    settled-put : (p : ℕ) → is_settled rows kept.differing base p ≡ true → is_settled rows (put key_cmp key x kept.differing) base p ≡ true
+    settled-put p = by (key_of (event rows p))
+      where
+        at : (q : Key) → (is_some (entry kept.differing q) ≡ true) ⊎ (has_entry (q, p) base ≡ true) → (is_some (entry (put key_cmp key x kept.differing) q) || has_entry (q, p) base) ≡ true
+        at q (inl e) = or_left (is_some (entry (put key_cmp key x kept.differing) q)) (has_entry (q, p) base) (differs-put key x kept.differing q e)
+        at q (inr e) = or_right (is_some (entry (put key_cmp key x kept.differing) q)) (has_entry (q, p) base) e
+
+        by : (o : Option Key) → is_some_and (λ q. is_some (entry kept.differing q) || has_entry (q, p) base) o ≡ true → is_some_and (λ q. is_some (entry (put key_cmp key x kept.differing) q) || has_entry (q, p) base) o ≡ true
+        by None e = absurd (cc e)
+        by (Some q) e = at q (or_cases (is_some (entry kept.differing q)) (has_entry (q, p) base) e)
+
+    settled-more : AreSettled rows kept.differing base order → AreSettled rows (put key_cmp key x kept.differing) base order_more
     settled-more h =
-        let P : CheckedEvent → Type 0 = λ d. is_settled rows kept.differing base d.event ≡ true in
-        All-append P (take place order) (c ∷ drop place order) (All-take P place order h)
-        (All-cons P c (drop place order) (ap (is_settled rows kept.differing base) is ∙ ap (is_some_and (λ k. is_some (entry kept.differing k) || has_entry (k, x) base)) one.at_key ∙ or_left (is_some (entry kept.differing key)) (has_entry (key, x) base) there) (All-drop P place order h))
+        let P : CheckedEvent → Type 0 = λ d. is_settled rows (put key_cmp key x kept.differing) base d.event ≡ true in
+        let all : AreSettled rows (put key_cmp key x kept.differing) base order = λ k d l. settled-put (get_or order k d).event (h k d l) in
+        All-append P (take place order) (c ∷ drop place order) (All-take P place order all)
+        (All-cons P c (drop place order)
+        (ap (is_settled rows (put key_cmp key x kept.differing) base) is ∙ ap (is_some_and (λ k. is_some (entry (put key_cmp key x kept.differing) k) || has_entry (k, x) base)) one.at_key
+        ∙ or_left (is_some (entry (put key_cmp key x kept.differing) key)) (has_entry (key, x) base) (ap is_some (put-there key x kept.differing))) (All-drop P place order all))
 
     events-more : events_checked order_more ≡ checking_order rows more
     events-more =
@@ -254,14 +290,42 @@ module _ (rows : List Row) (sound : IsSound rows) (v : RoomVersion) (ss : List S
         (checked-join v rows (take place order) (c ∷ drop place order) agreed (checked-before v rows order place agreed checked)
         (subst (λ ps. AreChecked v rows (iterative_auth_checks v rows agreed ps) (c ∷ drop place order)) (take-map (λ (d : CheckedEvent). d.event) place order) tail))
 
-    pub differ-more : (next : KeptResolution) → next.differing ≡ kept.differing → next.are_settled ≡ kept.are_settled → next.order.items ≡ order_more → DifferAtKeys rows more base next
-    differ-more next same settled items = record {
-      key = at_keys.key;
-      there = ap (λ t. is_some (entry t at_keys.key)) same ∙ at_keys.there;
-      apart = λ q there h. at_keys.apart q (ap (λ t. is_some (entry t q)) (sym same) ∙ there) (alike-front q ss (put key_cmp key x s) h);
-      agreed = unconflicted-more ∙ at_keys.agreed ∙ ap (λ t. without t base) (sym same);
+    apart-more : (q : Key) → is_some (entry (put key_cmp key x kept.differing) q) ≡ true → AllAlike q more → ⊥
+    apart-more q differs h = by (is_eq (key_cmp q key)) refl
+      where
+        open-there : q ≡ key → (entry s key ≡ None) ⊎ (AllAlike key ss → ⊥) → ⊥
+        open-there e (inl none) = cc (sym none ∙ ap (entry s) (sym e) ∙ alike-two q more h s t (from s (inr one.member)) (from t (inl refl)) ∙ ap (entry t) e ∙ one.there)
+        open-there e (inr apart) = apart (subst (λ k. AllAlike k ss) e (alike-front q ss t h))
+
+        by : (b : Bool) → is_eq (key_cmp q key) ≡ b → ⊥
+        by true c = open-there (equal-keys q key c) one.open_at
+        by false c = at_keys.apart q (ap is_some (sym (put-elsewhere key x kept.differing q c)) ∙ differs) (alike-front q ss t h)
+
+    -- the first state has nothing there that all have
+    agreed-put : without kept.differing base ≡ without (put key_cmp key x kept.differing) base
+    agreed-put = filter-alike (λ e. is_none (entry kept.differing e.0)) (λ e. is_none (entry (put key_cmp key x kept.differing) e.0)) base (λ e m. by e m (is_eq (key_cmp e.0 key)) refl)
+      where
+        taken : (e : Key × ℕ) → In e base → e.0 ≡ key → (o : Option ℕ) → entry kept.differing e.0 ≡ o → is_none o ≡ false
+        taken e m q (Some y) d = refl
+        taken e m q None d =
+            let n : In e (unconflicted ss) = subst (In e) (sym at_keys.agreed) (in_filter (λ e. is_none (entry kept.differing e.0)) e base m (ap is_none d)) in
+            absurd (cc (sym (find-own (unconflicted ss) (sorted-unconflicted ss one.sorted) e n) ∙ ap (entry (unconflicted ss)) q
+            ∙ unconflicted-none ss one.sorted s one.member t one.sorted_later key x one.there one.open_at (full_conflicted rows ss) one.elsewhere))
+
+        by : (e : Key × ℕ) → In e base → (b : Bool) → is_eq (key_cmp e.0 key) ≡ b → is_none (entry kept.differing e.0) ≡ is_none (entry (put key_cmp key x kept.differing) e.0)
+        by e m true c =
+            let q = equal-keys e.0 key c in
+            taken e m q (entry kept.differing e.0) refl ∙ sym (ap is_none (ap (entry (put key_cmp key x kept.differing)) q ∙ put-there key x kept.differing))
+        by e m false c = ap is_none (sym (put-elsewhere key x kept.differing e.0 c))
+
+    pub differ-more : (next : KeptResolution) → next.differing ≡ put key_cmp key x kept.differing → next.are_settled ≡ kept.are_settled → next.order.items ≡ order_more → DifferAtKeys rows more base next
+    differ-more next grown settled items = record {
+      key = key;
+      there = ap (λ u. is_some (entry u key)) grown ∙ ap is_some (put-there key x kept.differing);
+      apart = λ q differs h. apart-more q (ap (λ u. is_some (entry u q)) (sym grown) ∙ differs) h;
+      agreed = unconflicted-more ∙ at_keys.agreed ∙ agreed-put ∙ ap (λ u. without u base) (sym grown);
       order = ap events_checked items ∙ events-more;
       known = subst (All (λ (d : CheckedEvent). d.event < length rows)) (sym items) known-more;
-      settled = λ h. subst (λ t. AreSettled rows t base next.order.items) (sym same) (subst (AreSettled rows kept.differing base) (sym items) (settled-more (at_keys.settled (sym settled ∙ h))));
-      no_powers = ap (power_events rows) full-more ∙ no-powers rows sound v ss s key x one;
+      settled = λ h. subst (λ u. AreSettled rows u base next.order.items) (sym grown) (subst (AreSettled rows (put key_cmp key x kept.differing) base) (sym items) (settled-more (at_keys.settled (sym settled ∙ h))));
+      no_powers = ap (power_events rows) full-more ∙ no-powers rows sound v ss s t key x one;
     }

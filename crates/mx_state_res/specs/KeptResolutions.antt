@@ -1,5 +1,5 @@
 -- For proofs, and for the clauses of what is kept of a resolution.
-use Rattle.std.specs.Prelude.{◌≡◌, ◌≤◌, ◌<◌, ℕ, Bool, true, false, ◌||◌, List, [], ◌∷◌, Some, All, is_some, length, map, slice_index_or}
+use Rattle.std.specs.Prelude.{◌≡◌, ◌≤◌, ◌<◌, ℕ, Bool, true, false, ◌||◌, List, [], ◌∷◌, Some, All, IfSome, is_some, length, map, slice_index_or}
 use Rattle.std.specs.declared.cmp.Ordering.{Ordering}
 use Rattle.std.specs.Ordering.{is_gt}
 use Rattle.std.specs.FinMap.Entries.{put}
@@ -8,7 +8,8 @@ use Rattle.mx_auth.specs.Rules.{Key, key_of}
 use Rattle.mx_auth.specs.declared.versions.RoomVersion.{RoomVersion}
 use Rattle.mx_graph.specs.Record.{Row, event, is_in}
 use Rattle.mx_orders.specs.StateMap.{State, entry, key_cmp}
-use Rattle.mx_state_res.specs.LaterResolution.{IsOneMore, checking_order, is_put, stays}
+use Rattle.mx_state_res.specs.ChainDifference.{cites}
+use Rattle.mx_state_res.specs.LaterResolution.{IsOneMore, checking_order, is_put, is_reached, stays}
 use Rattle.mx_state_res.specs.Numbered.{AllAlike, AreKnown, state_at, without}
 use Rattle.mx_state_res.specs.Resolution.{after_check, full_conflicted, has_entry, power_events, resolve, unconflicted}
 use Rattle.mx_state_res.specs.declared.kept_resolutions.KeptResolution.{KeptResolution}
@@ -81,12 +82,22 @@ pub record IsKept (v : RoomVersion) (rows : List Row) (states : List State) (kep
   pub below : kept.resolved < length states
   pub resolved : state_at states kept.resolved ≡ resolve v rows (states_of states kept)
 
--- the newest state is one of those that were resolved, with one event more, at a key at which they differ
+-- at a key that is in conflict a state has an event that was checked, or none
+abbrev pub IsKeptAside : KeptResolution → State → Key → Type 0
+IsKeptAside kept s key = (is_some (entry kept.differing key) ≡ true) × IfSome (entry s key) (λ p. is_in (events_checked kept.order.items) p ≡ true)
+
+-- a state reaches what an event cites, beside the events in conflict
+abbrev pub CitesReached : List Row → List ℕ → State → ℕ → Type 0
+CitesReached rows full s p = (q : ℕ) → is_in (cites rows p) q ≡ true → is_reached rows full s q ≡ true
+
+-- and so of what each event of another state at some keys cites
+abbrev pub AllCiteReached : List Row → List ℕ → State → State → State → Type 0
+AllCiteReached rows full s t = All (λ e. IfSome (entry s e.0) (CitesReached rows full t))
+
+-- the newest state is one of those that were resolved, with one event more
 pub record IsAdded (rows : List Row) (states : List State) (kept : KeptResolution) (newest event : ℕ) : Type 0 where
   pub key : Key
-  pub there : is_some (entry kept.differing key) ≡ true
   pub before : State
-  pub one : IsOneMore rows (states_of states kept) before key event
-  pub made : state_at states newest ≡ put key_cmp key event before
+  pub one : IsOneMore rows (states_of states kept) before (state_at states newest) key event
   pub new : is_in (events_checked kept.order.items) event ≡ false
   pub known : event < length rows

@@ -21,6 +21,7 @@ pub(crate) mod checked_events;
 mod first_records;
 mod one_more;
 pub(crate) mod outcomes;
+pub(crate) mod reached_events;
 
 // Of fewer states than these nothing is kept.
 const FEWEST_STATES: usize = 8;

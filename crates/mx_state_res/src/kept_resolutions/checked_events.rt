@@ -4,6 +4,7 @@ ghost use Rattle.std.specs.FinMap.Entries.{is_sorted, put};
 ghost use Rattle.mx_redact.specs.Fields.{is_some_and};
 ghost use Rattle.mx_auth.specs.Rules.{key_of, same_key};
 ghost use Rattle.mx_graph.specs.Record as record_of;
+ghost use Rattle.mx_graph.specs.Record.{is_in};
 ghost use Rattle.mx_orders.specs.StateMap.{State, key_cmp, with_event};
 ghost use Rattle.mx_state_res.specs.KeptResolutions as kept;
 ghost use Rattle.mx_state_res.specs.LaterResolution as later;
@@ -176,4 +177,16 @@ fn is_put_at(graph: &Graph, checked: CheckedEvent, kind: &str, state_key: &str) 
         && is_some_and (same_key (kind.now, state_key.now)) (key_of (record_of.event graph.now checked.event))) }
 {
     checked.is_put && is_at(&graph.row(checked.event).event, kind, state_key)
+}
+
+/// Whether an event is among those that were checked. It takes no memory.
+pub(crate) fn is_checked(order: &[CheckedEvent], event: EventNo) -> bool
+    ensures { result ≡ is_in (kept.events_checked order.now) event }
+{
+    for checked in order {
+        if checked.event == event {
+            return true;
+        }
+    }
+    false
 }

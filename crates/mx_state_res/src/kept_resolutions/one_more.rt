@@ -18,8 +18,8 @@ use mx_auth::RoomVersion;
 use mx_graph::{EventNo, Graph, graph_is_sound};
 use std::alloc::{AllocError, Global};
 
-/// What is kept of the resolution of all states but the last, with the last one; `None` where that one is more than an
-/// event at one of their keys, or another event would be judged otherwise because of it.
+/// What is kept of the resolution of all states but the last, with the last one; `None` where that one is more than one of
+/// them with an event more, or another event would be judged otherwise because of it.
 pub(crate) fn resolve_one_more(
     version: RoomVersion,
     alloc: Global,
@@ -49,7 +49,12 @@ pub(crate) fn resolve_one_more(
     let Some((place, outcome)) = outcome_of(version, alloc, graph, states, &kept, event)? else {
         return Ok(None);
     };
+    let row = &graph.row(event).event;
+    let Some(state_key) = row.state_key() else {
+        return Ok(None);
+    };
     let resolved = resolved_by(alloc, graph, states, &kept, *newest, event, outcome)?;
+    kept.differing.insert(row.kind(), state_key, event)?;
     let is_put = outcome.is_put();
     kept.order.insert(place, CheckedEvent { event, is_put })?;
     kept.numbers.push(*newest)?;

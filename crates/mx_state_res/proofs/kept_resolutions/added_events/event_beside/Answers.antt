@@ -1,17 +1,18 @@
-use Rattle.std.proofs.Common.{◌≡◌, ◌<◌, ◌∷◌, [], ℕ, Some, length, not, ap, subst, sym, ◌∙◌, true, arith}
-use Rattle.std.specs.Prelude.{is_some, option_copied, slice_get}
+use Rattle.std.proofs.Common.{◌≡◌, ◌<◌, ◌∷◌, ◌⊎◌, [], ℕ, None, Some, length, ap, inl, inr, refl, subst, sym, ◌∙◌, true, arith}
+use Rattle.std.specs.Prelude.{is_some}
 use Rattle.std.specs.List.{All}
 use Rattle.std.proofs.lemmas.List.Elements.{All-cons, All-nil}
+use Rattle.mx_auth.specs.Rules.{Key}
 use Rattle.mx_graph.specs.Record.{is_in}
 use Rattle.mx_graph.proofs.Members.{In}
 use Rattle.mx_orders.specs.StateMap.{State, entry}
 use Rattle.mx_orders.proofs.Members.{in_map}
-use Rattle.mx_state_res.specs.KeptResolutions.{states_of}
+use Rattle.mx_state_res.specs.KeptResolutions.{AllCiteReached, IsKeptAside, events_checked, states_of}
 use Rattle.mx_state_res.specs.LaterResolution.{agreed_line}
-use Rattle.mx_state_res.specs.Numbered.{state_at}
+use Rattle.mx_state_res.specs.Numbered.{AllAlike, state_at}
 use Rattle.mx_state_res.specs.Resolution.{full_conflicted}
+use Rattle.mx_state_res.proofs.BesideLemmas.{beside, cites-within}
 use Rattle.mx_state_res.proofs.KeyLemmas.{Sorted}
-use Rattle.mx_state_res.proofs.KeptResolutionLemmas.{if-some, only-entry, put-over}
 use Rattle.mx_state_res.proofs.LaterOrderLemmas.{distinct-full, order-members}
 use Rattle.mx_state_res.proofs.NumberedConflictLemmas.{at-sorted}
 use Rattle.mx_state_res.proofs.SetLemmas.{all-at}
@@ -22,45 +23,58 @@ differing-requires c =
     let P : ℕ → Type 0 = λ n. n < length c.args.states.now in
     All-cons P c.args.number (c.args.newest ∷ []) (all-at P c.args.kept.now.numbers.items c.requires.numbers c.args.number c.requires.among) (All-cons P c.args.newest [] c.requires.newest (All-nil P))
 
-pub taking_its_place-requires-clause-number : goal.taking_its_place-requires-clause-number
-taking_its_place-requires-clause-number c = all-at (λ n. n < length c.args.states.now) c.args.kept.now.numbers.items c.requires.numbers c.args.number c.requires.among
+pub state-before-requires : goal.state-before-requires
+state-before-requires c = all-at (λ n. n < length c.args.states.now) c.args.kept.now.numbers.items c.requires.numbers c.args.number c.requires.among
 
 pub returns : goal.returns
 returns c =
     let rows = c.args.graph.now in
     let states = c.args.states.now in
     let kept = c.args.kept.now in
-    let numbers = kept.numbers.items in
+    let order = events_checked kept.order.items in
     let ss = states_of states kept in
+    let full = full_conflicted rows ss in
     let at = c.requires.at_keys in
-    let s = state_at states c.args.number in
     let d = c.in_ok-differing.differing in
+    let s = state_at states c.args.number in
+    let t = state_at states c.args.newest in
     let e = c.in-Some.entry.now in
-    let first : slice_get d 0 ≡ Some e = ap (λ xs. slice_get xs 0) (sym c.entries.ensures.entries) ∙ sym c.first.ensures.value ∙ ap option_copied c.in-Some.is in
-    let one : length d ≡ 1 = let l = ap length c.entries-2.ensures.entries in omega arith in
-    let key_is : (c.kind.result.now, c.state_key.result.now) ≡ e.0 = λ i. (c.kind.ensures i, c.state_key.ensures i) in
-    let among : is_some (entry kept.differing e.0) ≡ true = ap (λ k. is_some (entry kept.differing k)) (sym key_is) ∙ ap is_some (sym c.get.ensures) ∙ c.is_none.ensures ∙ ap not c.if-is_none.false in
-    let sorted : (t : State) → In t ss → Sorted t = at-sorted (state_at states) numbers c.requires.sorted in
-    let member : In s ss = in_map (state_at states) c.args.number numbers c.requires.among in
-    if-some _ _ c.taking_its_place.result (λ x h. record {
+    let h = c.in-Some-new_event.ensures in
+    let sorted : (u : State) → In u ss → Sorted u = at-sorted (state_at states) kept.numbers.items c.requires.sorted in
+    let member : In s ss = in_map (state_at states) c.args.number kept.numbers.items c.requires.among in
+    let same : (p : ℕ) → is_in order p ≡ is_in full p = λ p. ap (λ ps. is_in ps p) at.order ∙ order-members rows (agreed_line rows ss) full (distinct-full rows ss) p in
+    let alike : (key : Key) → entry d key ≡ None → entry t key ≡ entry s key = λ key none. (c.in_ok-differing.ensures key).0 none 0 t (omega arith) in
+    let entries = c.entries-entries.result.now in
+    let one : AllCiteReached rows order s t d = subst (AllCiteReached rows order s t) c.entries-entries.ensures.entries
+    (subst (λ u. AllCiteReached rows order u t entries) c.state-before.ensures (subst (λ u. AllCiteReached rows order c.state-before.result u entries) c.state-later.ensures
+    (subst (λ cs. AllCiteReached rows (events_checked cs) c.state-before.result c.state-later.result entries) c.deref.ensures.value (c.reach_alike.ensures.one c.if-not-reach_alike.false)))) in
+    let other : AllCiteReached rows order t s d = subst (AllCiteReached rows order t s) c.entries-entries.ensures.entries
+    (subst (λ u. AllCiteReached rows order t u entries) c.state-before.ensures (subst (λ u. AllCiteReached rows order u c.state-before.result entries) c.state-later.ensures
+    (subst (λ cs. AllCiteReached rows (events_checked cs) c.state-later.result c.state-before.result entries) c.deref.ensures.value (c.reach_alike.ensures.other c.if-not-reach_alike.false)))) in
+    let aside : All (λ (f : Key × ℕ). (f.0 ≡ e.0) ⊎ IsKeptAside kept t f.0) d = subst (All (λ (f : Key × ℕ). (f.0 ≡ e.0) ⊎ IsKeptAside kept t f.0)) c.entries-entries.ensures.entries
+    (subst (λ u. All (λ (f : Key × ℕ). (f.0 ≡ e.0) ⊎ IsKeptAside kept u f.0) entries) c.state-later.ensures (c.are_aside.ensures c.if-not-are_aside.false)) in
+    let open_there : (entry s e.0 ≡ None) ⊎ (AllAlike e.0 ss → ⊥) = elim h.5 [
+      | inl none ↦ inl (ap (λ u. entry u e.0) (sym c.state-before.ensures) ∙ none)
+      | inr m ↦ inr (at.apart e.0 m)
+    ] in
+    record {
       key = e.0;
-      there = among;
       before = s;
       one = record {
         sorted = sorted;
+        sorted_later = c.state_is_sorted.ensures;
         member = member;
-        in_conflict = at.apart e.0 among;
-        other = h.5.0;
-        there = h.5.1;
-        same_auth = h.5.2;
+        there = ap (λ u. entry u e.0) (sym c.state-later.ensures) ∙ h.1;
+        open_at = open_there;
+        elsewhere = beside order full same d s t alike ss kept refl at.apart e.0 aside;
+        cited = cites-within order full same d t s (λ key none. sym (alike key none)) rows c.graph_is_sound.ensures c.state_is_sorted.ensures other;
+        cited_before = cites-within order full same d s t alike rows c.graph_is_sound.ensures (sorted s member) one;
         at_key = h.2;
         known = h.0;
-        new = sym (order-members rows (agreed_line rows ss) (full_conflicted rows ss) (distinct-full rows ss) x) ∙ ap (λ ps. is_in ps x) (sym at.order) ∙ h.3;
+        new = sym (same c.in-Some-new_event.event) ∙ h.3;
         no_power = h.4;
         no_powers = at.no_powers;
       };
-      made = put-over s (state_at states c.args.newest) e.0 x (sorted s member) c.state_is_sorted.ensures h.1
-          (λ q o. sym ((c.in_ok-differing.ensures q).0 (only-entry d e q first one o) 0 (state_at states c.args.newest) (omega arith)));
       new = h.3;
       known = h.0;
-    }) c.taking_its_place.ensures
+    }
