@@ -1,8 +1,9 @@
 #!/usr/bin/env python3
 """Makes logs for `mx_federd replay`, for measuring, with true ids and hashes, and signatures of the presence form.
 
-    make_log.py --shape linear|fork|conflict|joins|wide|soft|siblings|members|topics|bans|ladder|renames|all_banned
-                 --events N [--members 50] [--batch 50] [--form step|call] [--times rising|falling|random] [--ask COUNT]
+    make_log.py --shape linear|fork|conflict|joins|newcomers|wide|soft|siblings|members|topics|bans|ladder|renames|all_banned
+                 --events N [--members 50] [--turns 3] [--batch 50] [--form step|call] [--times rising|falling|random]
+                 [--ask COUNT]
                  [--seed 1] [--body BYTES] [--room ID] > log
     make_log.py --check-power BYTES > event       (one power levels event for `check`)
 
@@ -12,10 +13,11 @@ fork      of every ten events the eighth (a topic) and the ninth (a message) sta
 conflict  rounds of eight: two power levels, a ban and two topics, all on the last event; a message
           that merges the five; the unban and the new join of the banned member.
 joins     N new members join, one after the other: each event changes the state.
+newcomers N new members join, each on the same event: N forward extremities, whose states differ at N keys.
 wide      N messages that all follow the same event: N forward extremities.
 siblings  one member joins again N times, each time on the same event with another name: N forward extremities, whose
           states differ at one key.
-members   the same, three members in turn: the states differ at three keys.
+members   the same, three members in turn, or as many as `--turns` says: the states differ at three keys.
 topics    N topics by moderators on the same event.
 bans      one moderator bans and unbans a member N times, each time on the same event.
 ladder    two members rename themselves side by side, and the next two renames each cite both.
@@ -41,7 +43,7 @@ sys.dont_write_bytecode = True
 from event_logs import FEDERATION, header, quoted  # noqa: E402
 from matrix_events import Event, canonical, content_hash, id_of, reference_hash, server_of, unpadded  # noqa: E402
 
-SHAPES = ["linear", "fork", "conflict", "joins", "wide", "soft", "siblings", "members", "topics", "bans", "ladder",
+SHAPES = ["linear", "fork", "conflict", "joins", "newcomers", "wide", "soft", "siblings", "members", "topics", "bans", "ladder",
           "renames", "all_banned"]
 ROOM = "!room:s0.example"
 
@@ -161,6 +163,10 @@ class Room:
         self.users.append("@u%d:s%d.example" % (len(self.users), len(self.users) % 10))
         self.tip = self.join(self.users[-1], [self.tip])
 
+    def newcomers(self):
+        self.users.append("@u%d:s%d.example" % (len(self.users), len(self.users) % 10))
+        self.join(self.users[-1], [self.tip])
+
     def wide(self):
         self.message(self.random.choice(self.users), [self.tip])
 
@@ -172,7 +178,7 @@ class Room:
         self.rename(self.users[-1], [self.tip], self.member[self.users[-1]])
 
     def members(self):
-        user = self.users[-1 - len(self.events) % 3]
+        user = self.users[-1 - len(self.events) % self.options.turns]
         self.rename(user, [self.tip], self.member[user])
 
     def topics(self):
@@ -283,6 +289,7 @@ def main():
     parser.add_argument("--shape", choices=SHAPES, default="linear")
     parser.add_argument("--events", type=int, default=1000)
     parser.add_argument("--members", type=int, default=50)
+    parser.add_argument("--turns", type=int, default=3)
     parser.add_argument("--batch", type=int, default=50)
     parser.add_argument("--form", choices=["step", "call"], default="step")
     parser.add_argument("--times", choices=["rising", "falling", "random"], default="rising")

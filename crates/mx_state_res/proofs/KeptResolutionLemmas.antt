@@ -72,6 +72,9 @@ replaced v rows key x s c cs all d e f k h =
     at : is_some_and (eq_by_cmp key_cmp key) (key_of (event rows c.event)) ≡ true
     at = ap (is_some_and (eq_by_cmp key_cmp key)) k ∙ ap is_eq (key_cmp-itself key)
 
+pub same-itself : (k : Key) → same_key k k ≡ true
+same-itself k = and-make (bytes_eq k.0 k.0) (bytes_eq k.1 k.1) ((bytes_eq-Decides k.0 k.0).1 refl) ((bytes_eq-Decides k.1 k.1).1 refl)
+
 -- an event that stands at no such key
 pub other-key : (k : Key) (o : Option Key) → is_some_and (same_key k) o ≡ false → is_some_and (eq_by_cmp key_cmp k) o ≡ false
 other-key k None e = refl
@@ -80,8 +83,7 @@ other-key k (Some q) e = by (eq_by_cmp key_cmp k q) refl
     by : (b : Bool) → eq_by_cmp key_cmp k q ≡ b → eq_by_cmp key_cmp k q ≡ false
     by false h = h
     by true h =
-        let itself : same_key k k ≡ true = and-make (bytes_eq k.0 k.0) (bytes_eq k.1 k.1) ((bytes_eq-Decides k.0 k.0).1 refl) ((bytes_eq-Decides k.1 k.1).1 refl) in
-        absurd (cc (sym itself ∙ ap (same_key k) (equal-keys k q h) ∙ e))
+        absurd (cc (sym (same-itself k) ∙ ap (same_key k) (equal-keys k q h) ∙ e))
 
 -- an event that is judged as it was, and is not put at the key, is passed
 pub goes-on : (v : RoomVersion) (rows : List Row) (key : Key) (x : ℕ) (s after : State) (c : CheckedEvent) (cs all : List CheckedEvent) → all ≡ c ∷ cs → Sorted s → is_put v rows (put key_cmp key x s) c.event ≡ c.is_put

@@ -49,6 +49,7 @@ pub mod KeyOrderLemmas
 pub mod KeyEventLemmas
 pub mod KeptResolutionLemmas
 pub mod BesideLemmas
+pub mod NeedLemmas
 pub mod OneMoreLemmas
 pub mod KeptStateLemmas
 pub mod KeptGrowthLemmas

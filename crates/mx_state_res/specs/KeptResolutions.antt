@@ -47,6 +47,11 @@ is_put_by Refused = false
 is_put_by Replaced = true
 is_put_by Stays = true
 
+-- of an event that is put: whether it stays
+abbrev pub put_outcome : Bool → Outcome
+put_outcome true = Stays
+put_outcome false = Replaced
+
 -- what it makes of the resolution without it
 abbrev pub made_by : Outcome → Key → ℕ → State → State
 made_by Refused key x s = s

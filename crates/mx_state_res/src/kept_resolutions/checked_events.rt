@@ -1,5 +1,5 @@
 // Events that were checked, and one more among them.
-ghost use Rattle.std.specs.Prelude.{◌≡◌, ◌<◌, ◌&&◌, ℕ, All, IfOk, IfSome, OnOk, Some, T, if◌then◌else◌, length};
+ghost use Rattle.std.specs.Prelude.{◌≡◌, ◌<◌, ◌&&◌, ℕ, All, IfOk, IfSome, OnOk, Some, T, false, if◌then◌else◌, length};
 ghost use Rattle.std.specs.FinMap.Entries.{is_sorted, put};
 ghost use Rattle.mx_redact.specs.Fields.{is_some_and};
 ghost use Rattle.mx_auth.specs.Rules.{key_of, same_key};
@@ -13,7 +13,7 @@ ghost use Rattle.mx_state_res.specs.Resolution as definition;
 
 use crate::checks::judged_states::is_allowed;
 use crate::checks::working_states::WorkingState;
-use mx_auth::{RoomVersion, is_at};
+use mx_auth::{RoomVersion, is_at, needed_keys};
 use mx_graph::{EventNo, Graph};
 use mx_pdu::Pdu;
 use std::alloc::{AllocError, Global};
@@ -168,6 +168,41 @@ pub(crate) fn stays(
         put_again(graph, state, *checked)?;
     }
     Ok(Some(true))
+}
+
+/// The same, where none of these events needs the key; `None` where one does. It takes no memory.
+pub(crate) fn stays_unneeded(
+    version: RoomVersion,
+    graph: &Graph,
+    kind: &str,
+    state_key: &str,
+    after: &[CheckedEvent],
+) -> Option<bool>
+    requires { All (λ checked. checked.event < length graph.now) after.now }
+    ensures { (x : ℕ) (s : State) → T (is_sorted key_cmp s) → kept.AreChecked version graph.now s after.now → IfSome result (λ here.
+        later.stays version graph.now (kind.now, state_key.now) x s (kept.events_checked after.now) ≡ Some here) }
+{
+    for checked in after {
+        if needs(version, graph, checked.event, kind, state_key) {
+            return None;
+        }
+        if is_put_at(graph, *checked, kind, state_key) {
+            return Some(false);
+        }
+    }
+    Some(true)
+}
+
+// Whether the rules may look at a type and a state key where they judge an event.
+fn needs(version: RoomVersion, graph: &Graph, event: EventNo, kind: &str, state_key: &str) -> bool
+    requires { event < length graph.now }
+    ensures { result ≡ false → (x : ℕ) (s : State) → later.is_put version graph.now (put key_cmp (kind.now, state_key.now) x s) event
+        ≡ later.is_put version graph.now s event }
+{
+    if kind == "m.room.create" {
+        return true;
+    }
+    needed_keys(version, &graph.row(event).event).contains(kind, state_key)
 }
 
 // Whether an event that was checked was put at a type and a state key.

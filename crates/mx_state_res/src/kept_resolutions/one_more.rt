@@ -18,6 +18,9 @@ use mx_auth::RoomVersion;
 use mx_graph::{EventNo, Graph, graph_is_sound};
 use std::alloc::{AllocError, Global};
 
+// Where more keys are in conflict, the newest state is not what is resolved.
+const MOST_KEYS: usize = 8;
+
 /// What is kept of the resolution of all states but the last, with the last one; `None` where that one is more than one of
 /// them with an event more, or another event would be judged otherwise because of it.
 pub(crate) fn resolve_one_more(
@@ -94,11 +97,33 @@ fn resolved_by(
     };
     states.state_is_sorted(kept.resolved);
     states.state_is_sorted(newest);
-    if differ_there(alloc, states, kept.resolved, newest, kind, state_key)? {
+    if is_made_there(alloc, states, kept, newest, kind, state_key)? {
         return Ok(newest);
     }
     let number = states.with(kept.resolved, kind, state_key, event)?;
     Ok(number)
+}
+
+// Whether the newest state differs from what was resolved at a key, and nowhere else. Where many keys are in conflict it is
+// not looked for.
+fn is_made_there(
+    alloc: Global,
+    states: &States,
+    kept: &KeptResolution,
+    newest: StateNo,
+    kind: &str,
+    state_key: &str,
+) -> Result<bool, AllocError>
+    requires resolved { kept.now.resolved < length states.now }
+    requires newest { newest < length states.now }
+    ensures { IfOk result (λ there. IsTrue there → (key : Key) → is_eq (key_cmp key (kind.now, state_key.now)) ≡ false
+        → entry_at (state_at states.now kept.now.resolved) key ≡ entry_at (state_at states.now newest) key) }
+{
+    if kept.differing.entries().len() > MOST_KEYS {
+        return Ok(false);
+    }
+    let is_there = differ_there(alloc, states, kept.resolved, newest, kind, state_key)?;
+    Ok(is_there)
 }
 
 // Whether two states differ at a key, and nowhere else.

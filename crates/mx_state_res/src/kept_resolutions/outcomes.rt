@@ -14,7 +14,9 @@ ghost use Rattle.mx_state_res.specs.Resolution.{iterative_auth_checks, unconflic
 use crate::checks::working_states::WorkingState;
 use crate::kept_resolutions::KeptResolution;
 use crate::kept_resolutions::added_places::place_of;
-use crate::kept_resolutions::checked_events::{CheckedEvent, is_put, put_each, stays};
+use crate::kept_resolutions::checked_events::{
+    CheckedEvent, is_put, put_each, stays, stays_unneeded,
+};
 use crate::state_maps::StateMap;
 use crate::states::States;
 use mx_auth::RoomVersion;
@@ -34,7 +36,18 @@ pub(crate) enum Outcome {
 
 impl Outcome {
     ghost use Rattle.std.specs.Prelude.{◌≡◌};
-    ghost use Rattle.mx_state_res.specs.KeptResolutions.{is_put_by};
+    ghost use Rattle.mx_state_res.specs.KeptResolutions.{is_put_by, put_outcome};
+
+    // What becomes of an event that is put, and stays or does not.
+    fn of_put(stays: bool) -> Outcome
+        ensures { result ≡ put_outcome stays }
+    {
+        if stays {
+            Outcome::Stays
+        } else {
+            Outcome::Replaced
+        }
+    }
 
     /// Whether it is put.
     pub(crate) fn is_put(self) -> bool
@@ -138,12 +151,12 @@ fn outcome_in(
     let Some(state_key) = row.state_key() else {
         return Ok(None);
     };
+    if let Some(is_last) = stays_unneeded(version, graph, kind, state_key, after) {
+        return Ok(Some(Outcome::of_put(is_last)));
+    }
     state.insert(kind, state_key, event)?;
     let Some(is_last) = stays(version, graph, state, kind, state_key, after)? else {
         return Ok(None);
     };
-    if is_last {
-        return Ok(Some(Outcome::Stays));
-    }
-    Ok(Some(Outcome::Replaced))
+    Ok(Some(Outcome::of_put(is_last)))
 }

@@ -31,7 +31,8 @@ pub(crate) fn reach_alike(
 }
 
 // Whether another state reaches what the events of a state at these keys cite.
-fn cite_reached(    graph: &Graph,
+fn cite_reached(
+    graph: &Graph,
     order: &[CheckedEvent],
     entries: &[StateEntry],
     state: &StateRef<'_>,
@@ -111,12 +112,7 @@ fn reaches(
 }
 
 // Whether one of a state's events at these keys cites an event.
-fn is_cited(
-    graph: &Graph,
-    entries: &[StateEntry],
-    state: &StateRef<'_>,
-    event: EventNo,
-) -> bool
+fn is_cited(graph: &Graph, entries: &[StateEntry], state: &StateRef<'_>, event: EventNo) -> bool
     requires { All (λ e. e.1 < length graph.now) state.now }
     ensures { result ≡ true → is_in (auth_chain graph.now (events_of state.now)) event ≡ true }
 {

@@ -23,7 +23,7 @@ returns-then-branch-clause-resolved c =
     let is : own ≡ key = cc (sym row_is ∙ at) in
     subst (λ o. state_at states c.args.newest ≡ made_by o key c.args.event (state_at states c.args.kept.now.resolved)) (sym c.in-Stays.is)
     (put-over (state_at states c.args.kept.now.resolved) (state_at states c.args.newest) key c.args.event c.state_is_sorted.ensures c.state_is_sorted-2.ensures (c.requires.there key at)
-    (λ q other. c.in_ok-differ_there.ensures c.if-branch.true q (ap (λ k. is_eq (key_cmp q k)) is ∙ other)))
+    (λ q other. c.in_ok-is_made_there.ensures c.if-branch.true q (ap (λ k. is_eq (key_cmp q k)) is ∙ other)))
 
 pub returns-clause-resolved : goal.returns-clause-resolved
 returns-clause-resolved c =
