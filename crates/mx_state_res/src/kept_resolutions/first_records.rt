@@ -20,10 +20,7 @@ use mx_graph::{EventNo, Graph};
 use mx_orders::mainline_order;
 use std::alloc::{AllocError, Global};
 
-// Where states differ at more keys nothing is kept.
-const MOST_KEYS: usize = 64;
-
-/// What is kept of a resolution, where states differ at a few keys, and the events in conflict are no power events.
+/// What is kept of a resolution, where the events in conflict are no power events.
 pub(crate) fn kept_resolution(
     version: RoomVersion,
     alloc: Global,
@@ -47,9 +44,6 @@ pub(crate) fn kept_resolution(
     let Some(_) = differing.entries().first() else {
         return Ok(None);
     };
-    if differing.entries().len() > MOST_KEYS {
-        return Ok(None);
-    }
     let full = full_conflicted_at(alloc, graph, states, numbers, *base, &differing)?;
     if !power_events(alloc, graph, &full)?.is_empty() {
         return Ok(None);
