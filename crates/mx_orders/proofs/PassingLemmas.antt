@@ -86,7 +86,6 @@ events-map xs ys =
     ap (map (slice_index (xs ++ ys))) (none_before (length xs) 0 (length xs) (length ys) (length (xs ++ ys)) (omega arith) (length-append xs ys))
     ∙ map-from (slice_index (xs ++ ys)) ys (length xs) (index-past xs ys)
 
-
 -- events that are sorted behind the rows that they pass
 passing : (rows : List Row) (events passed members : List ℕ) → IsSound rows → All (λ x. x < length rows) events → Distinct events → members ≡ sorted (power_cmp rows) events → ArePassed rows events passed → IsPassing rows (passed ++ members) (length passed)
 passing rows events passed members sound known d e a = record {
