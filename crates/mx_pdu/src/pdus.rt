@@ -23,7 +23,7 @@ use crate::refusals::{NotAnEvent, PduError};
 use crate::rule_contents::rule_content_at;
 use crate::texts::{object_of, redacted_value, text_of, value_of};
 use mx_ident::{EventId, RoomId, UserId};
-use mx_redact::{Digests, event_digests, id_with_hash};
+use mx_redact::{Digests, digests_by_text, id_with_hash};
 use serde_json::{Map, Value};
 use std::alloc::{AllocError, Global};
 use std::marker::Model;
@@ -122,7 +122,7 @@ impl Pdu {
         ensures text { IfOk result (λ made. made.1.signing_text.items
             ≡ signing_text (object (members_view event.now.entries))) }
     {
-        let digests = event_digests(alloc, event)?;
+        let digests = digests_by_text(alloc, event, text.as_bytes())?;
         let whole = Parts::of(alloc, event, text, &digests)?;
         let parts = Arc::new(alloc, whole)?;
         Ok((Pdu { parts }, digests))

@@ -3,3 +3,4 @@ pub mod AppendLemmas
 pub mod IdLemmas
 pub mod PrefixLemmas
 pub mod RedactionRows
+mod TextPieceLemmas

@@ -3,3 +3,4 @@ pub mod Redaction
 pub mod Hashes
 pub mod Selected
 pub mod Hashers
+pub mod PartTexts

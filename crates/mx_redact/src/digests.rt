@@ -6,7 +6,10 @@ ghost use Rattle.serde_json.specs.View.{members_view};
 ghost use Rattle.mx_canon.specs.Canonical.{canonical_text};
 ghost use Rattle.mx_redact.specs.Hashes.{content_hash, reference_hash, hashed_part, signing_text};
 
+use crate::part_texts::parts_of_text;
 use crate::parts::write_hashed;
+use crate::redacting::kept_content_in;
+use crate::selections::Selection;
 use crate::signing::signed_text;
 use mx_canon::TextBuffer;
 use serde_json::{Map, Value};
@@ -42,12 +45,58 @@ pub fn event_digests(alloc: Global, event: &Map<String, Value>) -> Result<Digest
 {
     let hashed = hashed_text(alloc, event)?;
     let signing_text = signed_text(alloc, event)?;
-    let (content, reference) = hashes_of(&hashed, &signing_text);
-    Ok(Digests {
+    Ok(digests_of(&hashed, signing_text))
+}
+
+/// The hashes and the signing text of an event whose canonical text is at hand, as [`event_digests`] gives them: the
+/// texts that are hashed are put together from pieces of it.
+///
+/// Source: the Matrix specification, Server-Server API, "Calculating the content hash for an event" and "Calculating the
+/// reference hash for an event".
+pub fn digests_by_text(
+    alloc: Global,
+    event: &Map<String, Value>,
+    text: &[u8],
+) -> Result<Digests, AllocError>
+    requires { text.now ≡ canonical_text (object (members_view event.now.entries)) }
+    ensures content { IfOk result (λ digests. digests.content
+        ≡ content_hash (object (members_view event.now.entries))) }
+    ensures reference { IfOk result (λ digests. digests.reference
+        ≡ reference_hash (object (members_view event.now.entries))) }
+    ensures text { IfOk result (λ digests. digests.signing_text.items
+        ≡ signing_text (object (members_view event.now.entries))) }
+{
+    let (hashed, signing_text) = texts_by_text(alloc, event, text)?;
+    Ok(digests_of(&hashed, signing_text))
+}
+
+// The hashes of both texts, and the second.
+fn digests_of(hashed: &[u8], signing_text: Vec<u8>) -> Digests
+    ensures content { result.content ≡ sha256 hashed.now }
+    ensures reference { result.reference ≡ sha256 signing_text.items }
+    ensures text { result.signing_text.items ≡ signing_text.items }
+{
+    let (content, reference) = hashes_of(hashed, &signing_text);
+    Digests {
         content,
         reference,
         signing_text,
-    })
+    }
+}
+
+// The texts of the parts that are hashed and signed, of an event with this canonical text.
+fn texts_by_text(
+    alloc: Global,
+    event: &Map<String, Value>,
+    text: &[u8],
+) -> Result<(Vec<u8>, Vec<u8>), AllocError>
+    requires { text.now ≡ canonical_text (object (members_view event.now.entries)) }
+    ensures hashed { IfOk result (λ texts. texts.0.items ≡ canonical_text (hashed_part (object (members_view event.now.entries)))) }
+    ensures signed { IfOk result (λ texts. texts.1.items ≡ signing_text (object (members_view event.now.entries))) }
+{
+    let signed = Selection::Signed(kept_content_in(event));
+    let texts = parts_of_text(alloc, event, text, Selection::Hashed, signed)?;
+    Ok(texts)
 }
 
 // The text of the part that is hashed, in which a float has no digits.

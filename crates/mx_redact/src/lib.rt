@@ -7,12 +7,13 @@ mod fields;
 mod hashers;
 mod hashing;
 mod kinds;
+mod part_texts;
 mod parts;
 mod redacting;
 mod selections;
 mod signing;
 
-pub use digests::{Digests, event_digests};
+pub use digests::{Digests, digests_by_text, event_digests};
 pub use fields::{field, is_text, text_field};
 pub use hashing::{content_digest, content_hash, reference_digest, reference_hash};
 pub use redacting::redact;

@@ -28,7 +28,7 @@ pub(crate) enum Selection {
 
 impl Selection {
     // Whether a key of the event, or of its content, is in the part.
-    fn has(self, key: &str) -> bool
+    pub(crate) fn has(self, key: &str) -> bool
         ensures { result ≡ is_in_part self key.now }
     {
         match self {
@@ -40,7 +40,7 @@ impl Selection {
     }
 
     // What redaction keeps of the value at a key, where it keeps a part of it alone.
-    fn inner(self, key: &str) -> Option<KeptContent>
+    pub(crate) fn inner(self, key: &str) -> Option<KeptContent>
         ensures { result ≡ inner_of self key.now }
     {
         match self {
@@ -150,8 +150,9 @@ pub(crate) fn write_selected<S: TextSink>(
     sink.put(b"}");
 }
 
+/// Gives the sink the text of a member of the part, behind a comma where it is a later one.
 #[cycle(write)]
-fn write_member<S: TextSink>(
+pub(crate) fn write_member<S: TextSink>(
     sink: &mut S,
     later: bool,
     selection: Selection,

@@ -5,4 +5,4 @@ use Rattle.mx_redact.proofs.digests.event_digests.Goals as goal
 
 pub returns-clause-content : goal.returns-clause-content
 unfolding content_hash
-returns-clause-content c = c.hashes_of.ensures.first ∙ ap sha256 (c.deref.ensures.value ∙ c.in_ok-hashed.ensures)
+returns-clause-content c = c.digests_of.ensures.content ∙ ap sha256 (c.deref.ensures.value ∙ c.in_ok-hashed.ensures)
