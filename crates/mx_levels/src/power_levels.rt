@@ -43,11 +43,10 @@ impl<'a> Levels<'a> {
     pub fn user(&self, user: &str) -> i64
         ensures { result ≡ definition.user_level self.now.create self.now.power user.now }
     {
-        entry_level(self.power, "users", user).unwrap_or(users_default(
-            self.create,
-            self.power,
-            user,
-        ))
+        match entry_level(self.power, "users", user) {
+            Some(level) => level,
+            None => users_default(self.create, self.power, user),
+        }
     }
 
     /// The level that sending an event of this type asks for: the type's entry in `events`, else `state_default` for a
@@ -57,12 +56,11 @@ impl<'a> Levels<'a> {
     pub fn required(&self, kind: &str, is_state: bool) -> i64
         ensures { result ≡ definition.required_level self.now.power kind.now is_state }
     {
-        let otherwise = if is_state {
-            given_level(self.power, "state_default", 50, 0)
-        } else {
-            given_level(self.power, "events_default", 0, 0)
-        };
-        entry_level(self.power, "events", kind).unwrap_or(otherwise)
+        match entry_level(self.power, "events", kind) {
+            Some(level) => level,
+            None if is_state => given_level(self.power, "state_default", 50, 0),
+            None => given_level(self.power, "events_default", 0, 0),
+        }
     }
 
     /// The level that banning asks for, 50 if absent.
@@ -122,8 +120,10 @@ fn users_default(create: Option<&Pdu>, power: Option<&Pdu>, user: &str) -> i64
     ensures { result
         ≡ definition.users_default (option_map (λ e. e.now) create.entry) (option_map (λ e. e.now) power.entry) user.now }
 {
-    let otherwise = if is_creator(create, user) { 100 } else { 0 };
-    given_level(power, "users_default", 0, otherwise)
+    match power {
+        Some(_) => given_level(power, "users_default", 0, 0),
+        None => if is_creator(create, user) { 100 } else { 0 },
+    }
 }
 
 // Whether the create event names the user as its creator.
