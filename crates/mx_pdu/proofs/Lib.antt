@@ -11,6 +11,7 @@ pub mod LengthLemmas
 pub mod LimitLemmas
 pub mod LookupLemmas
 pub mod NestingLemmas
+mod ObjectLemmas
 pub mod RedactionLemmas
 pub mod RefusalLemmas
 pub mod RiseLemmas

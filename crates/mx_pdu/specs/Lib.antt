@@ -1,4 +1,6 @@
 pub mod Event
+pub mod EventKeys
+pub mod EventFields
 pub mod EventTexts
 pub mod Format
 pub mod DataCode

@@ -1,26 +1,27 @@
 // Whether a value has the format of an event.
-ghost use Rattle.std.specs.Prelude.{◌≡◌, true};
+ghost use Rattle.std.specs.Prelude.{◌≡◌, IfOk, true};
 ghost use Rattle.std.specs.Result.{result_err};
-ghost use Rattle.serde_json.specs.Data.{object};
-ghost use Rattle.serde_json.specs.View.{view, members_view};
+ghost use Rattle.serde_json.specs.View.{view};
 ghost use Rattle.mx_canon.specs.Canonical.{is_canonical, canonical_text};
 ghost use Rattle.mx_canon.specs.KeyOrder.{KeysRise};
 ghost use Rattle.mx_pdu.specs.Format.{format_error};
 ghost use Rattle.mx_pdu.specs.Refusals.{object_error};
 
+use crate::event_fields::EventFields;
 use crate::fields::has_every_field;
 use crate::limits::keeps_limits;
 use crate::refusals::NotAnEvent;
 use mx_canon::text_length;
-use serde_json::{Map, Value};
+use serde_json::Value;
 
 // The most bytes of an event's canonical text.
 const LONGEST_TEXT: u64 = 65_536;
 
-// The first refusal. It takes no memory.
+// The event that a value is, or the first refusal. It takes no memory.
 #[tactic(auto, unfolding(crate::specs::Format::format_error))]
-pub fn check_format(value: &Value) -> Result<(), NotAnEvent>
+pub fn check_format(value: &Value) -> Result<EventFields<'_>, NotAnEvent>
     ensures answer { result_err result ≡ format_error (view value.now) }
+    ensures event { IfOk result (λ event. event ≡ view value.now) }
     // Every value has its keys in order.
     ensures keys { KeysRise (view value.now) }
 {
@@ -31,25 +32,37 @@ pub fn check_format(value: &Value) -> Result<(), NotAnEvent>
     if !canonical {
         return Err(NotAnEvent::NotCanonical);
     }
-    check_object(event, text_length(value) > LONGEST_TEXT)
+    let event = EventFields::of(event);
+    match check_object(&event, text_length(value) > LONGEST_TEXT) {
+        Ok(()) => Ok(event),
+        Err(cause) => Err(cause),
+    }
 }
 
-// The first refusal of a value that has canonical JSON, which is this text.
+// The event that a value is which has canonical JSON, with this text, or the first refusal.
 #[tactic(auto, unfolding(crate::specs::Format::format_error))]
-pub fn check_canonical_format(value: &Value, text: &[u8]) -> Result<(), NotAnEvent>
+pub fn check_canonical_format<'a>(
+    value: &'a Value,
+    text: &[u8],
+) -> Result<EventFields<'a>, NotAnEvent>
     requires canonical { is_canonical (view value.now) ≡ true }
     requires text { text.now ≡ canonical_text (view value.now) }
     ensures answer { result_err result ≡ format_error (view value.now) }
+    ensures event { IfOk result (λ event. event ≡ view value.now) }
 {
-    match value.as_object() {
-        Some(event) => check_object(event, text.len() as u64 > LONGEST_TEXT),
-        None => Err(NotAnEvent::NotAnObject),
+    let Some(event) = value.as_object() else {
+        return Err(NotAnEvent::NotAnObject);
+    };
+    let event = EventFields::of(event);
+    match check_object(&event, text.len() as u64 > LONGEST_TEXT) {
+        Ok(()) => Ok(event),
+        Err(cause) => Err(cause),
     }
 }
 
 // The first refusal of an object that has canonical JSON.
-fn check_object(event: &Map<String, Value>, is_too_long: bool) -> Result<(), NotAnEvent>
-    ensures { result_err result ≡ object_error is_too_long (object (members_view event.now.entries)) }
+fn check_object(event: &EventFields<'_>, is_too_long: bool) -> Result<(), NotAnEvent>
+    ensures { result_err result ≡ object_error is_too_long event.now }
 {
     if is_too_long {
         return Err(NotAnEvent::TextTooLong);

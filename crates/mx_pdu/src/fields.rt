@@ -2,46 +2,47 @@
 ghost use Rattle.std.specs.Prelude.{◌≡◌, option_map};
 ghost use Rattle.std.specs.List.{list_all};
 ghost use Rattle.std.specs.Result.{result_err};
-ghost use Rattle.serde_json.specs.Data.{object};
-ghost use Rattle.serde_json.specs.View.{view, members_view};
+ghost use Rattle.serde_json.specs.View.{view};
 ghost use Rattle.mx_ident.specs.Identifier.{user_id_error, room_id_error, event_id_error};
 ghost use Rattle.mx_redact.specs.Fields.{field, is_object, is_some_and, is_none_or};
+ghost use Rattle.mx_pdu.specs.EventKeys.{key_text};
 ghost use Rattle.mx_pdu.specs.Format.{has_fields, is_id, is_id_or_long, is_event_id_list, is_integer, is_string};
 
-use crate::lookups::array_at;
+use crate::event_fields::EventFields;
+use crate::event_keys::EventKey;
+use crate::lookups::{array_at, text_at};
 use mx_ident::{EventId, NotAnId, RoomId, UserId};
-use mx_redact::{field, text_field};
-use serde_json::{Map, Value};
+use serde_json::Value;
 
-pub fn has_every_field(event: &Map<String, Value>) -> bool
-    ensures { result ≡ has_fields (object (members_view event.now.entries)) }
+pub fn has_every_field(event: &EventFields<'_>) -> bool
+    ensures { result ≡ has_fields event.now }
 {
-    has_event_ids(event, "auth_events")
-        && has_object(event, "content")
-        && has_integer(event, "depth")
-        && has_object(event, "hashes")
-        && has_integer(event, "origin_server_ts")
-        && has_event_ids(event, "prev_events")
-        && has_room_id(event, "room_id")
-        && has_user_id(event, "sender")
-        && has_object(event, "signatures")
-        && has_text(event, "type")
-        && has_text_or_nothing(event, "state_key")
+    has_event_ids(event, EventKey::AuthEvents)
+        && has_object(event, EventKey::Content)
+        && has_integer(event, EventKey::Depth)
+        && has_object(event, EventKey::Hashes)
+        && has_integer(event, EventKey::OriginServerTs)
+        && has_event_ids(event, EventKey::PrevEvents)
+        && has_room_id(event, EventKey::RoomId)
+        && has_user_id(event, EventKey::Sender)
+        && has_object(event, EventKey::Signatures)
+        && has_text(event, EventKey::Kind)
+        && has_text_or_nothing(event, EventKey::StateKey)
 }
 
-fn has_object(event: &Map<String, Value>, key: &str) -> bool
-    ensures { result ≡ is_some_and is_object (field key.now (object (members_view event.now.entries))) }
+fn has_object(event: &EventFields<'_>, key: EventKey) -> bool
+    ensures { result ≡ is_some_and is_object (field (key_text key) event.now) }
 {
-    match field(event, key) {
+    match event.field(key) {
         Some(value) => value.is_object(),
         None => false,
     }
 }
 
-fn has_integer(event: &Map<String, Value>, key: &str) -> bool
-    ensures { result ≡ is_some_and is_integer (field key.now (object (members_view event.now.entries))) }
+fn has_integer(event: &EventFields<'_>, key: EventKey) -> bool
+    ensures { result ≡ is_some_and is_integer (field (key_text key) event.now) }
 {
-    match field(event, key) {
+    match event.field(key) {
         Some(value) => holds_integer(value),
         None => false,
     }
@@ -56,44 +57,44 @@ fn holds_integer(value: &Value) -> bool
     }
 }
 
-fn has_text(event: &Map<String, Value>, key: &str) -> bool
-    ensures { result ≡ is_some_and is_string (field key.now (object (members_view event.now.entries))) }
+fn has_text(event: &EventFields<'_>, key: EventKey) -> bool
+    ensures { result ≡ is_some_and is_string (field (key_text key) event.now) }
 {
-    match field(event, key) {
+    match event.field(key) {
         Some(value) => value.is_string(),
         None => false,
     }
 }
 
-fn has_text_or_nothing(event: &Map<String, Value>, key: &str) -> bool
-    ensures { result ≡ is_none_or is_string (field key.now (object (members_view event.now.entries))) }
+fn has_text_or_nothing(event: &EventFields<'_>, key: EventKey) -> bool
+    ensures { result ≡ is_none_or is_string (field (key_text key) event.now) }
 {
-    match field(event, key) {
+    match event.field(key) {
         Some(value) => value.is_string(),
         None => true,
     }
 }
 
-fn has_room_id(event: &Map<String, Value>, key: &str) -> bool
-    ensures { result ≡ is_some_and (is_id room_id_error) (field key.now (object (members_view event.now.entries))) }
+fn has_room_id(event: &EventFields<'_>, key: EventKey) -> bool
+    ensures { result ≡ is_some_and (is_id room_id_error) (field (key_text key) event.now) }
 {
-    match text_field(event, key) {
+    match text_at(event, key) {
         Some(text) => is_id_but_for_length(RoomId::check(text)),
         None => false,
     }
 }
 
-fn has_user_id(event: &Map<String, Value>, key: &str) -> bool
-    ensures { result ≡ is_some_and (is_id user_id_error) (field key.now (object (members_view event.now.entries))) }
+fn has_user_id(event: &EventFields<'_>, key: EventKey) -> bool
+    ensures { result ≡ is_some_and (is_id user_id_error) (field (key_text key) event.now) }
 {
-    match text_field(event, key) {
+    match text_at(event, key) {
         Some(text) => is_id_but_for_length(UserId::check(text)),
         None => false,
     }
 }
 
-fn has_event_ids(event: &Map<String, Value>, key: &str) -> bool
-    ensures { result ≡ is_some_and is_event_id_list (field key.now (object (members_view event.now.entries))) }
+fn has_event_ids(event: &EventFields<'_>, key: EventKey) -> bool
+    ensures { result ≡ is_some_and is_event_id_list (field (key_text key) event.now) }
 {
     match array_at(event, key) {
         Some(items) => are_event_ids(items),

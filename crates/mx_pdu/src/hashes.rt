@@ -2,20 +2,19 @@
 ghost use Rattle.std.specs.Prelude.{◌≡◌, bytes_eq, codes, option_map};
 ghost use Rattle.base64.specs.Engines.{standard_no_pad};
 ghost use Rattle.base64.specs.GeneralPurpose.{encode_of};
-ghost use Rattle.serde_json.specs.Data.{object};
-ghost use Rattle.serde_json.specs.View.{members_view};
 ghost use Rattle.mx_redact.specs.Fields.{text_field, value_at};
 ghost use Rattle.mx_redact.specs.Hashes.{content_hash, hash_holds};
 
+use crate::event_fields::EventFields;
+use crate::event_keys::EventKey;
 use crate::lookups::object_at;
 use base64::engine::general_purpose::STANDARD_NO_PAD;
 use mx_redact::text_field;
-use serde_json::{Map, Value};
 
 // Whether the event names this hash, which is its content hash.
-pub fn names_hash(event: &Map<String, Value>, hash: &[u8; 32]) -> bool
-    requires { hash.now ≡ content_hash (object (members_view event.now.entries)) }
-    ensures { result ≡ hash_holds (object (members_view event.now.entries)) }
+pub fn names_hash(event: &EventFields<'_>, hash: &[u8; 32]) -> bool
+    requires { hash.now ≡ content_hash event.now }
+    ensures { result ≡ hash_holds event.now }
 {
     match named_hash(event) {
         Some(text) => is_text_of(text, hash),
@@ -24,11 +23,11 @@ pub fn names_hash(event: &Map<String, Value>, hash: &[u8; 32]) -> bool
 }
 
 // The text at `sha256` in `hashes`.
-fn named_hash(event: &Map<String, Value>) -> Option<&str>
+fn named_hash<'a>(event: &EventFields<'a>) -> Option<&'a str>
     ensures { option_map (λ text. text.now) result
-        ≡ text_field (codes "sha256") (value_at (codes "hashes") (object (members_view event.now.entries))) }
+        ≡ text_field (codes "sha256") (value_at (codes "hashes") event.now) }
 {
-    match object_at(event, "hashes") {
+    match object_at(event, EventKey::Hashes) {
         Some(hashes) => text_field(hashes, "sha256"),
         None => None,
     }

@@ -7,7 +7,10 @@ ghost use Rattle.serde_json.specs.View.{view, members_view};
 ghost use Rattle.mx_ident.specs.Identifier.{is_event_id, is_room_id, is_user_id};
 ghost use Rattle.mx_redact.specs.Fields.{is_none_or, texts_at};
 ghost use Rattle.mx_pdu.specs.Event.{redacts_of};
+ghost use Rattle.mx_pdu.specs.EventKeys.{key_text};
 
+use crate::event_fields::EventFields;
+use crate::event_keys::EventKey;
 use crate::lookups::array_at;
 use mx_ident::{EventId, IdError, RoomId, UserId};
 use mx_redact::text_field;
@@ -52,11 +55,11 @@ pub fn redacted_id_in(
 // The ids in the array at a key.
 pub fn event_ids_at(
     alloc: Global,
-    event: &Map<String, Value>,
-    key: &str,
+    event: &EventFields<'_>,
+    key: EventKey,
 ) -> Result<Vec<EventId>, AllocError>
-    requires { list_all is_event_id (texts_at key.now (object (members_view event.now.entries))) ≡ true }
-    ensures { IfOk result (λ ids. ids.items ≡ texts_at key.now (object (members_view event.now.entries))) }
+    requires { list_all is_event_id (texts_at (key_text key) event.now) ≡ true }
+    ensures { IfOk result (λ ids. ids.items ≡ texts_at (key_text key) event.now) }
 {
     match array_at(event, key) {
         Some(items) => event_ids_of(alloc, items),

@@ -3,6 +3,8 @@
 
 mod checking;
 mod comparing;
+mod event_fields;
+mod event_keys;
 mod fields;
 mod hashes;
 mod ids;

@@ -1,16 +1,17 @@
 // The limits on an event's fields. Nothing here takes memory.
 ghost use Rattle.std.specs.Prelude.{◌≡◌, length, nat_le, ◌&&◌};
 ghost use Rattle.std.specs.List.{list_all};
-ghost use Rattle.serde_json.specs.Data.{object};
-ghost use Rattle.serde_json.specs.View.{view, members_view};
+ghost use Rattle.serde_json.specs.View.{view};
 ghost use Rattle.mx_redact.specs.Fields.{field, is_none_or};
+ghost use Rattle.mx_pdu.specs.EventKeys.{key_text};
 ghost use Rattle.mx_pdu.specs.Format.{limits, is_within_limits, is_short, is_short_list, is_depth};
 
+use crate::event_fields::EventFields;
+use crate::event_keys::EventKey;
 use crate::lookups::array_at;
 use crate::nesting::members_nest_within;
 use mx_canon::LARGEST;
-use mx_redact::field;
-use serde_json::{Map, Value};
+use serde_json::Value;
 
 // The most bytes of a text.
 const LONGEST: usize = 255;
@@ -24,28 +25,28 @@ const MOST_AUTH_EVENTS: usize = 10;
 // The most levels of arrays and objects in an event, itself included: as many as are read from text.
 const DEEPEST_NESTING: u8 = 127;
 
-pub fn keeps_limits(event: &Map<String, Value>) -> bool
-    ensures { result ≡ is_within_limits (object (members_view event.now.entries)) }
+pub fn keeps_limits(event: &EventFields<'_>) -> bool
+    ensures { result ≡ is_within_limits event.now }
 {
-    keeps_field_limits(event) && members_nest_within(event, DEEPEST_NESTING - 1)
+    keeps_field_limits(event) && members_nest_within(event.members(), DEEPEST_NESTING - 1)
 }
 
-fn keeps_field_limits(event: &Map<String, Value>) -> bool
-    ensures { result ≡ list_all (λ f. is_none_or f.1 (field f.0 (object (members_view event.now.entries)))) limits }
+fn keeps_field_limits(event: &EventFields<'_>) -> bool
+    ensures { result ≡ list_all (λ f. is_none_or f.1 (field f.0 event.now)) limits }
 {
-    keeps_list_limit(event, "auth_events", MOST_AUTH_EVENTS)
-        && keeps_depth_limit(event, "depth")
-        && keeps_list_limit(event, "prev_events", MOST_PREV_EVENTS)
-        && keeps_text_limit(event, "room_id")
-        && keeps_text_limit(event, "sender")
-        && keeps_text_limit(event, "state_key")
-        && keeps_text_limit(event, "type")
+    keeps_list_limit(event, EventKey::AuthEvents, MOST_AUTH_EVENTS)
+        && keeps_depth_limit(event, EventKey::Depth)
+        && keeps_list_limit(event, EventKey::PrevEvents, MOST_PREV_EVENTS)
+        && keeps_text_limit(event, EventKey::RoomId)
+        && keeps_text_limit(event, EventKey::Sender)
+        && keeps_text_limit(event, EventKey::StateKey)
+        && keeps_text_limit(event, EventKey::Kind)
 }
 
-fn keeps_text_limit(event: &Map<String, Value>, key: &str) -> bool
-    ensures { result ≡ is_none_or is_short (field key.now (object (members_view event.now.entries))) }
+fn keeps_text_limit(event: &EventFields<'_>, key: EventKey) -> bool
+    ensures { result ≡ is_none_or is_short (field (key_text key) event.now) }
 {
-    match field(event, key) {
+    match event.field(key) {
         Some(value) => has_short_text(value),
         None => true,
     }
@@ -60,10 +61,10 @@ fn has_short_text(value: &Value) -> bool
     }
 }
 
-fn keeps_depth_limit(event: &Map<String, Value>, key: &str) -> bool
-    ensures { result ≡ is_none_or is_depth (field key.now (object (members_view event.now.entries))) }
+fn keeps_depth_limit(event: &EventFields<'_>, key: EventKey) -> bool
+    ensures { result ≡ is_none_or is_depth (field (key_text key) event.now) }
 {
-    match field(event, key) {
+    match event.field(key) {
         Some(value) => has_depth(value),
         None => true,
     }
@@ -82,8 +83,8 @@ fn has_depth(value: &Value) -> bool
     }
 }
 
-fn keeps_list_limit(event: &Map<String, Value>, key: &str, most: usize) -> bool
-    ensures { result ≡ is_none_or (is_short_list most) (field key.now (object (members_view event.now.entries))) }
+fn keeps_list_limit(event: &EventFields<'_>, key: EventKey, most: usize) -> bool
+    ensures { result ≡ is_none_or (is_short_list most) (field (key_text key) event.now) }
 {
     match array_at(event, key) {
         Some(items) => are_few_and_short(items, most),

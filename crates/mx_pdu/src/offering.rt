@@ -13,6 +13,8 @@ ghost use Rattle.mx_pdu.specs.Format.{format_error, is_well_formed};
 ghost use Rattle.mx_pdu.specs.declared.refusals.NotAnEvent.{NotAnEvent as Cause};
 
 use crate::checking::{check_canonical_format, check_format};
+use crate::event_fields::EventFields;
+use crate::event_keys::EventKey;
 use crate::lookups::object_at;
 use crate::pdus::Pdu;
 use crate::refusals::PduError;
@@ -44,10 +46,11 @@ impl Offered {
             ≡ V.judges verifier.now (server_of (sender_of pdu)) (signing_text pdu) (value_at (codes "signatures") pdu)) }
     {
         let value = pdu.value(alloc)?;
-        let event = object_of(&value);
-        let text = signing_bytes_of(alloc, event)?;
+        let members = object_of(&value);
+        let text = signing_bytes_of(alloc, members)?;
         let id = pdu.event_id(alloc)?;
-        let signed = is_signed(alloc, pdu.sender(), &text, event, verifier)?;
+        let event = EventFields::of(members);
+        let signed = is_signed(alloc, pdu.sender(), &text, &event, verifier)?;
         Ok(Offered { pdu, id, signed })
     }
 
@@ -70,9 +73,9 @@ impl Offered {
         ensures refused { (cause : Cause)
             → (IsErrOf result (PduError.NotAnEvent cause) ↔ (format_error (view value) ≡ Some cause)) }
     {
-        check_format(&value)?;
+        let event = check_format(&value)?;
         let text = text_of(alloc, &value)?;
-        let offered = Offered::of_checked(alloc, object_of(&value), text, verifier)?;
+        let offered = Offered::of_checked(alloc, &event, text, verifier)?;
         Ok(offered)
     }
 
@@ -96,28 +99,28 @@ impl Offered {
         ensures refused { (cause : Cause)
             → (IsErrOf result (PduError.NotAnEvent cause) ↔ (format_error (view value) ≡ Some cause)) }
     {
-        check_canonical_format(&value, text.as_bytes())?;
-        let offered = Offered::of_checked(alloc, object_of(&value), text, verifier)?;
+        let event = check_canonical_format(&value, text.as_bytes())?;
+        let offered = Offered::of_checked(alloc, &event, text, verifier)?;
         Ok(offered)
     }
 
     // Of an object that is well formed, and its canonical text.
     fn of_checked<V: Verifier>(
         alloc: Global,
-        event: &Map<String, Value>,
+        event: &EventFields<'_>,
         text: String,
         verifier: &V,
     ) -> Result<Offered, AllocError>
-        requires well_formed { IsTrue (is_well_formed (object (members_view event.now.entries))) }
-        requires keys { KeysRise (object (members_view event.now.entries)) }
-        requires text { string_bytes text ≡ canonical_text (object (members_view event.now.entries)) }
-        requires reads { read (string_bytes text) ≡ Some (object (members_view event.now.entries)) }
-        ensures pdu { IfOk result (λ offered. offered.pdu ≡ object (members_view event.now.entries)) }
-        ensures id { IfOk result (λ offered. offered.id ≡ event_id_of (object (members_view event.now.entries))) }
+        requires well_formed { IsTrue (is_well_formed event.now) }
+        requires keys { KeysRise event.now }
+        requires text { string_bytes text ≡ canonical_text event.now }
+        requires reads { read (string_bytes text) ≡ Some event.now }
+        ensures pdu { IfOk result (λ offered. offered.pdu ≡ event.now) }
+        ensures id { IfOk result (λ offered. offered.id ≡ event_id_of event.now) }
         ensures signed { IfOk result (λ offered. offered.signed
-            ≡ V.judges verifier.now (server_of (sender_of (object (members_view event.now.entries))))
-            (signing_text (object (members_view event.now.entries)))
-            (value_at (codes "signatures") (object (members_view event.now.entries)))) }
+            ≡ V.judges verifier.now (server_of (sender_of event.now))
+            (signing_text event.now)
+            (value_at (codes "signatures") event.now)) }
     {
         let (pdu, digests) = Pdu::of_checked(alloc, event, text)?;
         let id = pdu.event_id(alloc)?;
@@ -145,12 +148,12 @@ fn is_signed<V: Verifier>(
     alloc: Global,
     sender: &UserId,
     text: &[u8],
-    event: &Map<String, Value>,
+    event: &EventFields<'_>,
     verifier: &V,
 ) -> Result<bool, AllocError>
-    requires { IsTrue (is_well_formed (object (members_view event.now.entries))) }
+    requires { IsTrue (is_well_formed event.now) }
     ensures { IfOk result (λ signed. signed
-        ≡ V.judges verifier.now (server_of sender.now) text.now (value_at (codes "signatures") (object (members_view event.now.entries)))) }
+        ≡ V.judges verifier.now (server_of sender.now) text.now (value_at (codes "signatures") event.now)) }
 {
     let server = sender.server_name(alloc)?;
     Ok(verifier.accepts(&server, text, signatures_of(event)))
@@ -167,11 +170,11 @@ fn signing_bytes_of(alloc: Global, event: &Map<String, Value>) -> Result<Vec<u8>
     }
 }
 
-fn signatures_of(event: &Map<String, Value>) -> &Map<String, Value>
-    requires { IsTrue (is_well_formed (object (members_view event.now.entries))) }
-    ensures { object (members_view result.now.entries) ≡ value_at (codes "signatures") (object (members_view event.now.entries)) }
+fn signatures_of<'a>(event: &EventFields<'a>) -> &'a Map<String, Value>
+    requires { IsTrue (is_well_formed event.now) }
+    ensures { object (members_view result.now.entries) ≡ value_at (codes "signatures") event.now }
 {
-    match object_at(event, "signatures") {
+    match object_at(event, EventKey::Signatures) {
         Some(signatures) => signatures,
         None => unreachable!(),
     }

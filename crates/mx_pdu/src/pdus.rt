@@ -16,6 +16,8 @@ ghost use Rattle.mx_pdu.specs.RuleContent.{rule_content};
 ghost use Rattle.mx_pdu.specs.declared.refusals.NotAnEvent.{NotAnEvent as Cause};
 
 use crate::checking::{check_canonical_format, check_format};
+use crate::event_fields::EventFields;
+use crate::event_keys::EventKey;
 use crate::hashes::names_hash;
 use crate::ids::{event_ids_at, redacted_id_in, room_id_of, user_id_of};
 use crate::lookups::{depth_in, text_copied_from, text_or_empty_at, timestamp_in};
@@ -83,9 +85,9 @@ impl Pdu {
         ensures refused { (cause : Cause)
             → (IsErrOf result (PduError.NotAnEvent cause) ↔ (format_error (view value) ≡ Some cause)) }
     {
-        check_format(&value)?;
+        let event = check_format(&value)?;
         let text = text_of(alloc, &value)?;
-        let made = Pdu::of_checked(alloc, object_of(&value), text)?;
+        let made = Pdu::of_checked(alloc, &event, text)?;
         Ok(made.0)
     }
 
@@ -101,28 +103,28 @@ impl Pdu {
         ensures refused { (cause : Cause)
             → (IsErrOf result (PduError.NotAnEvent cause) ↔ (format_error (view value) ≡ Some cause)) }
     {
-        check_canonical_format(&value, text.as_bytes())?;
-        let made = Pdu::of_checked(alloc, object_of(&value), text)?;
+        let event = check_canonical_format(&value, text.as_bytes())?;
+        let made = Pdu::of_checked(alloc, &event, text)?;
         Ok(made.0)
     }
 
     // Of an object that is well formed, and its canonical text.
     pub(crate) fn of_checked(
         alloc: Global,
-        event: &Map<String, Value>,
+        event: &EventFields<'_>,
         text: String,
     ) -> Result<(Pdu, Digests), AllocError>
-        requires well_formed { IsTrue (is_well_formed (object (members_view event.now.entries))) }
-        requires keys { KeysRise (object (members_view event.now.entries)) }
-        requires text { string_bytes text ≡ canonical_text (object (members_view event.now.entries)) }
-        requires reads { read (string_bytes text) ≡ Some (object (members_view event.now.entries)) }
-        ensures ok { IfOk result (λ made. made.0 ≡ object (members_view event.now.entries)) }
+        requires well_formed { IsTrue (is_well_formed event.now) }
+        requires keys { KeysRise event.now }
+        requires text { string_bytes text ≡ canonical_text event.now }
+        requires reads { read (string_bytes text) ≡ Some event.now }
+        ensures ok { IfOk result (λ made. made.0 ≡ event.now) }
         ensures reference { IfOk result (λ made. made.1.reference
-            ≡ reference_hash (object (members_view event.now.entries))) }
+            ≡ reference_hash event.now) }
         ensures text { IfOk result (λ made. made.1.signing_text.items
-            ≡ signing_text (object (members_view event.now.entries))) }
+            ≡ signing_text event.now) }
     {
-        let digests = digests_by_text(alloc, event, text.as_bytes())?;
+        let digests = digests_by_text(alloc, event.members(), text.as_bytes())?;
         let whole = Parts::of(alloc, event, text, &digests)?;
         let parts = Arc::new(alloc, whole)?;
         Ok((Pdu { parts }, digests))
@@ -136,7 +138,8 @@ impl Pdu {
     pub fn check(value: &Value) -> Result<(), NotAnEvent>
         ensures { result_err result ≡ format_error (view value.now) }
     {
-        check_format(value)
+        let _event = check_format(value)?;
+        Ok(())
     }
 
     /// Its type.
@@ -251,7 +254,7 @@ impl Pdu {
         let event = self.value(alloc)?;
         let redacted = redacted_value(alloc, &event)?;
         let text = text_of(alloc, &redacted)?;
-        let made = Pdu::of_checked(alloc, object_of(&redacted), text)?;
+        let made = Pdu::of_checked(alloc, &EventFields::of(object_of(&redacted)), text)?;
         Ok(made.0)
     }
 
@@ -281,28 +284,28 @@ impl Parts {
     // Of an object that is well formed, its canonical text and its hashes. The text is kept with no room to spare.
     fn of(
         alloc: Global,
-        event: &Map<String, Value>,
+        event: &EventFields<'_>,
         text: String,
         digests: &Digests,
     ) -> Result<Parts, AllocError>
-        requires well_formed { IsTrue (is_well_formed (object (members_view event.now.entries))) }
-        requires keys { KeysRise (object (members_view event.now.entries)) }
-        requires text { string_bytes text ≡ canonical_text (object (members_view event.now.entries)) }
-        requires reads { read (string_bytes text) ≡ Some (object (members_view event.now.entries)) }
-        requires content { digests.now.content ≡ content_hash (object (members_view event.now.entries)) }
-        requires reference { digests.now.reference ≡ reference_hash (object (members_view event.now.entries)) }
+        requires well_formed { IsTrue (is_well_formed event.now) }
+        requires keys { KeysRise event.now }
+        requires text { string_bytes text ≡ canonical_text event.now }
+        requires reads { read (string_bytes text) ≡ Some event.now }
+        requires content { digests.now.content ≡ content_hash event.now }
+        requires reference { digests.now.reference ≡ reference_hash event.now }
         ensures sound { IfOk result IsSound }
-        ensures event { IfOk result (λ parts. event_of parts ≡ object (members_view event.now.entries)) }
+        ensures event { IfOk result (λ parts. event_of parts ≡ event.now) }
     {
         let mut text = text;
         text.shrink_to_fit();
-        let kind = String::from_str(alloc, text_or_empty_at(event, "type"))?;
-        let state_key = text_copied_from(alloc, event, "state_key")?;
-        let room_id = room_id_of(alloc, text_or_empty_at(event, "room_id"))?;
-        let sender = user_id_of(alloc, text_or_empty_at(event, "sender"))?;
-        let prev_events = event_ids_at(alloc, event, "prev_events")?;
-        let auth_events = event_ids_at(alloc, event, "auth_events")?;
-        let redacts = redacted_id_in(alloc, event)?;
+        let kind = String::from_str(alloc, text_or_empty_at(event, EventKey::Kind))?;
+        let state_key = text_copied_from(alloc, event, EventKey::StateKey)?;
+        let room_id = room_id_of(alloc, text_or_empty_at(event, EventKey::RoomId))?;
+        let sender = user_id_of(alloc, text_or_empty_at(event, EventKey::Sender))?;
+        let prev_events = event_ids_at(alloc, event, EventKey::PrevEvents)?;
+        let auth_events = event_ids_at(alloc, event, EventKey::AuthEvents)?;
+        let redacts = redacted_id_in(alloc, event.members())?;
         let content = rule_content_at(alloc, event)?;
         let hash_holds = names_hash(event, &digests.content);
         Ok(Parts {

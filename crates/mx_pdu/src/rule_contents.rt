@@ -7,6 +7,8 @@ ghost use Rattle.mx_pdu.specs.Event.{content_of};
 ghost use Rattle.mx_pdu.specs.Format.{is_well_formed};
 ghost use Rattle.mx_pdu.specs.RuleContent.{is_rule_key as is_in_rules, rule_content};
 
+use crate::event_fields::EventFields;
+use crate::event_keys::EventKey;
 use crate::lookups::object_at;
 use serde_json::{Map, Value};
 use std::alloc::{AllocError, Global};
@@ -14,13 +16,13 @@ use std::alloc::{AllocError, Global};
 // A copy of the members that rules read of the content of a well-formed event.
 pub fn rule_content_at(
     alloc: Global,
-    event: &Map<String, Value>,
+    event: &EventFields<'_>,
 ) -> Result<Map<String, Value>, AllocError>
-    requires { IsTrue (is_well_formed (object (members_view event.now.entries))) }
+    requires { IsTrue (is_well_formed event.now) }
     ensures { IfOk result (λ kept. object (members_view kept.entries)
-        ≡ rule_content (content_of (object (members_view event.now.entries)))) }
+        ≡ rule_content (content_of event.now)) }
 {
-    match object_at(event, "content") {
+    match object_at(event, EventKey::Content) {
         Some(content) => rule_content_of(alloc, content),
         None => unreachable!(),
     }

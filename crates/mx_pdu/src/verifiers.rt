@@ -1,12 +1,14 @@
 // Whether an event's signatures are accepted.
-ghost use Rattle.std.specs.Prelude.{◌≡◌, Bool, List, ℕ};
+ghost use Rattle.std.specs.Prelude.{◌≡◌, Bool, List, ℕ, option_and_then, option_map};
 ghost use Rattle.std.specs.List.{list_any};
 ghost use Rattle.serde_json.specs.Data.{Data, object};
+ghost use Rattle.serde_json.specs.Find.{as_object};
 ghost use Rattle.serde_json.specs.View.{view, members_view};
+ghost use Rattle.mx_redact.specs.Fields.{field};
 ghost use Rattle.mx_pdu.specs.Verifiers.{is_signature, is_signed_by, values_of};
 
-use crate::lookups::object_at;
 use mx_ident::ServerName;
+use mx_redact::field;
 use serde_json::{Map, Value};
 
 /// What accepts or refuses the signatures of a server. Its answer is a function of the three arguments.
@@ -29,11 +31,19 @@ impl Verifier for PresenceVerifier {
     ghost judges = { λ _ server _ signatures. is_signed_by server signatures };
 
     fn accepts(&self, server: &ServerName, _bytes: &[u8], signatures: &Map<String, Value>) -> bool {
-        match object_at(signatures, server.as_str()) {
+        match object_in(signatures, server.as_str()) {
             Some(of_server) => has_signature(of_server),
             None => false,
         }
     }
+}
+
+// The object at a key of an object.
+fn object_in<'a>(members: &'a Map<String, Value>, key: &str) -> Option<&'a Map<String, Value>>
+    ensures { option_map (λ object. members_view object.now.entries) result
+        ≡ option_and_then as_object (field key.now (object (members_view members.now.entries))) }
+{
+    field(members, key).and_then(Value::as_object)
 }
 
 // Whether a value of the members is a signature.

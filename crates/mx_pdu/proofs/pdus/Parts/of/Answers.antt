@@ -4,7 +4,7 @@ use Rattle.serde_json.specs.Data.{object}
 use Rattle.serde_json.specs.Read.{read}
 use Rattle.serde_json.specs.View.{members_view}
 use Rattle.mx_ident.specs.Identifier.{is_room_id, is_user_id}
-use Rattle.mx_pdu.specs.Event.{timestamp_of}
+use Rattle.mx_pdu.specs.Event.{redacts_of, timestamp_of}
 use Rattle.mx_pdu.specs.Inside.{AreOf}
 use Rattle.mx_pdu.proofs.IdLemmas.{room-is, sender-is, prev-are, auth-are}
 use Rattle.mx_pdu.proofs.TextLemmas.{value-read}
@@ -24,7 +24,7 @@ event_ids_at-requires-2 c = auth-are _ c.requires.well_formed
 
 pub returns-clause-sound : goal.returns-clause-sound
 returns-clause-sound c =
-    let event = object (members_view c.args.event.now.entries) in
+    let event = c.args.event.now in
     let bytes = c.shrink_to_fit.ensures.bytes in
     let reads = ap read bytes ∙ c.requires.reads in
     let time : to_z w64 (of_z w64 c.timestamp_in.result) ≡ timestamp_of event = search rules in
@@ -39,7 +39,7 @@ returns-clause-sound c =
       sender = c.in_ok-sender.ensures ∙ c.text_or_empty_at-3.ensures;
       prev = c.in_ok-prev_events.ensures;
       auth = c.in_ok-auth_events.ensures;
-      redacts = c.in_ok-redacts.ensures;
+      redacts = c.in_ok-redacts.ensures ∙ ap redacts_of c.members.ensures;
       depth = c.depth_in.ensures;
       timestamp = time;
       content = c.in_ok-content.ensures;
@@ -49,4 +49,4 @@ returns-clause-sound c =
 
 pub returns-clause-event : goal.returns-clause-event
 returns-clause-event c =
-    value-read (string_bytes c.shrink_to_fit.new.self) (object (members_view c.args.event.now.entries)) (ap read c.shrink_to_fit.ensures.bytes ∙ c.requires.reads)
+    value-read (string_bytes c.shrink_to_fit.new.self) c.args.event.now (ap read c.shrink_to_fit.ensures.bytes ∙ c.requires.reads)
