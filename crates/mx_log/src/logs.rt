@@ -27,6 +27,7 @@ use mx_requests::WireServer;
 use mx_world::World;
 use std::alloc::{AllocError, Global};
 use std::io::{self, Read, Write};
+use std::mem;
 use thiserror::Error;
 
 /// Why a log was not answered to its end.
@@ -116,6 +117,7 @@ impl From<CallError> for LinesError {
 /// Where no line is a refusal for memory or storage, what is written is what the lines' steps call for: a server that
 /// takes these steps one after another, each transaction's next only where it was opened, gives these replies. A line
 /// that is refused is answered so, and those after it are read. Nothing is promised of what was written after an error.
+/// The server's memory is left to the end of the process, so that this is to be called once in a process.
 ///
 /// Source: the lines are our own; the requests that they hold are those of the Matrix specification, Server-Server API.
 pub fn run_lines<R: Read, W: Write, V: Verifier>(
@@ -133,7 +135,10 @@ pub fn run_lines<R: Read, W: Write, V: Verifier>(
     let name = name.clone()?;
     let server = WireServer::new(alloc, name)?;
     let mut world = new_world(alloc, shards)?;
-    answer_log(alloc, &server, verifier, &mut world, input, out)?;
+    let told = answer_log(alloc, &server, verifier, &mut world, input, out);
+    // Taking its rooms apart one by one would take a seventh of the time of a long log.
+    mem::forget(world);
+    told?;
     Ok(())
 }
 
