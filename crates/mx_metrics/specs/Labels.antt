@@ -1,13 +1,12 @@
 -- What is counted apart, in numbers and words (docs/OPERATION.md).
-use Rattle.std.specs.Prelude.{ℕ, ◌+◌, ◌*◌, List, codes, if◌then◌else◌, ◌==◌}
+use Rattle.std.specs.Prelude.{ℕ, ◌+◌, ◌*◌, List, Option, None, Some, bytes_eq, codes, if◌then◌else◌, nat_eq, ◌==◌}
+use Rattle.std.specs.List.{starts_with}
 use Rattle.mx_metrics.specs.declared.labels.RouteLabel.{RouteLabel}
 use Rattle.mx_metrics.specs.declared.labels.RouteLabel.TheVariants as route
 use Rattle.mx_metrics.specs.declared.labels.StatusLabel.{StatusLabel}
 use Rattle.mx_metrics.specs.declared.labels.StatusLabel.TheVariants as status
 use Rattle.mx_metrics.specs.declared.labels.EventResult.{EventResult}
 use Rattle.mx_metrics.specs.declared.labels.EventResult.TheVariants as result
-use Rattle.mx_metrics.specs.declared.labels.TransactionEnd.{TransactionEnd}
-use Rattle.mx_metrics.specs.declared.labels.TransactionEnd.TheVariants as ended
 
 abbrev pub route_number : RouteLabel → ℕ
 route_number route.Send = 0
@@ -77,16 +76,6 @@ result_name result.Signature = codes "signature"
 result_name result.MissingEvents = codes "missing events"
 result_name result.RoomFull = codes "room full"
 
-abbrev pub end_number : TransactionEnd → ℕ
-end_number ended.Kept = 0
-end_number ended.Replayed = 1
-end_number ended.Busy = 2
-
-abbrev pub end_name : TransactionEnd → List ℕ
-end_name ended.Kept = codes "kept"
-end_name ended.Replayed = codes "replayed"
-end_name ended.Busy = codes "busy"
-
 -- the label of a status of HTTP
 abbrev pub status_of : ℕ → StatusLabel
 status_of n =
@@ -104,3 +93,17 @@ status_of n =
 -- where replies of a route and status are counted
 abbrev pub reply_place : RouteLabel → StatusLabel → ℕ
 reply_place r s = route_number r * 10 + status_number s
+
+-- why an event was refused, by the error of its result, as replies tell it (docs/LOG.md)
+abbrev pub refusal_of : List ℕ → Option EventResult
+refusal_of error =
+    if bytes_eq error (codes "unknown room") then Some result.UnknownRoom else (
+    if bytes_eq error (codes "server acl") then Some result.AccessList else (
+    if bytes_eq error (codes "second create") then Some result.SecondCreate else (
+    if bytes_eq error (codes "signature") then Some result.Signature else (
+    if bytes_eq error (codes "missing events") then Some result.MissingEvents else (
+    if bytes_eq error (codes "room full") then Some result.RoomFull else None)))))
+
+-- what became of an event whose result has this error
+abbrev pub result_of : List ℕ → Option EventResult
+result_of error = if starts_with nat_eq error (codes "rejected: ") then Some result.Rejected else refusal_of error

@@ -1,6 +1,6 @@
 // All figures of a server, as Prometheus reads them.
 use crate::counts::Counts;
-use crate::labels::{EventResult, RouteLabel, StatusLabel, TransactionEnd};
+use crate::labels::{EventResult, RouteLabel, StatusLabel};
 use crate::latencies::{BOUNDS, Latencies};
 use crate::samples::{Family, FamilyKind, Label, Labels, write_family, write_sample};
 use crate::server_counts::{ServerCounts, place_of};
@@ -29,12 +29,6 @@ const EVENTS: Family<'static> = Family {
     kind: FamilyKind::Counter,
 };
 
-const TRANSACTIONS: Family<'static> = Family {
-    name: "mx_federd_transactions_total",
-    help: "Transactions, by how they ended.",
-    kind: FamilyKind::Counter,
-};
-
 /// One figure that stands alone.
 #[derive(Clone, Copy, Debug)]
 pub struct Figure<'a> {
@@ -55,7 +49,6 @@ pub fn metrics_text(
     write_replies(&mut text, &counts.replies)?;
     write_times(&mut text, &counts.latencies)?;
     write_events(&mut text, &counts.events)?;
-    write_transactions(&mut text, &counts.transactions)?;
     for figure in figures {
         write_family(&mut text, &figure.family)?;
         write_sample(&mut text, figure.family.name, &Labels::None, figure.value)?;
@@ -137,19 +130,6 @@ fn write_events(text: &mut String, events: &Counts) -> Result<(), AllocError> {
         };
         let count = events.at(became.number());
         write_sample(text, EVENTS.name, &Labels::One(label), count)?;
-    }
-    Ok(())
-}
-
-fn write_transactions(text: &mut String, transactions: &Counts) -> Result<(), AllocError> {
-    write_family(text, &TRANSACTIONS)?;
-    for ended in TransactionEnd::ALL {
-        let label = Label {
-            name: "ended",
-            value: ended.name(),
-        };
-        let count = transactions.at(ended.number());
-        write_sample(text, TRANSACTIONS.name, &Labels::One(label), count)?;
     }
     Ok(())
 }

@@ -171,6 +171,39 @@ pub enum EventResult {
 }
 
 impl EventResult {
+    /// What became of an event whose result has this error; none where the text is no such error. An event without an error was
+    /// accepted.
+    pub fn of_error(error: &str) -> Option<EventResult>
+        ensures { result ≡ definition.result_of error.now }
+    {
+        if error.as_bytes().starts_with(b"rejected: ") {
+            Some(EventResult::Rejected)
+        } else {
+            EventResult::refusal_of(error)
+        }
+    }
+
+    // Why an event was refused.
+    fn refusal_of(error: &str) -> Option<EventResult>
+        ensures { result ≡ definition.refusal_of error.now }
+    {
+        if error == "unknown room" {
+            Some(EventResult::UnknownRoom)
+        } else if error == "server acl" {
+            Some(EventResult::AccessList)
+        } else if error == "second create" {
+            Some(EventResult::SecondCreate)
+        } else if error == "signature" {
+            Some(EventResult::Signature)
+        } else if error == "missing events" {
+            Some(EventResult::MissingEvents)
+        } else if error == "room full" {
+            Some(EventResult::RoomFull)
+        } else {
+            None
+        }
+    }
+
     /// All of them, by their numbers.
     pub const ALL: [EventResult; 8] = [
         EventResult::Accepted,
@@ -213,47 +246,6 @@ impl EventResult {
             EventResult::Signature => "signature",
             EventResult::MissingEvents => "missing events",
             EventResult::RoomFull => "room full",
-        }
-    }
-}
-
-/// How a transaction ended: with a reply that is kept now, with the one that was kept before, or untouched, since it is being
-/// answered on another connection.
-#[derive(Clone, Copy, Debug, PartialEq, Eq)]
-pub enum TransactionEnd {
-    Kept,
-    Replayed,
-    Busy,
-}
-
-impl TransactionEnd {
-    /// All of them, by their numbers.
-    pub const ALL: [TransactionEnd; 3] = [
-        TransactionEnd::Kept,
-        TransactionEnd::Replayed,
-        TransactionEnd::Busy,
-    ];
-
-    /// Its number, from 0.
-    pub fn number(self) -> usize
-        ensures number { result ≡ definition.end_number self }
-        ensures below { result < 3 }
-    {
-        match self {
-            TransactionEnd::Kept => 0,
-            TransactionEnd::Replayed => 1,
-            TransactionEnd::Busy => 2,
-        }
-    }
-
-    /// Its name.
-    pub fn name(self) -> &'static str
-        ensures { result.now ≡ definition.end_name self }
-    {
-        match self {
-            TransactionEnd::Kept => "kept",
-            TransactionEnd::Replayed => "replayed",
-            TransactionEnd::Busy => "busy",
         }
     }
 }

@@ -11,7 +11,7 @@ mod server_counts;
 
 pub use counts::Counts;
 pub use exposition::{Figure, metrics_text};
-pub use labels::{EventResult, RouteLabel, StatusLabel, TransactionEnd};
+pub use labels::{EventResult, RouteLabel, StatusLabel};
 pub use latencies::Latencies;
 pub use samples::{Family, FamilyKind, Label, Labels, write_family, write_sample};
 pub use server_counts::ServerCounts;

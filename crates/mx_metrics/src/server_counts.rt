@@ -1,25 +1,24 @@
 // What a server counts.
 ghost use Rattle.std.specs.Prelude.{◌≡◌, ◌*◌, ◌+◌, ◌<◌, IfOk, replicate};
 ghost use Rattle.mx_metrics.specs.Counts as counting;
-ghost use Rattle.mx_metrics.specs.Labels.{reply_place, result_number, end_number};
+ghost use Rattle.mx_metrics.specs.Labels.{reply_place, result_number};
 ghost use Rattle.mx_metrics.specs.Latencies.{range_of};
 
 use crate::counts::Counts;
-use crate::labels::{EventResult, RouteLabel, StatusLabel, TransactionEnd};
+use crate::labels::{EventResult, RouteLabel, StatusLabel};
 use crate::latencies::Latencies;
 use std::alloc::{AllocError, Global};
 
 // How many kinds of replies there are: ten routes by ten statuses.
 const REPLIES: usize = 100;
 
-/// What a server, or one thread of it, has done: how many replies of each route and status it gave and how long they took, what
-/// became of how many events, and how many transactions ended how.
+/// What a server, or one thread of it, has done: how many replies of each route and status it gave, how long they took, and what
+/// became of how many events.
 #[derive(Debug, Drop)]
 pub struct ServerCounts {
     pub replies: Counts,
     pub latencies: Latencies,
     pub events: Counts,
-    pub transactions: Counts,
 }
 
 impl ServerCounts {
@@ -27,17 +26,14 @@ impl ServerCounts {
     pub fn new(alloc: Global) -> Result<ServerCounts, AllocError>
         ensures replies { IfOk result (λ new. new.replies ≡ replicate REPLIES 0) }
         ensures events { IfOk result (λ new. new.events ≡ replicate 8 0) }
-        ensures transactions { IfOk result (λ new. new.transactions ≡ replicate 3 0) }
     {
         let replies = Counts::new(alloc, REPLIES)?;
         let latencies = Latencies::new(alloc)?;
         let events = Counts::new(alloc, EventResult::ALL.len())?;
-        let transactions = Counts::new(alloc, TransactionEnd::ALL.len())?;
         Ok(ServerCounts {
             replies,
             latencies,
             events,
-            transactions,
         })
     }
 
@@ -47,7 +43,6 @@ impl ServerCounts {
         ensures times { self.new.latencies.counts ≡ counting.raised self.old.latencies.counts (range_of microseconds) 1 }
         ensures time { self.new.latencies.microseconds ≡ counting.sum_up_to_most self.old.latencies.microseconds microseconds }
         ensures events { self.new.events ≡ self.old.events }
-        ensures transactions { self.new.transactions ≡ self.old.transactions }
     {
         self.replies.raise(place_of(route, status), 1);
         self.latencies.note(microseconds);
@@ -58,19 +53,8 @@ impl ServerCounts {
         ensures events { self.new.events ≡ counting.raised self.old.events (result_number became) 1 }
         ensures replies { self.new.replies ≡ self.old.replies }
         ensures latencies { self.new.latencies ≡ self.old.latencies }
-        ensures transactions { self.new.transactions ≡ self.old.transactions }
     {
         self.events.raise(became.number(), 1);
-    }
-
-    /// A transaction ended so.
-    pub fn note_transaction(&mut self, ended: TransactionEnd)
-        ensures transactions { self.new.transactions ≡ counting.raised self.old.transactions (end_number ended) 1 }
-        ensures replies { self.new.replies ≡ self.old.replies }
-        ensures latencies { self.new.latencies ≡ self.old.latencies }
-        ensures events { self.new.events ≡ self.old.events }
-    {
-        self.transactions.raise(ended.number(), 1);
     }
 
     /// Adds all that others counted.
@@ -79,12 +63,10 @@ impl ServerCounts {
         ensures times { self.new.latencies.counts ≡ counting.added self.old.latencies.counts others.now.latencies.counts }
         ensures time { self.new.latencies.microseconds ≡ counting.sum_up_to_most self.old.latencies.microseconds others.now.latencies.microseconds }
         ensures events { self.new.events ≡ counting.added self.old.events others.now.events }
-        ensures transactions { self.new.transactions ≡ counting.added self.old.transactions others.now.transactions }
     {
         self.replies.add(&others.replies);
         self.latencies.add(&others.latencies);
         self.events.add(&others.events);
-        self.transactions.add(&others.transactions);
     }
 }
 
