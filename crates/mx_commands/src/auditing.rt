@@ -2,7 +2,7 @@
 mod file_rows;
 mod line_kinds;
 mod log_rows;
-mod offerings;
+pub(crate) mod offerings;
 mod page;
 mod questions;
 mod records;

@@ -3,6 +3,7 @@
 #![tactic(auto)]
 
 mod auditing;
+mod bad_lines;
 mod checking;
 mod logging;
 mod output;

@@ -6,17 +6,19 @@
 //! log of one room.
 #![tactic(auto)]
 
+ghost use Rattle.std.specs.Prelude.{◌≡◌, OnErr, OnOk};
+
 mod counted_input;
 mod noted_output;
 
 use counted_input::CountedInput;
 use mx_command_line::{Command, CommandLineError, Invocation};
 use mx_commands::{
-    Failure, MISUSED, REFUSED, SUCCESS, audit, check, log, replay, report, report_about,
-    report_server,
+    Failure, FailureAbout, MISUSED, REFUSED, SUCCESS, audit, check, log, replay, report,
+    report_about, report_server,
 };
 use mx_directory::{ProgressLine, migrate};
-use mx_options::{AuditOptions, MigrateOptions, ServeOptions};
+use mx_options::{AuditOptions, LogOptions, MigrateOptions, ServeOptions};
 use mx_server::serve;
 use noted_output::NotedOutput;
 use std::alloc::{AllocError, AllocGlobal, Global};
@@ -72,9 +74,9 @@ pub fn main_with<R: Read, W: Write, E: Write>(
 ) -> Asked {
     let mut out = NotedOutput::new(out);
     let ran = match command {
-        Command::Check => check(alloc, input, &mut out),
-        Command::Replay { name, shards } => replay(alloc, &name, shards, input, &mut out),
-        Command::Log(options) => log(alloc, &options, input, &mut out, err),
+        Command::Check(options) => check(alloc, options, input, &mut out),
+        Command::Replay(options) => replay(alloc, &options, input, &mut out),
+        Command::Log(options) => logged(alloc, &options, input, &mut out, err),
         Command::Version(text) => told(&mut out, &text),
         Command::Serve(options) => return Asked::Serve(options),
         Command::Audit(options) => return Asked::Audit(options),
@@ -83,18 +85,34 @@ pub fn main_with<R: Read, W: Write, E: Write>(
     Asked::Ended(status_of(ran, out.is_closed(), err))
 }
 
+// Writes a log of exported events.
+fn logged<R: Read, W: Write, E: Write>(
+    alloc: Global,
+    options: &LogOptions,
+    input: &mut R,
+    out: &mut W,
+    err: &mut E,
+) -> Result<(), FailureAbout> {
+    log(alloc, options, input, out, err)?;
+    Ok(())
+}
+
 // Writes a text.
-fn told<W: Write>(out: &mut W, text: &str) -> Result<(), Failure> {
+fn told<W: Write>(out: &mut W, text: &str) -> Result<(), FailureAbout> {
     out.write_all(text.as_bytes()).map_err(Failure::of_io)?;
-    out.flush().map_err(Failure::of_io)
+    out.flush().map_err(Failure::of_io)?;
+    Ok(())
 }
 
 // The exit status of a run that gave so, and whose output is closed or not.
-fn status_of<E: Write>(ran: Result<(), Failure>, is_closed: bool, err: &mut E) -> u8 {
+fn status_of<E: Write>(ran: Result<(), FailureAbout>, is_closed: bool, err: &mut E) -> u8
+    ensures done { OnOk ran (result ≡ SUCCESS) }
+    ensures failed { OnErr ran (result ≡ REFUSED) }
+{
     match ran {
         Ok(()) => SUCCESS,
-        Err(Failure::ReadOrWrite) if is_closed => REFUSED,
-        Err(failure) => report(failure, err),
+        Err(about) if is_closed && about.failure == Failure::ReadOrWrite => REFUSED,
+        Err(about) => report_about(about, err),
     }
 }
 
@@ -164,11 +182,22 @@ where
         Err(status) => return status,
     };
     match file {
-        None => status_with(rt, host, command, input, out, err),
+        None => status_with(rt, host, command, input, None, out, err),
         Some(path) => match File::open(host, path.as_str()) {
-            Ok(mut file) => status_with(rt, host, command, &mut file, out, err),
+            Ok(mut file) => {
+                let length = length_of(&file);
+                status_with(rt, host, command, &mut file, length, out, err)
+            }
             Err(error) => unopened(&path, &error, err),
         },
+    }
+}
+
+// How many bytes a file has, where the system tells.
+fn length_of(file: &File) -> Option<u64> {
+    match file.metadata() {
+        Ok(about) if about.is_file() => Some(about.len()),
+        _ => None,
     }
 }
 
@@ -179,12 +208,14 @@ fn unopened<E: Write>(path: &str, error: &io::Error, err: &mut E) -> u8 {
     status
 }
 
-// Does what the program is asked, and gives the exit status. Where standard error is a terminal it tells how much was read.
+// Does what the program is asked, and gives the exit status. Where standard error is a terminal it tells how much was read, of
+// this length, if it is known.
 fn status_with<R, I: Read, W: Write, E: Write>(
     rt: &R,
     host: &HostRuntime,
     command: Command,
     input: &mut I,
+    length: Option<u64>,
     out: &mut W,
     err: &mut E,
 ) -> u8
@@ -201,7 +232,7 @@ where
         + Send
         + Sync,
 {
-    let mut counted = CountedInput::new(input, ProgressLine::new(host));
+    let mut counted = CountedInput::new(input, length, ProgressLine::new(host));
     match main_with(rt.alloc(), command, &mut counted, out, err) {
         Asked::Ended(status) => status,
         Asked::Serve(options) => match serve(rt, host, options, out, err) {

@@ -22,7 +22,8 @@ pub(crate) struct CallLine {
     pub request: WireRequest,
 }
 
-const CALL_KEYS: [&str; 6] = ["step", "method", "target", "authorization", "now", "body"];
+/// The keys of a line that is a request.
+pub const CALL_KEYS: [&str; 6] = ["step", "method", "target", "authorization", "now", "body"];
 
 /// The line that is a request: its `method`, `target` and `now`, and perhaps its `authorization` and `body`.
 pub(crate) fn call_line(alloc: Global, members: Map<String, Value>) -> Result<Line, AllocError>

@@ -14,7 +14,7 @@ use serde_json::{Map, Value};
 use std::alloc::{AllocError, Global};
 
 /// The keys of a line that names a transaction and nothing else.
-pub(crate) const TRANSACTION_KEYS: [&str; 3] = ["step", "origin", "txn"];
+pub const TRANSACTION_KEYS: [&str; 3] = ["step", "origin", "txn"];
 
 /// Whether each key of an object is one of these names. It takes no memory.
 pub(crate) fn has_only(members: &Map<String, Value>, names: &[&str]) -> bool

@@ -14,9 +14,11 @@ use mx_world::{Step, TransactionKey};
 use serde_json::{Map, Value};
 use std::alloc::{AllocError, Global};
 
-const HOST_KEYS: [&str; 2] = ["step", "event"];
+/// The keys of a line that hosts a room.
+pub const HOST_KEYS: [&str; 2] = ["step", "event"];
 
-const OPEN_KEYS: [&str; 4] = ["step", "origin", "txn", "pdus"];
+/// The keys of a line that opens a transaction.
+pub const OPEN_KEYS: [&str; 4] = ["step", "origin", "txn", "pdus"];
 
 /// The line that hosts the room of its `event`. Nothing of the event is copied.
 pub(crate) fn host_line<V: Verifier>(
