@@ -1,6 +1,9 @@
 // Events as other servers export them.
+use crate::exported_events::ExportedEvent;
 use crate::finding::find_events;
-use mx_pdu::{NotAnEvent, Pdu, PduError};
+use base64::engine::general_purpose::STANDARD_NO_PAD;
+use mx_pdu::{NotAnEvent, PduError};
+use mx_redact::{content_digest, field};
 use serde_json::{Map, Value};
 use std::alloc::{AllocError, Global};
 use std::collections::BTreeMap;
@@ -9,7 +12,7 @@ use std::collections::BTreeMap;
 #[derive(Debug, Drop)]
 pub struct Input {
     /// The events, in the order of the input, each as often as it is there.
-    pub events: Vec<Pdu>,
+    pub events: Vec<ExportedEvent>,
     /// Those that are no events of room versions 6 and 7.
     pub refused: Vec<RefusedEvent>,
     /// The keys that were let go, each with the number of events that had it.
@@ -61,58 +64,68 @@ fn event_of(
     alloc: Global,
     let_go: &mut BTreeMap<String, u64>,
     members: Map<String, Value>,
-) -> Result<Pdu, PduError> {
+) -> Result<ExportedEvent, PduError> {
     let mut members = members;
     if members.remove("unsigned").is_some() {
         count(alloc, let_go, "unsigned")?;
     }
-    let Some(additions) = additions_in(alloc, &members)? else {
-        return Pdu::from_value(alloc, Value::Object(members));
-    };
-    let whole = members.clone()?;
-    for key in &additions {
-        members.remove(key.as_str());
+    let additions = additions_in(alloc, &members)?;
+    if additions.is_empty() {
+        return ExportedEvent::from_value(alloc, &Value::Object(members));
     }
-    let event = Pdu::from_value(alloc, Value::Object(members));
-    if !is_hashed(&event) {
-        if let Some(event) = hashed_event(alloc, whole)? {
-            return Ok(event);
+    event_without(alloc, let_go, members, &additions)
+}
+
+// The event that an object is without these keys, or with them, where its content hash holds with them alone.
+fn event_without(
+    alloc: Global,
+    let_go: &mut BTreeMap<String, u64>,
+    members: Map<String, Value>,
+    additions: &[String],
+) -> Result<ExportedEvent, PduError> {
+    let mut left = members;
+    let taken = taken_out(alloc, &mut left, additions)?;
+    let left = Value::Object(left);
+    let event = ExportedEvent::from_value(alloc, &left);
+    if event.is_err() || !hash_holds(&left) {
+        if let Some(whole) = whole_event(alloc, left, taken)? {
+            return Ok(whole);
         }
     }
-    for key in &additions {
+    for key in additions {
         count(alloc, let_go, key)?;
     }
     event
 }
 
-fn is_hashed(event: &Result<Pdu, PduError>) -> bool {
-    match event {
-        Ok(event) => event.hash_holds(),
-        Err(_) => false,
-    }
-}
-
-// The keys of an object that no event has, where it has any.
-fn additions_in(
+// Takes the members at these keys out of an object.
+fn taken_out(
     alloc: Global,
-    members: &Map<String, Value>,
-) -> Result<Option<Vec<String>>, AllocError> {
-    let mut keys = Vec::new(alloc);
-    for (key, _) in members.iter() {
-        if !is_event_key(key) {
-            keys.push(key.clone()?)?;
+    members: &mut Map<String, Value>,
+    keys: &[String],
+) -> Result<Map<String, Value>, AllocError> {
+    let mut taken = Map::new(alloc);
+    for key in keys {
+        if let Some(value) = members.remove(key.as_str()) {
+            taken.insert(key.clone()?, value)?;
         }
     }
-    if keys.is_empty() {
-        return Ok(None);
-    }
-    Ok(Some(keys))
+    Ok(taken)
 }
 
-// The event that an object is with all its keys, where its content hash holds.
-fn hashed_event(alloc: Global, members: Map<String, Value>) -> Result<Option<Pdu>, AllocError> {
-    match Pdu::from_value(alloc, Value::Object(members)) {
-        Ok(event) => Ok(if event.hash_holds() {
+// The event that an object is with members which were taken out of it, where its content hash holds.
+fn whole_event(
+    alloc: Global,
+    left: Value,
+    taken: Map<String, Value>,
+) -> Result<Option<ExportedEvent>, AllocError> {
+    let mut members = taken;
+    if let Value::Object(mut others) = left {
+        members.append(&mut others)?;
+    }
+    let whole = Value::Object(members);
+    match ExportedEvent::from_value(alloc, &whole) {
+        Ok(event) => Ok(if hash_holds(&whole) {
             Some(event)
         } else {
             None
@@ -120,6 +133,33 @@ fn hashed_event(alloc: Global, members: Map<String, Value>) -> Result<Option<Pdu
         Err(PduError::Memory) => Err(AllocError),
         Err(PduError::NotAnEvent(_)) => Ok(None),
     }
+}
+
+// Whether the content hash of an event holds.
+fn hash_holds(event: &Value) -> bool {
+    let Some(members) = event.as_object() else {
+        return false;
+    };
+    let named = field(members, "hashes").and_then(|hashes| hashes.get("sha256"));
+    let Some(text) = named.and_then(|hash| hash.as_str()) else {
+        return false;
+    };
+    let mut hash = [0; 43];
+    STANDARD_NO_PAD
+        .encode_slice(&content_digest(members), &mut hash)
+        .is_ok()
+        && text.as_bytes() == hash.as_slice()
+}
+
+// The keys of an object that no event has.
+fn additions_in(alloc: Global, members: &Map<String, Value>) -> Result<Vec<String>, AllocError> {
+    let mut keys = Vec::new(alloc);
+    for (key, _) in members.iter() {
+        if !is_event_key(key) {
+            keys.push(key.clone()?)?;
+        }
+    }
+    Ok(keys)
 }
 
 // Counts one event more that had this key.

@@ -3,6 +3,9 @@
 
 mod arranging;
 mod collecting;
+mod create_events;
+mod event_fields;
+mod exported_events;
 mod exporting;
 mod finding;
 mod laws;
@@ -12,6 +15,7 @@ mod ordering;
 mod rooms;
 mod writing;
 
+pub use exported_events::ExportedEvent;
 pub use exporting::{Input, RefusedEvent, read_input};
 pub use laws::{
     cited_events_come_first, each_event_has_one_place, events_in_order_stay,

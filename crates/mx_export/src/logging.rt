@@ -5,11 +5,11 @@ ghost use Rattle.mx_export.specs.RoomLogs.{host_text, origin_of, room_log, trans
 ghost use Rattle.mx_export.specs.declared.logging.LogError.TheVariants.{NoCreateEvent};
 
 use crate::collecting::{collect, create_event};
+use crate::exported_events::ExportedEvent;
 use crate::missing::{Missing, missing_events};
 use crate::ordering::in_order;
 use crate::writing::text_of_log;
 use mx_ident::{RoomId, ServerName};
-use mx_pdu::Pdu;
 use std::alloc::{AllocError, Global};
 use thiserror::Error;
 
@@ -60,7 +60,7 @@ pub fn log_of_room(
     alloc: Global,
     room: &RoomId,
     origin: Option<&ServerName>,
-    events: &[Pdu],
+    events: &[ExportedEvent],
 ) -> Result<RoomLog, LogError>
     ensures text { IfOk result (λ log. Some log.text.items
         ≡ room_log (option_map (λ name. name.now) origin.entry) room.now events.now) }
@@ -87,8 +87,8 @@ fn text_by(
     alloc: Global,
     room: &RoomId,
     origin: Option<&ServerName>,
-    create: &Pdu,
-    ordered: &[Pdu],
+    create: &ExportedEvent,
+    ordered: &[ExportedEvent],
 ) -> Result<Vec<u8>, AllocError>
     ensures { IfOk result (λ text. text.items ≡ host_text create.now ++ transactions_text
         (origin_of (option_map (λ name. name.now) origin.entry) create.now) room.now (drop 1 ordered.now)) }
@@ -103,7 +103,7 @@ fn text_by(
 }
 
 // How many of these events are of a room.
-fn count_of_room(room: &RoomId, events: &[Pdu]) -> usize
+fn count_of_room(room: &RoomId, events: &[ExportedEvent]) -> usize
     ensures { result ≡ length (filter (is_in_room room.now) events.now) }
 {
     events

@@ -9,8 +9,8 @@ ghost use Rattle.mx_export.specs.Collecting.{IsIndexed};
 ghost use Rattle.mx_export.specs.RoomEvents.{cited_ids, has_id, is_missing, lacks_one};
 
 use crate::collecting::Collected;
+use crate::exported_events::ExportedEvent;
 use mx_ident::EventId;
-use mx_pdu::Pdu;
 use std::alloc::{AllocError, Global};
 use std::collections::BTreeSet;
 
@@ -58,7 +58,7 @@ fn either(first: bool, second: bool) -> bool
 fn add_cited(
     ids: &mut BTreeSet<EventId>,
     collected: &Collected,
-    event: &Pdu,
+    event: &ExportedEvent,
 ) -> Result<bool, AllocError>
     requires { IsIndexed collected.now }
     ensures lacks { IfOk result (λ lacks. lacks ≡ lacks_one collected.now.events.items event.now) }

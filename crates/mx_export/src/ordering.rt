@@ -5,12 +5,15 @@ ghost use Rattle.mx_export.specs.RoomEvents as definition;
 
 use crate::arranging::arrange;
 use crate::collecting::{Collected, cited_places};
-use mx_pdu::Pdu;
+use crate::exported_events::ExportedEvent;
 use std::alloc::{AllocError, Global};
 
 // Each after those that it cites and that are there, else as they were found. Those that cite one another in a circle,
 // and those that cite them, are left out.
-pub(crate) fn in_order(alloc: Global, collected: &Collected) -> Result<Vec<Pdu>, AllocError>
+pub(crate) fn in_order(
+    alloc: Global,
+    collected: &Collected,
+) -> Result<Vec<ExportedEvent>, AllocError>
     requires { IsIndexed collected.now }
     ensures { IfOk result (λ ordered. ordered.items ≡ definition.in_order collected.now.events.items) }
 {
@@ -21,7 +24,11 @@ pub(crate) fn in_order(alloc: Global, collected: &Collected) -> Result<Vec<Pdu>,
 }
 
 // The events at these places.
-fn events_at(alloc: Global, events: &[Pdu], places: &[usize]) -> Result<Vec<Pdu>, AllocError>
+fn events_at(
+    alloc: Global,
+    events: &[ExportedEvent],
+    places: &[usize],
+) -> Result<Vec<ExportedEvent>, AllocError>
     requires { Each (λ place. place < length events.now) places.now }
     ensures { IfOk result (λ found. found.items ≡ map (event_at events.now) places.now) }
 {

@@ -1,7 +1,6 @@
 // Which rooms events are of.
-use crate::collecting::is_create;
+use crate::exported_events::ExportedEvent;
 use mx_ident::RoomId;
-use mx_pdu::Pdu;
 use std::alloc::{AllocError, Global};
 use std::collections::BTreeMap;
 
@@ -19,7 +18,10 @@ pub struct FoundRoom {
 /// The rooms that these events are of.
 ///
 /// The one error is that no memory is left.
-pub fn rooms_of(alloc: Global, events: &[Pdu]) -> Result<BTreeMap<RoomId, FoundRoom>, AllocError> {
+pub fn rooms_of(
+    alloc: Global,
+    events: &[ExportedEvent],
+) -> Result<BTreeMap<RoomId, FoundRoom>, AllocError> {
     let mut rooms = BTreeMap::new(alloc);
     for event in events {
         add_event(alloc, &mut rooms, event)?;
@@ -30,7 +32,7 @@ pub fn rooms_of(alloc: Global, events: &[Pdu]) -> Result<BTreeMap<RoomId, FoundR
 fn add_event(
     alloc: Global,
     rooms: &mut BTreeMap<RoomId, FoundRoom>,
-    event: &Pdu,
+    event: &ExportedEvent,
 ) -> Result<(), AllocError> {
     if let Some(room) = rooms.get_mut(event.room_id()) {
         return note_event(alloc, room, event);
@@ -46,14 +48,17 @@ fn add_event(
     Ok(())
 }
 
-fn note_event(alloc: Global, room: &mut FoundRoom, event: &Pdu) -> Result<(), AllocError> {
+fn note_event(
+    alloc: Global,
+    room: &mut FoundRoom,
+    event: &ExportedEvent,
+) -> Result<(), AllocError> {
     room.events = room.events.saturating_add(1);
-    if room.has_create || !is_create(event) {
+    if room.has_create || !event.is_create() {
         return Ok(());
     }
     room.has_create = true;
-    let version = event.content().get("room_version");
-    if let Some(text) = version.and_then(|value| value.as_str()) {
+    if let Some(text) = event.version() {
         room.version = Some(String::from_str(alloc, text)?);
     }
     Ok(())

@@ -5,9 +5,9 @@ ghost use Rattle.mx_canon.specs.Canonical.{canonical_text, string_text};
 ghost use Rattle.mx_canon.specs.Pieces.{comma_if};
 ghost use Rattle.mx_export.specs.RoomLogs as definition;
 
+use crate::exported_events::ExportedEvent;
 use mx_canon::{TextBuffer, write_string};
 use mx_ident::{RoomId, ServerName};
-use mx_pdu::Pdu;
 use std::alloc::{AllocError, Global};
 
 // The most events of a transaction.
@@ -25,8 +25,8 @@ pub(crate) fn text_of_log(
     alloc: Global,
     origin: &ServerName,
     room: &RoomId,
-    create: &Pdu,
-    ordered: &[Pdu],
+    create: &ExportedEvent,
+    ordered: &[ExportedEvent],
 ) -> Result<Vec<u8>, AllocError>
     ensures { IfOk result (λ text. text.items ≡ definition.host_text create.now
         ++ definition.transactions_text origin.now room.now (drop 1 ordered.now)) }
@@ -38,7 +38,7 @@ pub(crate) fn text_of_log(
 }
 
 // All but the first.
-fn after_first(events: &[Pdu]) -> &[Pdu]
+fn after_first(events: &[ExportedEvent]) -> &[ExportedEvent]
     ensures { result.now ≡ drop 1 events.now }
 {
     match events.split_first() {
@@ -48,11 +48,11 @@ fn after_first(events: &[Pdu]) -> &[Pdu]
 }
 
 // Writes the line that hosts a room.
-pub(crate) fn write_host(out: &mut Vec<u8>, create: &Pdu) -> Result<(), AllocError>
+pub(crate) fn write_host(out: &mut Vec<u8>, create: &ExportedEvent) -> Result<(), AllocError>
     ensures { OnOk result (out.new.items ≡ out.old.items ++ definition.host_text create.now) }
 {
     out.extend_from_slice(b"{\"event\":")?;
-    out.extend_from_slice(create.text().as_bytes())?;
+    out.extend_from_slice(create.text())?;
     out.extend_from_slice(b",\"step\":\"host\"}\n")?;
     Ok(())
 }
@@ -63,7 +63,7 @@ pub(crate) fn write_transactions(
     out: &mut Vec<u8>,
     origin: &ServerName,
     room: &RoomId,
-    events: &[Pdu],
+    events: &[ExportedEvent],
 ) -> Result<(), AllocError>
     ensures { OnOk result (out.new.items ≡ out.old.items ++ definition.transactions_text origin.now room.now events.now) }
 {
@@ -76,7 +76,7 @@ pub(crate) fn write_transactions(
 }
 
 // The events of the transaction at this index.
-fn part_of(events: &[Pdu], index: usize) -> &[Pdu]
+fn part_of(events: &[ExportedEvent], index: usize) -> &[ExportedEvent]
     requires { index < (length events.now + (MOST_EVENTS - 1)) / MOST_EVENTS }
     ensures { result.now ≡ definition.part index events.now }
 {
@@ -121,7 +121,7 @@ fn write_transaction(
     alloc: Global,
     out: &mut Vec<u8>,
     name: &TransactionName,
-    events: &[Pdu],
+    events: &[ExportedEvent],
 ) -> Result<(), AllocError>
     ensures { OnOk result (out.new.items
         ≡ out.old.items ++ definition.transaction_text name.now.origin.items name.now.number.items events.now) }
@@ -137,7 +137,11 @@ fn write_transaction(
 }
 
 // Writes the line that opens a transaction.
-fn write_open(out: &mut Vec<u8>, name: &TransactionName, events: &[Pdu]) -> Result<(), AllocError>
+fn write_open(
+    out: &mut Vec<u8>,
+    name: &TransactionName,
+    events: &[ExportedEvent],
+) -> Result<(), AllocError>
     ensures { OnOk result (out.new.items
         ≡ out.old.items ++ definition.open_text name.now.origin.items name.now.number.items events.now) }
 {
@@ -152,7 +156,7 @@ fn write_open(out: &mut Vec<u8>, name: &TransactionName, events: &[Pdu]) -> Resu
 }
 
 // Writes these events, with a comma between each two.
-fn write_events(out: &mut Vec<u8>, events: &[Pdu]) -> Result<(), AllocError>
+fn write_events(out: &mut Vec<u8>, events: &[ExportedEvent]) -> Result<(), AllocError>
     ensures { OnOk result (out.new.items ≡ out.old.items ++ join_with_byte 44 (map canonical_text events.now)) }
 {
     let mut later = false;
@@ -164,13 +168,13 @@ fn write_events(out: &mut Vec<u8>, events: &[Pdu]) -> Result<(), AllocError>
 }
 
 // Writes an event, behind a comma where it is a later one.
-fn write_event(out: &mut Vec<u8>, later: bool, event: &Pdu) -> Result<(), AllocError>
+fn write_event(out: &mut Vec<u8>, later: bool, event: &ExportedEvent) -> Result<(), AllocError>
     ensures { OnOk result (out.new.items ≡ (out.old.items ++ comma_if later) ++ canonical_text event.now) }
 {
     if later {
         out.extend_from_slice(b",")?;
     }
-    out.extend_from_slice(event.text().as_bytes())?;
+    out.extend_from_slice(event.text())?;
     Ok(())
 }
 

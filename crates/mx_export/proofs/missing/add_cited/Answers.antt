@@ -15,8 +15,8 @@ returns-clause-lacks c =
     let e = c.args.event.now in
     let f = λ (id : List ℕ). not (has_id c.args.collected.now.events.items id) in
     c.either-lacks.ensures
-    ∙ ap (λ b. b || c.in_ok-auth.auth) (c.in_ok-prev.ensures.lacks ∙ ap (list_any f) c.prev_events.ensures.ids)
-    ∙ ap (λ b. list_any f (prev_ids e) || b) (c.in_ok-auth.ensures.lacks ∙ ap (list_any f) c.auth_events.ensures.ids)
+    ∙ ap (λ b. b || c.in_ok-auth.auth) (c.in_ok-prev.ensures.lacks ∙ ap (list_any f) c.prev_events.ensures)
+    ∙ ap (λ b. list_any f (prev_ids e) || b) (c.in_ok-auth.ensures.lacks ∙ ap (list_any f) c.auth_events.ensures)
     ∙ sym (list_any-append f (prev_ids e) (auth_ids e))
 
 pub returns-clause-ids : goal.returns-clause-ids
@@ -26,5 +26,5 @@ returns-clause-ids c =
     let old = contains (slice_cmp nat_cmp) c.args.ids.now in
     let mid = contains (slice_cmp nat_cmp) c.add_missing.new.ids in
     two-adds old mid (contains (slice_cmp nat_cmp) c.add_missing-2.new.ids) has (prev_ids e) (auth_ids e)
-    (λ q. c.in_ok-prev.ensures.ids q ∙ ap (λ xs. old q || (is_among xs q && not (has q))) c.prev_events.ensures.ids)
-    (λ q. c.in_ok-auth.ensures.ids q ∙ ap (λ xs. mid q || (is_among xs q && not (has q))) c.auth_events.ensures.ids)
+    (λ q. c.in_ok-prev.ensures.ids q ∙ ap (λ xs. old q || (is_among xs q && not (has q))) c.prev_events.ensures)
+    (λ q. c.in_ok-auth.ensures.ids q ∙ ap (λ xs. mid q || (is_among xs q && not (has q))) c.auth_events.ensures)
