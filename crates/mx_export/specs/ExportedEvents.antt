@@ -1,17 +1,15 @@
 -- For proofs and private clauses alone.
 -- What the parts of an exported event are.
-use Rattle.std.specs.Prelude.{◌≡◌, IsTrue, Some}
+use Rattle.std.specs.Prelude.{◌≡◌}
 use Rattle.serde_json.specs.Data.{Data}
-use Rattle.serde_json.specs.Read.{read}
 use Rattle.mx_canon.specs.Canonical.{canonical_text}
 use Rattle.mx_redact.specs.Hashes.{event_id}
 use Rattle.mx_pdu.specs.Event.{room_of, sender_of, prev_ids, auth_ids}
-use Rattle.mx_pdu.specs.Inside.{value_in}
 use Rattle.mx_export.specs.RoomEvents.{is_create}
-use Rattle.mx_export.specs.declared.exported_events.EventParts.{EventParts}
+use Rattle.mx_export.specs.declared.event_parts.EventParts.{EventParts}
 
 abbrev pub event_of : EventParts → Data
-event_of p = value_in p.text.items
+event_of p = p.event
 
 -- the parts are those of an event
 pub record AreOf (p : EventParts) (e : Data) : Type 0 where

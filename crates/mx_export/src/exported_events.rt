@@ -1,21 +1,18 @@
 // Events as a log needs them.
 ghost use Rattle.std.specs.Prelude.{◌≡◌, ◌↔◌, IfOk, IsErrOf, IsTrue, Some};
-ghost use Rattle.serde_json.specs.Data.{object};
-ghost use Rattle.serde_json.specs.Read.{read};
-ghost use Rattle.serde_json.specs.View.{view, members_view};
+ghost use Rattle.serde_json.specs.View.{view};
 ghost use Rattle.mx_canon.specs.Canonical.{canonical_text};
 ghost use Rattle.mx_redact.specs.Hashes.{event_id as event_id_of};
 ghost use Rattle.mx_pdu.specs.Event.{auth_ids, prev_ids, room_of, sender_of};
 ghost use Rattle.mx_pdu.specs.Format.{format_error, is_well_formed};
 ghost use Rattle.mx_pdu.specs.declared.refusals.NotAnEvent.{NotAnEvent as Cause};
-ghost use Rattle.mx_export.specs.ExportedEvents.{event_of, IsSound};
 ghost use Rattle.mx_export.specs.RoomEvents.{is_create as is_create_event};
 
-use crate::create_events::{is_create, version_in};
-use crate::event_fields::{event_ids_at, id_of, object_of, room_id_in, sender_in, text_of};
+use crate::event_fields::{object_of, text_of};
+use crate::event_parts::EventParts;
 use mx_ident::{EventId, RoomId, UserId};
 use mx_pdu::{Pdu, PduError};
-use serde_json::{Map, Value};
+use serde_json::Value;
 use std::alloc::{AllocError, Global};
 use std::marker::Model;
 use std::sync::Arc;
@@ -27,19 +24,6 @@ use std::sync::Arc;
 #[derive(Debug, Drop)]
 pub struct ExportedEvent {
     parts: Arc<EventParts>,
-}
-
-// The event's canonical text, and what is worked out once of it.
-#[derive(Debug, Drop)]
-struct EventParts {
-    text: Vec<u8>,
-    id: EventId,
-    room_id: RoomId,
-    sender: UserId,
-    prev_events: Vec<EventId>,
-    auth_events: Vec<EventId>,
-    is_create: bool,
-    version: Option<String>,
 }
 
 impl Model for ExportedEvent {
@@ -136,39 +120,6 @@ impl ExportedEvent {
     // The room version that it names, where it may host a room and names one.
     pub(crate) fn version(&self) -> Option<&str> {
         self.parts.version.as_deref()
-    }
-}
-
-impl EventParts {
-    // Of an object that is well formed, and its canonical text.
-    fn of(
-        alloc: Global,
-        event: &Map<String, Value>,
-        text: Vec<u8>,
-    ) -> Result<EventParts, AllocError>
-        requires well_formed { IsTrue (is_well_formed (object (members_view event.now.entries))) }
-        requires text { text.items ≡ canonical_text (object (members_view event.now.entries)) }
-        requires reads { read text.items ≡ Some (object (members_view event.now.entries)) }
-        ensures sound { IfOk result IsSound }
-        ensures event { IfOk result (λ parts. event_of parts ≡ object (members_view event.now.entries)) }
-    {
-        let id = id_of(alloc, event)?;
-        let room_id = room_id_in(alloc, event)?;
-        let sender = sender_in(alloc, event)?;
-        let prev_events = event_ids_at(alloc, event, "prev_events")?;
-        let auth_events = event_ids_at(alloc, event, "auth_events")?;
-        let is_create = is_create(event, &prev_events, &auth_events);
-        let version = version_in(alloc, is_create, event)?;
-        Ok(EventParts {
-            text,
-            id,
-            room_id,
-            sender,
-            prev_events,
-            auth_events,
-            is_create,
-            version,
-        })
     }
 }
 

@@ -1,4 +1,7 @@
 // The values of an input that may be events.
+use json::Scratch;
+use memchr::memchr;
+use mx_body::{BodyError, body_value};
 use serde_json::{Map, Value};
 use std::alloc::{AllocError, Global};
 
@@ -34,53 +37,80 @@ pub(crate) fn find_events(alloc: Global, input: &[u8]) -> Result<Found, AllocErr
         others: 0,
         bad_lines: Vec::new(alloc),
     };
-    match value_of(alloc, input)? {
-        Some(value) => take_value(alloc, &mut found, value)?,
-        None => take_lines(alloc, &mut found, input)?,
+    let mut reading = Reading {
+        alloc,
+        scratch: Scratch::new(alloc),
+    };
+    match reading.value_of(input)? {
+        Some(value) => take_value(&mut reading, &mut found, value)?,
+        None => take_lines(&mut reading, &mut found, input)?,
     }
     Ok(found)
 }
 
-// The value that bytes are JSON for, if they are.
-fn value_of(alloc: Global, bytes: &[u8]) -> Result<Option<Value>, AllocError> {
-    match Value::from_slice(alloc, bytes) {
-        Ok(value) => Ok(Some(value)),
-        Err(error) if error.is_memory() => Err(AllocError),
-        Err(_) => Ok(None),
+// What is kept from one text that is read to the next.
+#[derive(Drop)]
+struct Reading {
+    alloc: Global,
+    scratch: Scratch,
+}
+
+impl Reading {
+    // The value that bytes are JSON for, if they are.
+    fn value_of(&mut self, bytes: &[u8]) -> Result<Option<Value>, AllocError> {
+        match body_value(self.alloc, &mut self.scratch, bytes) {
+            Ok(value) => Ok(Some(value)),
+            Err(BodyError::Memory) => Err(AllocError),
+            Err(BodyError::NotJson) => Ok(None),
+        }
     }
 }
 
 // Takes what stands on each line that is not blank.
-fn take_lines(alloc: Global, found: &mut Found, input: &[u8]) -> Result<(), AllocError> {
-    let mut number: u64 = 0;
-    for line in input.split(|byte| *byte == b'\n') {
-        number = number.saturating_add(1);
+fn take_lines(reading: &mut Reading, found: &mut Found, input: &[u8]) -> Result<(), AllocError> {
+    let mut rest = input;
+    for number in 1..u64::MAX {
+        if rest.is_empty() {
+            return Ok(());
+        }
+        let (line, others) = first_line(rest);
+        rest = others;
         if line.trim_ascii().is_empty() {
             continue;
         }
-        match value_of(alloc, line)? {
-            Some(value) => take_value(alloc, found, value)?,
+        match reading.value_of(line)? {
+            Some(value) => take_value(reading, found, value)?,
             None => found.bad_lines.push(number)?,
         }
     }
     Ok(())
 }
 
+// The first line of a text without its newline, and what comes after it.
+fn first_line(text: &[u8]) -> (&[u8], &[u8]) {
+    let end = memchr(b'\n', text).unwrap_or(text.len());
+    let (line, rest) = text.split_at(end);
+    match rest.split_first() {
+        Some((_newline, others)) => (line, others),
+        None => (line, rest),
+    }
+}
+
 // Takes the events of a value, in their order.
-fn take_value(alloc: Global, found: &mut Found, value: Value) -> Result<(), AllocError> {
-    let mut left = vec![in alloc; value]?;
+fn take_value(reading: &mut Reading, found: &mut Found, value: Value) -> Result<(), AllocError> {
+    let mut left = vec![in reading.alloc; value]?;
     for _ in 0..u64::MAX {
         let Some(next) = left.pop() else {
             return Ok(());
         };
-        take_next(alloc, found, &mut left, next)?;
+        take_next(reading, found, &mut left, next)?;
     }
     Ok(())
 }
 
 // Takes an event, or puts what stands in the places of events before what is left.
 fn take_next(
-    alloc: Global,
+    reading: &mut Reading,
     found: &mut Found,
     left: &mut Vec<Value>,
     value: Value,
@@ -88,7 +118,7 @@ fn take_next(
     match value {
         Value::Object(members) => take_object(found, left, members),
         Value::Array(items) => put_items(left, items),
-        Value::String(text) => take_text(alloc, found, &text),
+        Value::String(text) => take_text(reading, found, &text),
         _ => {
             found.others = found.others.saturating_add(1);
             Ok(())
@@ -126,8 +156,8 @@ fn take_object(
 }
 
 // Takes the event that a text is JSON for.
-fn take_text(alloc: Global, found: &mut Found, text: &str) -> Result<(), AllocError> {
-    match value_of(alloc, text.as_bytes())? {
+fn take_text(reading: &mut Reading, found: &mut Found, text: &str) -> Result<(), AllocError> {
+    match reading.value_of(text.as_bytes())? {
         Some(value) => take_inner(found, value),
         None => {
             found.others = found.others.saturating_add(1);

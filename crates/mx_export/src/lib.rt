@@ -5,6 +5,7 @@ mod arranging;
 mod collecting;
 mod create_events;
 mod event_fields;
+mod event_parts;
 mod exported_events;
 mod exporting;
 mod finding;

@@ -10,10 +10,7 @@ pub of-requires-clause-well_formed : goal.of-requires-clause-well_formed
 of-requires-clause-well_formed c = subst (λ (d : Data). IsTrue (is_well_formed d)) (sym c.object_of.ensures) c.requires
 
 pub of-requires-clause-text : goal.of-requires-clause-text
-of-requires-clause-text c = c.in_ok-text.ensures.text ∙ ap canonical_text (sym c.object_of.ensures)
-
-pub of-requires-clause-reads : goal.of-requires-clause-reads
-of-requires-clause-reads c = c.in_ok-text.ensures.reads ∙ ap Some (sym c.object_of.ensures)
+of-requires-clause-text c = c.in_ok-text.ensures ∙ ap canonical_text (sym c.object_of.ensures)
 
 pub invariant_of-result : goal.invariant_of-result
 invariant_of-result c = subst IsSound (sym c.in_ok-parts.ensures.ok) c.in_ok-whole.ensures.sound
