@@ -301,11 +301,12 @@ fn options_of(
     given: &ArgMatches,
     name: ServerName,
 ) -> Result<Option<ServeOptions>, AllocError> {
-    let (Some(port), Some(threads), Some(shards), Some(connections)) = (
+    let (Some(port), Some(threads), Some(shards), Some(connections), Some(memory)) = (
         given.get_one::<u16>("port"),
         given.get_one::<u32>("threads").and_then(SeatCount::of),
         shards_of(given),
         given.get_one::<usize>("connections"),
+        given.get_one::<usize>("memory"),
     ) else {
         return Ok(None);
     };
@@ -320,6 +321,7 @@ fn options_of(
         threads,
         shards,
         connections,
+        memory,
         rooms,
         stop_on_storage: given.get_flag("stop-on-storage"),
         accept_loss: given.get_flag("accept-loss"),

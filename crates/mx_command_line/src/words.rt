@@ -72,6 +72,11 @@ pub(crate) fn serve_words<'a>(alloc: Global) -> Result<clap::Command<'a>, AllocE
         .help(
             "How many connections may be open; one more takes the place of the one that has been idle longest, or else the one that has been waited for longest within a request; where none waits for its client, it is closed unanswered",
         );
+    let memory = number_word(alloc, "memory", "512", 16, 1_048_576)
+        .value_name("MB")
+        .help(
+            "How many MB (1,000,000 bytes) of requests and replies may be held for clients; past that long ones wait, and who takes nothing for longest is closed",
+        );
     let rooms = text_word(alloc, "rooms", "FILE")
         .visible_alias("host")?
         .help("A file of lines of a log, each of which hosts a room at the start");
@@ -92,6 +97,7 @@ pub(crate) fn serve_words<'a>(alloc: Global) -> Result<clap::Command<'a>, AllocE
         .arg(threads)?
         .arg(shards_word(alloc))?
         .arg(connections)?
+        .arg(memory)?
         .arg(rooms)?
         .arg(stop)?
         .arg(accept)

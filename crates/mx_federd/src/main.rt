@@ -15,7 +15,8 @@ use mx_commands::{
     Failure, MISUSED, REFUSED, SUCCESS, audit, check, log, replay, report, report_about,
     report_server,
 };
-use mx_directory::{ProgressLine, migrate};
+use mx_directory::{ProgressLine, ServerError, StartError, migrate};
+use mx_line_queue::{LineOutput, LineSender, start_writer};
 use mx_options::{AuditOptions, MigrateOptions, ServeOptions};
 use mx_server::serve;
 use noted_output::NotedOutput;
@@ -28,7 +29,13 @@ use std::process::ExitCode;
 use std::random::RandomSource;
 use std::sync::Wait;
 use std::thread::Threads;
-use std::time::Clock;
+use std::time::{Clock, Duration};
+
+// How many lines for standard error may wait to be written.
+const MOST_WAITING_LINES: usize = 1024;
+
+// How long the program waits at its end for lines to be written.
+const SECONDS_FOR_LAST_LINES: u64 = 1;
 
 /// What the words of the command line leave to do.
 #[derive(Debug, Drop)]
@@ -98,6 +105,59 @@ fn status_of<E: Write>(ran: Result<(), Failure>, is_closed: bool, err: &mut E) -
     }
 }
 
+// Serves, and gives the exit status. What is said on standard error is written by a thread of its own, which nothing waits
+// for but the end of the program, for a second.
+fn served<R, W: Write, E: Write>(
+    rt: &R,
+    host: &HostRuntime,
+    options: ServeOptions,
+    out: &mut W,
+    err: &mut E,
+) -> u8
+where
+    R: Threads
+        + Wait
+        + Clock
+        + Eprint
+        + Net<Listener = TcpListener, Stream = TcpStream>
+        + RandomSource
+        + AllocGlobal
+        + Copy
+        + Drop
+        + Send
+        + Sync
+        + 'static,
+{
+    let lines = match lines_to(rt, host.stderr()) {
+        Ok(lines) => lines,
+        Err(error) => return report_server(StartError::from(error), err),
+    };
+    let status = match serve(rt, host, options, out, &lines) {
+        Ok(()) => SUCCESS,
+        Err(error) => report_server(error, &mut LineOutput::new(rt, rt.alloc(), &lines)),
+    };
+    lines.close(rt, Duration::from_secs(SECONDS_FOR_LAST_LINES));
+    status
+}
+
+// What hands lines to a thread that writes them. The error is want of memory, or that the thread can't be started.
+fn lines_to<R, W>(rt: &R, out: W) -> Result<LineSender, ServerError>
+where
+    R: Threads + Wait + AllocGlobal + Copy + Send + Drop + 'static,
+    W: Write + Send + Drop + 'static,
+{
+    let Ok(lines) = LineSender::new(rt.alloc(), MOST_WAITING_LINES) else {
+        return Err(ServerError::Memory);
+    };
+    let Ok(another) = lines.another() else {
+        return Err(ServerError::Memory);
+    };
+    match start_writer(rt, another, out) {
+        Ok(()) => Ok(lines),
+        Err(_error) => Err(ServerError::Thread),
+    }
+}
+
 // Audits a room, and gives the exit status.
 fn audited<R: Read, W: Write, E: Write>(
     host: &HostRuntime,
@@ -154,7 +214,8 @@ where
         + Copy
         + Drop
         + Send
-        + Sync,
+        + Sync
+        + 'static,
 {
     let Invocation {
         command,
@@ -199,15 +260,13 @@ where
         + Copy
         + Drop
         + Send
-        + Sync,
+        + Sync
+        + 'static,
 {
     let mut counted = CountedInput::new(input, ProgressLine::new(host));
     match main_with(rt.alloc(), command, &mut counted, out, err) {
         Asked::Ended(status) => status,
-        Asked::Serve(options) => match serve(rt, host, options, out, err) {
-            Ok(()) => SUCCESS,
-            Err(error) => report_server(error, err),
-        },
+        Asked::Serve(options) => served(rt, host, options, out, err),
         Asked::Audit(options) => audited(host, options, &mut counted, out, err),
         Asked::Migrate(options) => match migrate(rt, host, &options.data, options.shards, out) {
             Ok(()) => SUCCESS,

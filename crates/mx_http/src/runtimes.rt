@@ -34,3 +34,11 @@ where
         + Send
         + Sync,
 {}
+
+/// What the requests of a connection are answered on: as [`ServerRuntime`], without what starts threads.
+pub trait ConnectionRuntime: Wait + Clock + Eprint + Net + AllocGlobal + Copy + Drop {}
+
+impl<R> ConnectionRuntime for R
+where
+    R: Wait + Clock + Eprint + Net + AllocGlobal + Copy + Drop,
+{}

@@ -6,7 +6,7 @@ use Rattle.mx_requests.specs.Calls.{sends}
 use Rattle.mx_requests.specs.CallsShown.{call_shown}
 use Rattle.mx_requests.specs.RepliesShown.{reply_shown}
 use Rattle.mx_wire.specs.Responses.{IsCallAnswered, IsCallRefused}
-use Rattle.mx_wire.proofs.responses.answer_call.Goals as goal
+use Rattle.mx_wire.proofs.responses.call_reply.Goals as goal
 
 pub returns-in_err-reply-in-Sends-clause-err : goal.returns-in_err-reply-in-Sends-clause-err
 returns-in_err-reply-in-Sends-clause-err g c =
