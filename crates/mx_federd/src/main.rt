@@ -118,7 +118,6 @@ where
     R: Threads
         + Wait
         + Clock
-        + Eprint
         + Net<Listener = TcpListener, Stream = TcpStream>
         + RandomSource
         + AllocGlobal
@@ -207,7 +206,6 @@ where
     R: Threads
         + Wait
         + Clock
-        + Eprint
         + Net<Listener = TcpListener, Stream = TcpStream>
         + RandomSource
         + AllocGlobal
@@ -253,7 +251,6 @@ where
     R: Threads
         + Wait
         + Clock
-        + Eprint
         + Net<Listener = TcpListener, Stream = TcpStream>
         + RandomSource
         + AllocGlobal

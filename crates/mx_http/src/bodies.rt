@@ -161,7 +161,7 @@ impl<B, R> WholeBody<B, R> {
     }
 }
 
-impl<B: Drop, R: Clock + Eprint + AllocGlobal + Copy + Drop> WholeBody<B, R> {
+impl<B: Drop, R: Clock + AllocGlobal + Copy + Drop> WholeBody<B, R> {
     // Ready once the piece that came is kept.
     fn poll_piece(&mut self, cx: &mut Context<'_>) -> Poll<Result<(), BodyError>>
         ensures body { self.new.body ≡ self.old.body }
@@ -220,7 +220,7 @@ impl<B: Drop, R: Clock + Eprint + AllocGlobal + Copy + Drop> WholeBody<B, R> {
 impl<B, R> Future for WholeBody<B, R>
 where
     B: Body<Data = Bytes, Error = hyper::Error>,
-    R: Clock + Eprint + AllocGlobal + Copy + Drop,
+    R: Clock + AllocGlobal + Copy + Drop,
 {
     type Output = Result<CountedBody, BodyError>;
 

@@ -3,7 +3,7 @@ use crate::answering::Answers;
 use crate::bodies::READ_ON;
 use crate::guards::ConnectionGuard;
 use crate::making::{Opener, serve_alone, serve_each};
-use crate::memory::{Account, MemoryBudget, ReplyBody, Room};
+use crate::memory::{Account, MemoryBudget, ReplyBody, Room, RoomClosings};
 use crate::messages::Responder;
 use crate::pool::loops::LoopResponder;
 use crate::quiet::{Patience, Timed};
@@ -97,7 +97,6 @@ where
         };
         let progress = Rc::new(alloc, Progress::new(activity)).map_err(AllocError::from)?;
         let account = Arc::new(alloc, self.account(&guard)?).map_err(AllocError::from)?;
-        account.tell_closed(&self.rt, alloc);
         let room = Room {
             rt: self.rt,
             timers: handle.time().clone()?,
@@ -141,12 +140,13 @@ where
 {
     let alloc = rt.alloc();
     let responder = LoopResponder::alone(responder);
+    let budget = MemoryBudget::new(alloc, usize::MAX, RoomClosings::new(alloc)?);
     let serving = Serving {
         rt,
         keys: RandomState::new(&rt)?,
         responder: Arc::new(alloc, responder).map_err(AllocError::from)?,
         largest_body,
-        budget: Arc::new(alloc, MemoryBudget::new(alloc, usize::MAX)).map_err(AllocError::from)?,
+        budget: Arc::new(alloc, budget).map_err(AllocError::from)?,
         patience: Patience {
             idle: Duration::MAX,
             head: Duration::MAX,

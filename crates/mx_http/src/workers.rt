@@ -58,7 +58,7 @@ impl<A: Responder> Workers<A> {
     pub fn new(
         alloc: Global,
         responders: Responders<A>,
-        memory: usize,
+        budget: Arc<MemoryBudget>,
         ending: &Ending,
     ) -> Result<Workers<A>, AllocError> {
         let Responders { loops, threads } = responders;
@@ -70,7 +70,7 @@ impl<A: Responder> Workers<A> {
             threads: Vec::new(alloc),
             pool: Arc::new(alloc, pool)?,
             responders: Vec::new(alloc),
-            budget: Arc::new(alloc, MemoryBudget::new(alloc, memory))?,
+            budget,
         };
         for (turn, responder) in turns.into_iter().zip(loops) {
             workers.add_loop(alloc, turn, responder, ending.another()?)?;

@@ -127,7 +127,7 @@ impl Responder for GateKeeper {
         }
     }
 
-    fn respond<R: Wait + Clock + Eprint>(
+    fn respond<R: Wait + Clock>(
         &mut self,
         rt: &R,
         _alloc: Global,

@@ -1,7 +1,8 @@
 // A responder that counts, and who hears that connections are taken in.
 use bytes::Bytes;
 use mx_http::{
-    Announcer, AskedCall, Claim, Ending, HttpReply, HttpRequest, ReadRequest, Responder, Responders,
+    Announcer, AskedCall, Claim, HttpReply, HttpRequest, ListenerHandle, ReadRequest, Responder,
+    Responders,
 };
 use std::alloc::{AllocError, Global};
 use std::io;
@@ -83,7 +84,7 @@ impl Responder for Counter {
         })
     }
 
-    fn respond<R: Wait + Clock + Eprint>(
+    fn respond<R: Wait + Clock>(
         &mut self,
         _rt: &R,
         alloc: Global,
@@ -120,7 +121,7 @@ pub(crate) struct Ear {
 }
 
 impl Announcer for Ear {
-    fn announce(&mut self, _ending: Ending) -> io::Result<()> {
+    fn announce(&mut self, _handle: ListenerHandle) -> io::Result<()> {
         self.told = self.told.saturating_add(1);
         Ok(())
     }

@@ -4,13 +4,13 @@ ghost use Rattle.std.specs.Prelude.{◌≡◌, ◌+◌, ◌≤◌};
 use mx_options::SeatCount;
 use std::marker::Model;
 
-// How many event loops a server has at most: their seats and those of the other threads are then 64.
-const MOST_LOOPS: u32 = 31;
-// How many more threads answer beside the event loops than there are of these: one may wait for a shard, and one for
-// several, while the others go on.
-const MORE_THREADS: u32 = 2;
+// How many event loops a server has at most: their seats and those of the other threads are then at most 64.
+const MOST_LOOPS: u32 = 30;
+// How many more threads answer beside the event loops than there are of these: one may be at a shard, one wait to ask it,
+// and one go to several, while the others go on.
+const MORE_THREADS: u32 = 3;
 
-/// How many event loops a server has. As many threads and two more answer beside them.
+/// How many event loops a server has. As many threads and three more answer beside them.
 #[derive(Clone, Copy, Debug)]
 pub(crate) struct Crew {
     loops: u32,
@@ -23,13 +23,13 @@ impl Model for Crew {
 
     ghost view = { λ crew. crew.loops };
 
-    ghost invariant = { λ crew. crew.loops ≤ 31 };
+    ghost invariant = { λ crew. crew.loops ≤ 30 };
 
     ghost inverse = { λ loops. record { loops = loops } };
 }
 
 impl Crew {
-    /// As many event loops as are asked for, and at most 31.
+    /// As many event loops as are asked for, and at most 30.
     pub(crate) fn of(threads: SeatCount) -> Crew {
         Crew {
             loops: threads.get().min(MOST_LOOPS),

@@ -11,7 +11,7 @@ use mx_directory::{
 };
 use mx_engine::{Engine, OpenGate};
 use mx_http::{
-    Announcer, Ending, Limits, Responders, ServeError, ServerRuntime, serve_on,
+    Announcer, Limits, ListenerHandle, Responders, ServeError, ServerRuntime, serve_on,
 };
 use mx_ident::ServerName;
 use mx_keeper::{BookRow, CallError, Keeper, MOST_PLACES, ShardRow};
@@ -288,8 +288,8 @@ struct Opening<'a, W, E> {
 }
 
 impl<'a, W: Write, E: Write> Announcer for Opening<'a, W, E> {
-    fn announce(&mut self, ending: Ending) -> io::Result<()> {
-        self.watch.begin(ending);
+    fn announce(&mut self, handle: ListenerHandle) -> io::Result<()> {
+        self.watch.begin(handle);
         let port = self.port;
         writeln!(self.out, "listening 127.0.0.1:{port}")?;
         self.out.flush()?;

@@ -1,7 +1,7 @@
 // What looks after the files of a running server, in a thread beside those that answer.
 
 use mx_directory::{RowFiles, ServerError, StartError};
-use mx_http::{Ending, ServerRuntime};
+use mx_http::{ListenerHandle, ServerRuntime};
 use once_cell::race::OnceBool;
 use std::alloc::{AllocError, Global};
 use std::io::{self, Write};
@@ -12,13 +12,13 @@ use std::time::Duration;
 // How many seconds pass until the numbers of rows are written again, and until it is told again that rows are judged.
 const SECONDS_BETWEEN: u64 = 10;
 
-/// The files of rows of a server, where they are, and what ends the server once it takes connections in.
+/// The files of rows of a server, where they are, and the listener's handle once it takes connections in.
 #[derive(Drop)]
 pub struct FileWatch {
     host: HostRuntime,
     files: Arc<RowFiles>,
     data: String,
-    ending: OnceLock<Ending>,
+    listener: OnceLock<ListenerHandle>,
     // Whether it was told that the numbers of rows can't be written.
     is_told: OnceBool,
 }
@@ -35,7 +35,7 @@ impl FileWatch {
             host: *host,
             files: Arc::new(alloc, files)?,
             data: String::from_str(alloc, data)?,
-            ending: OnceLock::new(),
+            listener: OnceLock::new(),
             is_told: OnceBool::new(),
         })
     }
@@ -45,9 +45,9 @@ impl FileWatch {
         Arc::try_clone(&self.files)
     }
 
-    /// Connections are taken in from now on, until this ending is wanted.
-    pub fn begin(&self, ending: Ending) {
-        let _ = self.ending.try_set(ending);
+    /// Connections are taken in from now on, by the listener with this handle.
+    pub fn begin(&self, handle: ListenerHandle) {
+        let _ = self.listener.try_set(handle);
     }
 
     /// Compares how many rows each file has with how many it had, and writes how many it has.
@@ -83,11 +83,25 @@ impl FileWatch {
     fn look<R: ServerRuntime>(&self, rt: &R, second: u64) {
         let is_turn = second % SECONDS_BETWEEN == 0;
         let has_all = self.files.look(rt, &self.host, rt.alloc());
-        match self.ending.get() {
-            Some(ending) if !has_all && self.files.stop_on_failure => ending.want(rt),
-            Some(_ending) if has_all && is_turn => self.record_counts(rt),
+        match self.listener.get() {
+            Some(listener) => {
+                self.tell_closings(rt, listener.closings.take());
+                if !has_all && self.files.stop_on_failure {
+                    listener.ending.want(rt);
+                } else if has_all && is_turn {
+                    self.record_counts(rt);
+                }
+            }
             None if is_turn => self.tell_judging(rt, second),
-            _ => {}
+            None => {}
+        }
+    }
+
+    // Tells how many connections were closed for want of room, if some were.
+    fn tell_closings<R: ServerRuntime>(&self, rt: &R, count: u64) {
+        if count > 0 {
+            let text = format!(in rt.alloc(); "memory: connections closed to make room: {count}");
+            self.files.lines.send_text(rt, text);
         }
     }
 

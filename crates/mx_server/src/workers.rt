@@ -142,7 +142,7 @@ impl<F: FnMut(Global, Moment, WireCall) -> AnsweredRequest + Drop> Responder for
         self.reader.read(alloc, request)
     }
 
-    fn respond<R: Wait + Clock + Eprint>(
+    fn respond<R: Wait + Clock>(
         &mut self,
         rt: &R,
         alloc: Global,

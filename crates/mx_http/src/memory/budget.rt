@@ -1,5 +1,6 @@
 // What is held for the clients of a listener, to all threads, and who gives it back.
 use crate::guards::{ConnectionHandle, moment};
+use crate::memory::closings::RoomClosings;
 use crate::memory::holdings::Holdings;
 use futures::spin::lock;
 use std::alloc::{AllocError, Global};
@@ -19,9 +20,9 @@ pub struct MemoryBudget {
 
 impl MemoryBudget {
     /// Nothing is held, of at most so many bytes.
-    pub fn new(alloc: Global, most: usize) -> MemoryBudget {
+    pub fn new(alloc: Global, most: usize, closings: RoomClosings) -> MemoryBudget {
         MemoryBudget {
-            holdings: Mutex::new(Holdings::new(alloc, most)),
+            holdings: Mutex::new(Holdings::new(alloc, most, closings)),
         }
     }
 
@@ -78,25 +79,6 @@ impl Account {
             Some(connection) => Ok(Some(Arc::try_clone(connection)?)),
             None => Ok(None),
         }
-    }
-
-    /// Who runs the server is told how many connections were closed for want of room, once a second at most.
-    pub fn tell_closed<R: Clock + Eprint>(&self, rt: &R, alloc: Global) {
-        let now = self.moment(rt);
-        let told = match self.budget.table() {
-            Ok(mut table) => table.to_tell(now),
-            Err(_error) => None,
-        };
-        if let Some(count) = told {
-            tell(rt, alloc, count);
-        }
-    }
-}
-
-// Tells who runs the server that so many connections were closed.
-fn tell<R: Eprint>(rt: &R, alloc: Global, count: u64) {
-    if let Ok(line) = format!(in alloc; "memory: connections closed to make room: {count}") {
-        let _ = rt.eprintln(&line);
     }
 }
 

@@ -6,9 +6,9 @@ ghost use Rattle.mx_http.specs.Memory.{held_bytes, may_hold, closed_first, IsNum
 use crate::activities::Activity;
 use crate::guards::ConnectionHandle;
 use crate::memory::closing::{Holder, closed_first};
+use crate::memory::closings::RoomClosings;
 use std::alloc::Global;
 use std::marker::Model;
-use std::mem;
 use std::sync::Arc;
 
 /// Bytes that are held for the client of a connection.
@@ -90,10 +90,7 @@ pub struct Holdings {
     next: u64,
     // How many bytes the longest reply had so far.
     longest: usize,
-    // How many connections were closed for want of room since that was told last.
-    closed: u64,
-    // From when on it may be told again.
-    may_tell_from: u64,
+    closings: RoomClosings,
 }
 
 impl Model for Holdings {
@@ -109,14 +106,12 @@ impl Model for Holdings {
     ghost invariant = { λ holdings. holdings.held ≡ held_bytes holdings.taken.items };
 }
 
-// For how many milliseconds no more closed connections are told once some were.
-const TOLD_EVERY: u64 = 1000;
 // Of how many replies each is taken to be as long as its part of the total, until a longer one was made.
 const EXPECTED_REPLIES: usize = 16;
 
 impl Holdings {
     /// Nothing is held.
-    pub fn new(alloc: Global, most: usize) -> Holdings
+    pub fn new(alloc: Global, most: usize, closings: RoomClosings) -> Holdings
         ensures { result ≡ ([], most) }
     {
         Holdings {
@@ -125,8 +120,7 @@ impl Holdings {
             most,
             next: 0,
             longest: 0,
-            closed: 0,
-            may_tell_from: 0,
+            closings,
         }
     }
 
@@ -230,7 +224,7 @@ impl Holdings {
         let holding = self.taken.remove(place);
         self.held -= holding.bytes;
         if holding.end_asking() {
-            self.closed = self.closed.saturating_add(1);
+            self.closings.note();
         }
         Some(place)
     }
@@ -286,18 +280,6 @@ impl Holdings {
             return Some(place);
         }
         None
-    }
-
-    /// How many connections were closed for want of room since that was told last; none where none were, or where that is
-    /// not long ago.
-    pub fn to_tell(&mut self, now: u64) -> Option<u64>
-        ensures same { self.new ≡ self.old }
-    {
-        if self.closed == 0 || now < self.may_tell_from {
-            return None;
-        }
-        self.may_tell_from = now.saturating_add(TOLD_EVERY);
-        Some(mem::replace(&mut self.closed, 0))
     }
 
     /// A reply of so many bytes was made.

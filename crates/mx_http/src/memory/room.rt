@@ -25,7 +25,7 @@ pub struct Room<R> {
     pub progress: SharedProgress,
 }
 
-impl<R: Clock + Eprint + AllocGlobal + Copy + Drop> Room<R> {
+impl<R: Clock + AllocGlobal + Copy + Drop> Room<R> {
     /// For a request of the connection, for whose client nothing is held yet.
     pub fn wait(room: &Rc<Room<R>>) -> Result<RoomWait<R>, AllocError> {
         let account = Arc::try_clone(&room.account)?;
@@ -48,7 +48,7 @@ pub struct RoomWait<R> {
     sleep: Option<Sleep>,
 }
 
-impl<R: Clock + Eprint + AllocGlobal + Copy + Drop> RoomWait<R> {
+impl<R: Clock + AllocGlobal + Copy + Drop> RoomWait<R> {
     /// What is held.
     pub fn into_memory(self) -> ClientMemory {
         self.memory
@@ -127,11 +127,9 @@ impl<R: Clock + Eprint + AllocGlobal + Copy + Drop> RoomWait<R> {
         if !self.room.progress.begin_wait(now) || self.room.account.makes_room() {
             return Poll::Ready(Err(BodyError::Closed));
         }
-        let alloc = rt.alloc();
-        if self.memory.wait(alloc, more, now).is_err() {
+        if self.memory.wait(rt.alloc(), more, now).is_err() {
             return Poll::Ready(Err(BodyError::Memory));
         }
-        self.room.account.tell_closed(&rt, alloc);
         self.poll_sleep(cx)
     }
 
