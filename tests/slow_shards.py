@@ -6,7 +6,7 @@ import contextlib
 import sys
 import threading
 import time
-from collections.abc import Iterator
+from collections.abc import Callable, Iterator
 from pathlib import Path
 
 from suite import run_tests
@@ -17,7 +17,7 @@ from running_server import UNKNOWN_PATH, Reply, Request, Server, asked, getting,
 # A server whose name an access control list takes long to compare.
 SLOW_SERVER = "a" * 200
 SENDERS = 8
-THREADS = ("--threads", "4", "--shards", "8", "--connections", "64")
+SHARDS = ("--shards", "8", "--connections", "64")
 # How many seconds later a request may be answered than by a server that nobody else asks, on the same machine.
 APART = 0.01
 # A room in another shard than that of the other tests: a room's shard is the sum of its id's bytes, modulo their number.
@@ -33,11 +33,13 @@ def slow_list(base: Base) -> Event:
 
 
 @contextlib.contextmanager
-def two_rooms(data: Path) -> Iterator[tuple[Server, Base, Event]]:
-    """A server with the room of the rows, whose list is a slow one, and another room in another shard with its last event."""
+def two_rooms(data: Path, threads: int = 4) -> Iterator[tuple[Server, Base, Event]]:
+    """A server of so many threads with the room of the rows, whose list is a slow one, and another room in another shard with
+    its last event."""
     base, other = Base(Log()), create(OTHER_ROOM)
     joined = join(A, [other], [other], room=OTHER_ROOM)
-    with serving(data, *THREADS, hosts=[host_line(base.create), host_line(other)]) as server:
+    hosts = [host_line(base.create), host_line(other)]
+    with serving(data, "--threads", str(threads), *SHARDS, hosts=hosts) as server:
         events = [base.join_a, base.levels, base.rules, base.join_b, base.join_c]
         for txn, sent in (("base", events), ("list", [slow_list(base)]), ("other", [joined])):
             status, told = server.ask(*sending("a.example", txn, sent))
@@ -46,23 +48,29 @@ def two_rooms(data: Path) -> Iterator[tuple[Server, Base, Event]]:
 
 
 @contextlib.contextmanager
-def busy_room(server: Server, base: Base) -> Iterator[None]:
-    """Eight clients, each of which sends transactions of 50 events to the room of the rows, one behind the other."""
+def busy_room(server: Server, base: Base, queries: dict[Request, int] | None = None) -> Iterator[None]:
+    """Eight clients, each of which sends transactions of 50 events to the room of the rows, one behind the other, and one for
+    each of these queries, which are answered with these statuses."""
     ended = threading.Event()
     faults: list[Reply] = []
 
-    def send_on(number: int) -> None:
-        """Sends one transaction after another."""
+    def ask_on(request_of: Callable[[int], Request], wanted: int) -> None:
+        """Asks one request after another."""
         connection = server.connect()
         turn = 0
         while not ended.is_set():
-            reply = asked(connection, *sending(SLOW_SERVER, f"{number}-{turn}", [base.join_b] * 50))
+            reply = asked(connection, *request_of(turn))
             turn += 1
-            if reply[0] != 200:
+            if reply[0] != wanted:
                 faults.append(reply)
         connection.close()
 
-    threads = [threading.Thread(target=send_on, args=(number,)) for number in range(SENDERS)]
+    def sender(number: int) -> Callable[[int], Request]:
+        return lambda turn: sending(SLOW_SERVER, f"{number}-{turn}", [base.join_b] * 50)
+
+    clients = [(sender(number), 200) for number in range(SENDERS)]
+    clients += [(lambda turn, query=query: query, status) for query, status in (queries or {}).items()]
+    threads = [threading.Thread(target=ask_on, args=client) for client in clients]
     for thread in threads:
         thread.start()
     time.sleep(1)
@@ -109,6 +117,22 @@ def beside_a_busy_room(folder: Path) -> None:
                 assert busy < alone + APART, (what, busy, alone)
 
 
+def one_thread_beside_a_busy_room(folder: Path) -> None:
+    """With one thread too: beside senders into one room, a query for it and one for an event of no room, a room of another
+    shard is answered as soon."""
+    with two_rooms(folder / "busy", 1) as (server, base, last), two_rooms(folder / "idle", 1) as (idle, _, _):
+        room, event_id = quoted(base.create["room_id"]), quoted(id_of(base.join_c))
+        queries = {
+            getting("a.example", f"v1/state_ids/{room}?event_id={event_id}"): 200,
+            getting("a.example", "v1/event/" + quoted("$" + "x" * 43)): 404,
+        }
+        state_ids = getting("a.example", "v1/state_ids/%s?event_id=%s" % (quoted(OTHER_ROOM), quoted(id_of(last))))
+        with busy_room(server, base, queries):
+            busy, alone = late(seconds_of(server, state_ids, 200)), late(seconds_of(idle, state_ids, 200))
+            print(f"another shard's room: {busy * 1000:.1f} ms, and {alone * 1000:.1f} where nobody else asks")
+            assert busy < alone + APART, (busy, alone)
+
+
 def large_transaction(base: Base) -> list[Event]:
     """Fifty events of 60,000 bytes each."""
     return [message(A, [base.join_c], base.of_a, f"{number}" + "x" * 60_000) for number in range(50)]
@@ -141,7 +165,7 @@ def clients_that_leave(folder: Path) -> None:
         assert after - before < 90_000, (before, after)
 
 
-TESTS = [beside_a_busy_room, clients_that_leave]
+TESTS = [beside_a_busy_room, one_thread_beside_a_busy_room, clients_that_leave]
 
 if __name__ == "__main__":
     sys.exit(run_tests(TESTS, "slow shards"))

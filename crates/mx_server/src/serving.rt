@@ -331,7 +331,11 @@ where
     let reader = Arc::new(alloc, reader)?;
     let files = watch.files()?;
     let crew = Crew::of(threads);
-    let workers = workers(rt, server, crew, name, files)?;
+    let answerers = Answerers {
+        reader,
+        workers: workers(rt, server, crew, name, files)?,
+        crew,
+    };
     let mut opening = Opening {
         out,
         err,
@@ -339,20 +343,26 @@ where
         data,
         watch,
     };
-    let served = serve_by(rt, &listener, &reader, workers, crew, limits, &mut opening);
+    let served = serve_by(rt, &listener, answerers, limits, &mut opening);
     match served {
         Ok(()) => Err(StartError::from(ServerError::Storage)),
         Err(error) => Err(unserved(alloc, &error)),
     }
 }
 
+// What answers requests: who reads them, and a worker for each event loop and for each thread beside them.
+#[derive(Drop)]
+struct Answerers<K: Keeper<Row = ShardRow>, L: Keeper<Row = BookRow>> {
+    reader: Arc<RequestReader>,
+    workers: Vec<Worker<K, L>>,
+    crew: Crew,
+}
+
 // Serves the connections that come to a listener by these workers, in a thread each.
 fn serve_by<K, L, R, T: Announcer>(
     rt: &R,
     listener: &TcpListener,
-    reader: &Arc<RequestReader>,
-    workers: Vec<Worker<K, L>>,
-    crew: Crew,
+    answerers: Answerers<K, L>,
     limits: Limits,
     announcer: &mut T,
 ) -> Result<(), ServeError>
@@ -361,6 +371,11 @@ where
     L: Keeper<Row = BookRow> + Send,
     R: ServerRuntime,
 {
+    let Answerers {
+        reader,
+        workers,
+        crew,
+    } = answerers;
     let runtime = *rt;
     let mut loops = Vec::new(rt.alloc());
     let mut threads = Vec::new(rt.alloc());
@@ -369,7 +384,7 @@ where
         let answer = move |alloc: Global, now: Moment, call: WireCall| {
             worker.answer(&runtime, alloc, now, call)
         };
-        let handler = Handler::new(Arc::try_clone(reader)?, answer);
+        let handler = Handler::new(Arc::try_clone(&reader)?, answer);
         if loops.len() < crew.loops() {
             loops.push(handler).map_err(AllocError::from)?;
         } else {
