@@ -106,7 +106,7 @@ def read_by_sqlite(folder: Path) -> None:
         with serving(data) as server:
             assert server.ask(*sending("a.example", "t1", [])) == reply
     with contextlib.closing(sqlite3.connect(data / "shard-0.db")) as connection:
-        connection.execute("UPDATE kept2 SET caller = 2 WHERE place = 3")
+        connection.execute("UPDATE kept2 SET caller = caller + 1 WHERE place = 3")
         connection.commit()
     assert is_refused(refusal(data), b"storage", bytes(data / "shard-0.db"))
 
