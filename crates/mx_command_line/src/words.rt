@@ -66,7 +66,9 @@ pub(crate) fn serve_words<'a>(alloc: Global) -> Result<clap::Command<'a>, AllocE
         .help("The port on 127.0.0.1; 0 takes a free one");
     let threads = number_word(alloc, "threads", "1", 1, 64)
         .value_name("1-64")
-        .help("How many threads answer requests");
+        .help(
+            "How many threads read and write connections, more than 30 as 30; as many and three more answer what may have to wait",
+        );
     let connections = number_word(alloc, "connections", "16", 1, 256)
         .value_name("1-256")
         .help(
@@ -81,10 +83,10 @@ pub(crate) fn serve_words<'a>(alloc: Global) -> Result<clap::Command<'a>, AllocE
         .visible_alias("host")?
         .help("A file of lines of a log, each of which hosts a room at the start");
     let stop = flag_word(alloc, "stop-on-storage").help(
-        "End with status 1 once a file of rows has failed, so that a supervisor starts it again",
+        "End with status 1 once a file of rows has failed or has lost its name, so that a supervisor starts it again",
     );
     let accept = flag_word(alloc, "accept-loss").help(
-        "Start though events that were answered as kept are in no file; standard error tells how many",
+        "Start although answered rows are lost: events in no file, fewer rows than there were, a damaged write-ahead log; standard error tells which",
     );
     clap::Command::new(alloc, "serve")
         .about("Answers other servers' requests on 127.0.0.1")
