@@ -1,17 +1,22 @@
 // Clients of a listener, and the listener.
-use crate::responders::Ear;
-use mx_http::{Limits, Responder, Responders, ServeError, ServerRuntime, serve_on};
-use std::alloc::Global;
+use crate::gates::GateKeeper;
+use crate::responders::{Counter, Ear};
+use mx_http::{Limits, Responders, ServeError, serve_on};
+use std::alloc::{AllocGlobal, Global};
 use std::io::{self, Read, Write};
 use std::net::{Net, SocketAddr, TcpListener, TcpStream};
-use std::time::Duration;
+use std::random::RandomSource;
+use std::sync::Wait;
+use std::thread::Threads;
+use std::time::{Clock, Duration};
 
 /// How a reply begins that a responder gives, or that refuses.
 pub(crate) const OK: &[u8] = b"HTTP/1.1 200 OK\r\n";
 
 pub(crate) const NOT_FOUND: &[u8] = b"HTTP/1.1 404 Not Found\r\n";
 
-fn limits(stop_after: Option<u64>) -> Limits {
+/// Limits that no test meets but for the number of connections.
+pub(crate) fn limits(stop_after: Option<u64>) -> Limits {
     Limits {
         connections: 4,
         body: 8,
@@ -57,17 +62,49 @@ pub(crate) fn is_told(told: &io::Result<Vec<u8>>, begin: &[u8]) -> bool {
     }
 }
 
-/// Serves by these responders until so many connections have come.
-pub(crate) fn serve<R: ServerRuntime, A: Responder + Send>(
+/// Serves by counters, as far as these limits go. (The bounds are [`mx_http::ServerRuntime`]'s: a closure can't call what
+/// asks for that trait.)
+pub(crate) fn serve_by_counters<R>(
     rt: &R,
     listener: &TcpListener,
-    responders: Responders<A>,
-    stop_after: Option<u64>,
+    counters: Responders<Counter>,
+    limits: Limits,
     ear: &mut Ear,
-) -> Result<Vec<A>, ServeError>
+) -> Result<Vec<Counter>, ServeError>
 where
-    A::Call: Send,
-    requires { A.can_respond }
+    R: Threads
+        + Wait
+        + Clock
+        + Net<Listener = TcpListener, Stream = TcpStream>
+        + RandomSource
+        + AllocGlobal
+        + Copy
+        + Drop
+        + Send
+        + Sync,
 {
-    serve_on(rt, listener, responders, limits(stop_after), ear)
+    serve_on(rt, listener, counters, limits, ear)
+}
+
+/// Serves by keepers of a gate, as far as these limits go.
+pub(crate) fn serve_by_keepers<R>(
+    rt: &R,
+    listener: &TcpListener,
+    keepers: Responders<GateKeeper>,
+    limits: Limits,
+    ear: &mut Ear,
+) -> Result<Vec<GateKeeper>, ServeError>
+where
+    R: Threads
+        + Wait
+        + Clock
+        + Net<Listener = TcpListener, Stream = TcpStream>
+        + RandomSource
+        + AllocGlobal
+        + Copy
+        + Drop
+        + Send
+        + Sync,
+{
+    serve_on(rt, listener, keepers, limits, ear)
 }

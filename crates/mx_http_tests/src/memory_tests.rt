@@ -1,5 +1,6 @@
+use crate::clients::serve_by_counters;
 use crate::responders::{Ear, LONG, crew_of_counters};
-use mx_http::{Limits, serve_on};
+use mx_http::Limits;
 use std::alloc::{AllocGlobal, Global};
 use std::io::{self, Read, Write};
 use std::net::{Ipv4Addr, Net, SocketAddr, TcpListener, TcpStream};
@@ -55,7 +56,7 @@ fn two_replies_longer_than_the_total(rt: HostRuntime) -> Result<(), Fail> {
                 || is_told(&rt, alloc, address),
             )
         },
-        || serve_on(&rt, &listener, workers, limits(), &mut ear),
+        || serve_by_counters(&rt, &listener, workers, limits(), &mut ear),
     );
     assert!(rt; told.0? && told.1?);
     assert!(rt; served.is_ok());

@@ -1,4 +1,4 @@
-use crate::clients::{OK, asked, is_told, serve};
+use crate::clients::{OK, asked, is_told, limits, serve_by_counters};
 use crate::responders::{Counter, Ear, crew_of_counters};
 use std::net::{Ipv4Addr, TcpListener};
 use std::test::Fail;
@@ -32,7 +32,7 @@ fn two_clients_and_an_end(rt: HostRuntime) -> Result<(), Fail> {
                 || asked(&rt, alloc, address, "/x"),
             )
         },
-        || serve(&rt, &listener, workers, Some(2), &mut ear),
+        || serve_by_counters(&rt, &listener, workers, limits(Some(2)), &mut ear),
     );
     assert!(rt; is_told(&served.0, OK) && is_told(&served.1, OK));
     match told {
@@ -57,7 +57,7 @@ fn ended_by_a_responder(rt: HostRuntime) -> Result<(), Fail> {
     let (told, served) = thread::join(
         &rt,
         || asked(&rt, alloc, address, "/x"),
-        || serve(&rt, &listener, workers, None, &mut ear),
+        || serve_by_counters(&rt, &listener, workers, limits(None), &mut ear),
     );
     assert!(rt; is_told(&told, OK));
     match served {

@@ -1,4 +1,4 @@
-use crate::clients::{NOT_FOUND, OK, asked, is_told, sent, serve};
+use crate::clients::{NOT_FOUND, OK, asked, is_told, limits, sent, serve_by_keepers};
 use crate::gates::{Gate, GateKeeper, crew_of_keepers, wait_until};
 use crate::responders::Ear;
 use std::net::{Ipv4Addr, TcpListener};
@@ -39,7 +39,7 @@ fn beside_a_request_that_waits(rt: HostRuntime) -> Result<(), Fail> {
                 },
             )
         },
-        || serve(&rt, &listener, keepers, Some(3), &mut ear),
+        || serve_by_keepers(&rt, &listener, keepers, limits(Some(3)), &mut ear),
     );
     assert!(rt; is_told(&told.0, OK));
     assert!(rt; is_told(&told.1.0, NOT_FOUND) && is_told(&told.1.1, OK));
@@ -74,7 +74,7 @@ fn left_by_its_client(rt: HostRuntime) -> Result<(), Fail> {
                 },
             )
         },
-        || serve(&rt, &listener, keepers, Some(3), &mut ear),
+        || serve_by_keepers(&rt, &listener, keepers, limits(Some(3)), &mut ear),
     );
     assert!(rt; is_told(&told.0, OK) && is_told(&told.1, OK));
     match served {
