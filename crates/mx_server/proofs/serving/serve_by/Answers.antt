@@ -34,3 +34,6 @@ serve_on-requires-send-A g c κs within = param_send 1 _ (arg_send _ no _
     (handler_send (captured closure (worker.the_row (contract.K-row g.row.K g.row.L g.row.R g.row.T) (contract.L-row g.row.K g.row.L g.row.R g.row.T) g.K.Keeper g.L.Keeper) (contract.R-row g.row.K g.row.L g.row.R g.row.T))
     (captured_send closure (worker.the_row (contract.K-row g.row.K g.row.L g.row.R g.row.T) (contract.L-row g.row.K g.row.L g.row.R g.row.T) g.K.Keeper g.L.Keeper) (contract.R-row g.row.K g.row.L g.row.R g.row.T)
     (worker_send (contract.K-row g.row.K g.row.L g.row.R g.row.T) (contract.L-row g.row.K g.row.L g.row.R g.row.T) g.K.Keeper g.L.Keeper c.type_bounds.send-K c.type_bounds.send-L) c.type_bounds.send-R)))
+
+pub serve_on-requires-send-A-Call : goal.serve_on-requires-send-A-Call
+serve_on-requires-send-A-Call g c κs within = param_send 3 _ (arg_send _ no _ call_send)
