@@ -1,0 +1,16 @@
+use Rattle.std.proofs.Common.{sym, ap, ◌∙◌}
+use Rattle.std.specs.Prelude.{Some}
+use Rattle.mx_room.specs.RoomView.{RoomView}
+use Rattle.mx_shard.proofs.RoomLemmas.{room_found, room_missing}
+use Rattle.mx_shard.proofs.hosting.taken_room.Goals as goal
+
+pub swap_remove-in-Some-requires : goal.swap_remove-in-Some-requires
+swap_remove-in-Some-requires c = (room_found c.args.numbers.now c.args.rooms.items c.args.id.now c.in-Some.number.now c.requires (sym c.in-Some.ensures.value)).within
+
+pub returns-in-Some : goal.returns-in-Some
+returns-in-Some c =
+    ap (λ (room : RoomView). Some room) c.swap_remove-in-Some.ensures.value
+    ∙ sym ((room_found c.args.numbers.now c.args.rooms.items c.args.id.now c.in-Some.number.now c.requires (sym c.in-Some.ensures.value)).found c.swap_remove-in-Some.result)
+
+pub returns-in-None : goal.returns-in-None
+returns-in-None c = sym (room_missing c.args.numbers.now c.args.rooms.items c.args.id.now c.requires (sym c.in-None.ensures.value))
