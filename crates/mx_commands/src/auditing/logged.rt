@@ -1,30 +1,32 @@
-// The rows that a log makes, and what it offers beside them.
+// What a log makes of a room, and what it offers beside that.
 use crate::auditing::offerings::{LineCounts, NotKept, Offerings};
 use crate::output::Failure;
 use mx_ident::{IdError, RoomId, ServerName};
-use mx_keeper::{BookRow, Keeper, MemoryKeeper, ShardCount, ShardRow};
+use mx_keeper::{BookRow, MemoryKeeper, ShardCount, ShardRow};
 use mx_log::server_after_log;
 use mx_pdu::PresenceVerifier;
+use mx_receipt::Timeline;
 use mx_world::World;
-use std::alloc::{AllocError, Global};
+use std::alloc::Global;
 use std::io::Read;
 
 // The name of a server whom no line of a log names.
 const NO_NAME: &str = "localhost";
 
-/// What the lines of a log make: rows, what was offered to a room and not kept, and what the lines were.
+/// What the lines of a log make of a room: its events under their verdicts, where it is hosted, what was offered to it and
+/// not kept, and what the lines were.
 #[derive(Drop)]
 pub(crate) struct Logged {
-    pub(crate) rows: Vec<ShardRow>,
+    pub(crate) timeline: Option<Timeline>,
     pub(crate) not_kept: Vec<NotKept>,
     pub(crate) counts: LineCounts,
 }
 
-/// The rows of a new server of this name, over so many shards, that has done what the lines of a log ask for: those of one
-/// shard after those of another, each in order of arrival; with them what the lines offered to this room.
+/// The room of a new server of this name, over so many shards, that has done what the lines of a log ask for; with it what
+/// the lines offered to this room.
 ///
 /// `NameNeeded` where there is no name and a line is a request, which names the server that it is for.
-pub(crate) fn rows_of_log<R: Read>(
+pub(crate) fn logged_room<R: Read>(
     alloc: Global,
     name: Option<&ServerName>,
     shards: ShardCount,
@@ -41,9 +43,8 @@ pub(crate) fn rows_of_log<R: Read>(
     if name.is_none() && counts.requests > 0 {
         return Err(Failure::NameNeeded);
     }
-    let rows = rows_of(alloc, after.world)?;
     Ok(Logged {
-        rows,
+        timeline: timeline_in(after.world, room),
         not_kept,
         counts,
     })
@@ -56,25 +57,16 @@ fn of_id(error: IdError) -> Failure {
     }
 }
 
-// The rows that its keepers have.
-fn rows_of(
-    alloc: Global,
+// The events of a room of a server, under the verdicts that it gave them, where the room is hosted.
+fn timeline_in(
     world: World<MemoryKeeper<ShardRow>, MemoryKeeper<BookRow>>,
-) -> Result<Vec<ShardRow>, Failure> {
+    room: &RoomId,
+) -> Option<Timeline> {
     let (shards, _books) = world.into_parts();
-    let mut all = Vec::new(alloc);
     for shard in shards {
-        let mut keeper = shard.into_keeper();
-        let rows = keeper.rows().map_err(Failure::of_keeper)?;
-        add_rows(&mut all, rows)?;
+        if let Some(hosted) = shard.into_room(room) {
+            return Some(hosted.into_timeline());
+        }
     }
-    Ok(all)
-}
-
-/// Adds rows behind others.
-pub(crate) fn add_rows(all: &mut Vec<ShardRow>, rows: Vec<ShardRow>) -> Result<(), AllocError> {
-    for row in rows {
-        all.push(row)?;
-    }
-    Ok(())
+    None
 }
