@@ -20,7 +20,7 @@ use std::marker::Model;
 /// The state that some events of a room make: of two with one type and state key it has the first.
 #[derive(Debug, Drop)]
 pub(crate) struct StateOfEvents<'a> {
-    earlier: EarlierEvents<'a>,
+    earlier: &'a EarlierEvents<'a>,
     events: &'a [EventNo],
 }
 
@@ -33,9 +33,9 @@ impl<'a> Model for StateOfEvents<'a> {
 
     ghost coded = { events_in_record_code };
 
-    ghost view = { λ s. (s.earlier, s.events.now) };
+    ghost view = { λ s. (s.earlier.now, s.events.now) };
 
-    ghost invariant = { λ s. All (λ p. p < length s.earlier) s.events.now };
+    ghost invariant = { λ s. All (λ p. p < length s.earlier.now) s.events.now };
 }
 
 impl<'a> StateOfEvents<'a> {
@@ -44,9 +44,9 @@ impl<'a> StateOfEvents<'a> {
     ghost use Rattle.mx_orders.specs.StateMap.{entry as entry_at, state_of};
 
     /// The state that these events make.
-    pub(crate) fn of(earlier: EarlierEvents<'a>, events: &'a [EventNo]) -> StateOfEvents<'a>
-        requires { All (λ event. event < length earlier) events.now }
-        ensures { result ≡ (earlier, events.now) }
+    pub(crate) fn of(earlier: &'a EarlierEvents<'a>, events: &'a [EventNo]) -> StateOfEvents<'a>
+        requires { All (λ event. event < length earlier.now) events.now }
+        ensures { result ≡ (earlier.now, events.now) }
     {
         StateOfEvents { earlier, events }
     }
@@ -56,7 +56,7 @@ impl<'a> StateOfEvents<'a> {
         ensures number { result ≡ entry_at (state_of (rows_of self.now.0) self.now.1) (kind.now, key.now) }
         ensures known { IfSome result (λ n. n < length self.now.0) }
     {
-        first_at(&self.earlier, self.events, kind, key)
+        first_at(self.earlier, self.events, kind, key)
     }
 }
 
@@ -162,7 +162,7 @@ pub(crate) fn auth_failure(
     if let Err(rule) = judge_auth_events(version, event, &cited) {
         return Ok(Some(rule));
     }
-    let state = StateOfEvents::of(*earlier, auth_events);
+    let state = StateOfEvents::of(earlier, auth_events);
     Ok(judge(version, event, &state).err())
 }
 

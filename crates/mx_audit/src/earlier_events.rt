@@ -10,7 +10,7 @@ use mx_receipt::Timeline;
 use std::marker::Model;
 
 /// The events of a timeline that came before one that is not the first.
-#[derive(Clone, Copy, Debug)]
+#[derive(Debug, Drop)]
 pub(crate) struct EarlierEvents<'t> {
     timeline: &'t Timeline,
     next: EventNo,

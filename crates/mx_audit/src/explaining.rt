@@ -143,7 +143,7 @@ fn asked_of_auth_events(
 {
     let auth_events = auth_events_of(alloc, earlier, event)?;
     let keys = needed_keys(earlier.version(), event);
-    let asked = entries_of(alloc, &keys, &StateOfEvents::of(*earlier, &auth_events))?;
+    let asked = entries_of(alloc, &keys, &StateOfEvents::of(earlier, &auth_events))?;
     Ok(asked)
 }
 

@@ -30,11 +30,7 @@ pub(crate) fn tell_page<W: Write>(
     write_pieces(out, &page_end())
 }
 
-fn tell_entries<W: Write>(
-    alloc: Global,
-    audit: &RoomAudit,
-    out: &mut W,
-) -> Result<(), Failure> {
+fn tell_entries<W: Write>(alloc: Global, audit: &RoomAudit, out: &mut W) -> Result<(), Failure> {
     timeline_is_sound(audit.timeline());
     for number in 0..audit.timeline().len() {
         if let Some(text) = page_entry(alloc, audit, EventNo::at(number as u32))? {
