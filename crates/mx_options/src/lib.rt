@@ -9,4 +9,4 @@ mod serving;
 pub use auditing::{AskedOf, AuditOptions, AuditQuestion, AuditSource, EventQuestion};
 pub use logging::LogOptions;
 pub use migrating::MigrateOptions;
-pub use serving::{SeatCount, ServeOptions};
+pub use serving::{SeatCount, ServeOptions, ServerLog};
