@@ -22,7 +22,7 @@ from typing import Any
 
 from suite import LeftOut, program, run_tests
 from event_logs import FEDERATION, NAME, Base, Log, header, state_path
-from matrix_events import A, Event, canonical, create, id_of, message
+from matrix_events import A, Event, id_of, message
 from running_server import SECONDS, Refused, Server, base_room, getting, host_line, sending
 
 STORAGE = 503, b'{"errcode":"M_UNKNOWN","error":"storage"}'
