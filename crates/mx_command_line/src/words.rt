@@ -20,7 +20,13 @@ pub(crate) fn check_words<'a>(alloc: Global) -> Result<clap::Command<'a>, AllocE
             "Reads one event, and prints its ID, whether its content hash holds, and its canonical text",
         )
         .after_help("Example: mx_federd check event.json\nPage: docs/LOG.md")
-        .arg(file_word(alloc))
+        .arg(file_word(alloc))?
+        .arg(flag_word(alloc, "explain").help(
+            "Say in a second line which field of a refused event has which fault",
+        ))?
+        .arg(flag_word(alloc, "strict").help(
+            "End with status 1 where the content hash does not hold",
+        ))
 }
 
 fn name_word<'a>(alloc: Global) -> Arg<'a> {
@@ -54,7 +60,10 @@ pub(crate) fn replay_words<'a>(alloc: Global) -> Result<clap::Command<'a>, Alloc
         .after_help("Example: mx_federd replay --name hub.example log.jsonl\nPage: docs/LOG.md")
         .arg(file_word(alloc))?
         .arg(name_word(alloc))?
-        .arg(shards_word(alloc))
+        .arg(shards_word(alloc))?
+        .arg(flag_word(alloc, "strict").help(
+            "End with status 1 at the first bad line, and say its number and fault",
+        ))
 }
 
 pub(crate) fn serve_words<'a>(alloc: Global) -> Result<clap::Command<'a>, AllocError> {

@@ -6,14 +6,16 @@
 //! log of one room.
 #![tactic(auto)]
 
+ghost use Rattle.std.specs.Prelude.{◌≡◌, OnErr, OnOk};
+
 mod counted_input;
 mod noted_output;
 
 use counted_input::CountedInput;
 use mx_command_line::{Command, CommandLineError, Invocation};
 use mx_commands::{
-    Failure, MISUSED, REFUSED, SUCCESS, audit, check, log, replay, report, report_about,
-    report_server,
+    Failure, FailureAbout, MISUSED, REFUSED, SUCCESS, audit, check, log, replay, report,
+    report_about, report_server,
 };
 use mx_directory::{ProgressLine, ServerError, StartError, migrate};
 use mx_line_queue::{LineOutput, LineSender, start_writer};
@@ -73,35 +75,42 @@ pub fn invocation_of<E: Write>(
 pub fn main_with<R: Read, W: Write, E: Write>(
     alloc: Global,
     command: Command,
-    input: &mut R,
+    input: &mut CountedInput<'_, R>,
     out: &mut W,
     err: &mut E,
 ) -> Asked {
     let mut out = NotedOutput::new(out);
     let ran = match command {
-        Command::Check => check(alloc, input, &mut out),
-        Command::Replay { name, shards } => replay(alloc, &name, shards, input, &mut out),
-        Command::Log(options) => log(alloc, &options, input, &mut out, err),
+        Command::Check(options) => check(alloc, options, input, &mut out),
+        Command::Replay(options) => replay(alloc, &options, input, &mut out),
+        Command::Log(options) => {
+            log(alloc, &options, input, &mut out, err).map_err(FailureAbout::from)
+        }
         Command::Version(text) => told(&mut out, &text),
         Command::Serve(options) => return Asked::Serve(options),
         Command::Audit(options) => return Asked::Audit(options),
         Command::Migrate(options) => return Asked::Migrate(options),
     };
+    input.end_line();
     Asked::Ended(status_of(ran, out.is_closed(), err))
 }
 
 // Writes a text.
-fn told<W: Write>(out: &mut W, text: &str) -> Result<(), Failure> {
+fn told<W: Write>(out: &mut W, text: &str) -> Result<(), FailureAbout> {
     out.write_all(text.as_bytes()).map_err(Failure::of_io)?;
-    out.flush().map_err(Failure::of_io)
+    out.flush().map_err(Failure::of_io)?;
+    Ok(())
 }
 
 // The exit status of a run that gave so, and whose output is closed or not.
-fn status_of<E: Write>(ran: Result<(), Failure>, is_closed: bool, err: &mut E) -> u8 {
+fn status_of<E: Write>(ran: Result<(), FailureAbout>, is_closed: bool, err: &mut E) -> u8
+    ensures done { OnOk ran (result ≡ SUCCESS) }
+    ensures failed { OnErr ran (result ≡ REFUSED) }
+{
     match ran {
         Ok(()) => SUCCESS,
-        Err(Failure::ReadOrWrite) if is_closed => REFUSED,
-        Err(failure) => report(failure, err),
+        Err(about) if is_closed && about.failure == Failure::ReadOrWrite => REFUSED,
+        Err(about) => report_about(about, err),
     }
 }
 
@@ -161,12 +170,14 @@ where
 fn audited<R: Read, W: Write, E: Write>(
     host: &HostRuntime,
     options: AuditOptions,
-    log: &mut R,
+    log: &mut CountedInput<'_, R>,
     out: &mut W,
     err: &mut E,
 ) -> u8 {
     let mut out = NotedOutput::new(out);
-    match audit(host, options, log, &mut out, err) {
+    let told = audit(host, options, log, &mut out, err);
+    log.end_line();
+    match told {
         Ok(()) => SUCCESS,
         Err(_) if out.is_closed() => REFUSED,
         Err(about) => report_about(about, err),
@@ -222,12 +233,28 @@ where
         Ok(invocation) => invocation,
         Err(status) => return status,
     };
+    let progress = ProgressLine::new(host);
     match file {
-        None => status_with(rt, host, command, input, out, err),
+        None => {
+            let mut counted = CountedInput::new(input, None, progress);
+            status_with(rt, host, command, &mut counted, out, err)
+        }
         Some(path) => match File::open(host, path.as_str()) {
-            Ok(mut file) => status_with(rt, host, command, &mut file, out, err),
+            Ok(mut file) => {
+                let length = length_of(&file);
+                let mut counted = CountedInput::new(&mut file, length, progress);
+                status_with(rt, host, command, &mut counted, out, err)
+            }
             Err(error) => unopened(&path, &error, err),
         },
+    }
+}
+
+// How many bytes a file has; none of what is no plain file, such as a pipe.
+fn length_of(file: &File) -> Option<u64> {
+    match file.metadata() {
+        Ok(about) if about.is_file() => Some(about.len()),
+        _ => None,
     }
 }
 
@@ -243,7 +270,7 @@ fn status_with<R, I: Read, W: Write, E: Write>(
     rt: &R,
     host: &HostRuntime,
     command: Command,
-    input: &mut I,
+    input: &mut CountedInput<'_, I>,
     out: &mut W,
     err: &mut E,
 ) -> u8
@@ -260,11 +287,10 @@ where
         + Sync
         + 'static,
 {
-    let mut counted = CountedInput::new(input, ProgressLine::new(host));
-    match main_with(rt.alloc(), command, &mut counted, out, err) {
+    match main_with(rt.alloc(), command, input, out, err) {
         Asked::Ended(status) => status,
         Asked::Serve(options) => served(rt, host, options, out, err),
-        Asked::Audit(options) => audited(host, options, &mut counted, out, err),
+        Asked::Audit(options) => audited(host, options, input, out, err),
         Asked::Migrate(options) => match migrate(rt, host, &options.data, options.shards, out) {
             Ok(()) => SUCCESS,
             Err(error) => report_server(error, err),

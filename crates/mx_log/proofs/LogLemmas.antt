@@ -20,7 +20,7 @@ use Rattle.mx_log.proofs.LineRunLemmas.{appends_more, appends_none, none_so_far,
 use Rattle.mx_log.proofs.RefusalLineLemmas.{ended-more, ended-none, refusal-stays, refused}
 
 -- what comes before a clean end is clean
-clean-before : (out rest : List ℕ) → IsEnded out → has_refusal (out ++ rest) ≡ false → has_refusal out ≡ false
+pub clean-before : (out rest : List ℕ) → IsEnded out → has_refusal (out ++ rest) ≡ false → has_refusal out ≡ false
 clean-before out rest ended clean =
     ⊎_elim (λ yes. absurd (true≢false (sym (refusal-stays out rest ended yes) ∙ clean))) (λ no. no) (cases_Bool (has_refusal out))
 

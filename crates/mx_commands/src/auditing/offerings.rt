@@ -1,5 +1,4 @@
 // What became of the events that the lines of a log offer to one room.
-mod event_faults;
 mod malformed;
 mod offerers;
 mod open_transactions;

@@ -1,5 +1,5 @@
 // The values of a transaction that are no events.
-use crate::auditing::offerings::event_faults::fault_of;
+use crate::event_faults::fault_of;
 use json::Scratch;
 use mx_body::{BodyError, body_value};
 use mx_lines::{EventFault, EventField};
