@@ -84,7 +84,7 @@ fn why_bad_form(
 fn unknown_key<'a>(members: &'a Map<String, Value>, form: &[(&str, Kind)]) -> Option<&'a str> {
     for (key, _value) in members.iter() {
         if key.as_str() != "step" && !form.iter().any(|(known, _)| key.as_str() == *known) {
-            return Some(key);
+            return Some(key.as_str());
         }
     }
     None

@@ -1,5 +1,5 @@
 // How far the program is, told on standard error where that is a terminal.
-ghost use Rattle.std.specs.Prelude.{◌≤◌};
+ghost use Rattle.std.specs.Prelude.{◌≡◌, ◌*◌, ◌/◌, if◌then◌else◌, nat_le};
 
 use std::io::IsTerminal;
 use std::time::{Clock, Duration};
@@ -78,13 +78,12 @@ impl<'a> ProgressLine<'a> {
     }
 }
 
-// How many hundredths of all these are, rounded down: at most 100.
-fn share_of(count: u64, all: u64) -> u64
-    ensures { result ≤ 100 }
+// How many hundredths of all that is there are done, rounded down.
+fn share_of(count: u64, all: u64) -> u128
+    ensures { result ≡ (if nat_le all count then 100 else count * 100 / all) }
 {
-    if count >= all {
+    if all <= count {
         return 100;
     }
-    let share = u128::from(count) * 100 / u128::from(all);
-    u64::try_from(share).unwrap_or(100).min(100)
+    u128::from(count) * 100 / u128::from(all)
 }

@@ -32,7 +32,7 @@ answered_none offer server start contents w now = record {
   run = λ clean. none_so_far offer server start w now;
 }
 
-pub answered_more : {K L : Type 0} (offer : Event → Offered) (server : List ℕ) (start : Start) (lines : List (List ℕ)) (line : List ℕ) (before between after : Option (List ℕ)) (w w' : WorldView K L) → AreAnswered offer server start lines before between w → IsWritten offer server line w w' between after → AreAnswered offer server start (lines ++ line ∷ []) before after w'
+unfoldable pub answered_more : {K L : Type 0} (offer : Event → Offered) (server : List ℕ) (start : Start) (lines : List (List ℕ)) (line : List ℕ) (before between after : Option (List ℕ)) (w w' : WorldView K L) → AreAnswered offer server start lines before between w → IsWritten offer server line w w' between after → AreAnswered offer server start (lines ++ line ∷ []) before after w'
 answered_more offer server start lines line before between after w w' so_far (answered output appends done) = record {
   written = so_far.written ++ (output ++ 10 ∷ []);
   appends = appends_more before between after so_far.written (output ++ 10 ∷ []) so_far.appends appends;

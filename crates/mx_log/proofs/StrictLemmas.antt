@@ -1,6 +1,6 @@
 -- Lines that were answered, none of which is bad but the last.
-use Rattle.std.proofs.Common.{◌≡◌, ℕ, suc, ◌+◌, List, [], ◌∷◌, ◌++◌, Bool, true, false, Option, Some, None, length, refl, sym, ap, ◌∙◌, subst, append-nil, arith}
-use Rattle.std.specs.Prelude.{IfSome, if◌then◌else◌}
+use Rattle.std.proofs.Common.{◌≡◌, ◌<◌, ℕ, suc, ◌+◌, ◌^◌, List, [], ◌∷◌, ◌++◌, Bool, true, false, Option, Some, None, length, refl, sym, ap, ◌∙◌, subst, append-nil, append_assoc, length-append, arith}
+use Rattle.std.specs.Prelude.{IfSome, SomeIff, if◌then◌else◌, unwrap_or}
 use Rattle.std.proofs.lemmas.Bool.{true≢false}
 use Rattle.std.specs.Io.KnownBytes.{Appends}
 use Rattle.mx_redact.specs.Fields.{Event}
@@ -12,6 +12,7 @@ use Rattle.mx_pdu.specs.Offers.{Judge, offer_by}
 use Rattle.mx_pdu.specs.declared.offering.Offered.{Offered}
 use Rattle.mx_log.specs.LineOutputs.{has_refusal}
 use Rattle.mx_log.specs.LineRuns.{AreAnswered, IsDone, IsWritten}
+use Rattle.mx_log.specs.LineReading.{AreTaken}
 use Rattle.mx_log.specs.LineRuns as written
 use Rattle.mx_log.specs.LineSteps.{AreRun, nothing_yet}
 use Rattle.mx_log.specs.Lines.{lines_of, read_line}
@@ -49,6 +50,15 @@ up_behind offer n (text ∷ lines) rest none =
     (kept_on (is_bad (read_line offer text)) (n, text) (first_bad offer (suc n) lines) (up_to_bad offer (lines ++ rest)) (lines ++ up_to_bad offer rest) none
     (λ more. up_behind offer (suc n) lines rest more))
 
+-- the number that follows, where there is one
+pub next_number : (next : Option ℕ) (n m : ℕ) → SomeIff next (n + 1 < 2 ^ 64) (n + 1) → next ≡ Some m → m ≡ n + 1
+next_number None n m none is = absurd (cc is)
+next_number (Some k) n m some is = ap (λ o. unwrap_or o 0) (sym is) ∙ some.1
+
+-- one line more is counted
+pub one_counted : (lines : List (List ℕ)) (line : List ℕ) (n m : ℕ) → n ≡ length lines → m ≡ n + 1 → m ≡ length (lines ++ line ∷ [])
+one_counted lines line n m count next = next ∙ ap (λ k. k + 1) count ∙ sym (length-append lines (line ∷ []))
+
 pub sound_none : {K L : Type 0} (offer : Event → Offered) (server : List ℕ) (start : Start) (contents : Option (List ℕ)) (w : WorldView K L)
     → IsAfter start [] w → AreSound offer server start [] contents contents w
 sound_none offer server start contents w now = record {
@@ -61,6 +71,7 @@ pub sound_more : {K L : Type 0} (offer : Event → Offered) (server : List ℕ) 
     (lines : List (List ℕ)) (line : List ℕ) (before between after : Option (List ℕ)) (w w' : WorldView K L)
     → AreSound offer server start lines before between w → IsTold offer server line w w' between after false
     → AreSound offer server start (lines ++ line ∷ []) before after w'
+unfolding answered_more
 sound_more offer server start lines line before between after w w' sound (answered output appends done told) = record {
   so_far = answered_more offer server start lines line before between after w w' sound.so_far (written.answered output appends done);
   none = λ clean.
@@ -77,6 +88,7 @@ pub bad_more : {K L : Type 0} (offer : Event → Offered) (server : List ℕ) (s
     (lines : List (List ℕ)) (line : List ℕ) (rest : List (List ℕ)) (before between after : Option (List ℕ)) (w w' : WorldView K L) (number : ℕ) → number ≡ 1 + length lines
     → AreSound offer server start lines before between w → IsTold offer server line w w' between after true
     → AreAnsweredToBad offer server start (lines ++ line ∷ rest) before after (Some (number, line))
+unfolding answered_more
 bad_more offer server start lines line rest before between after w w' number count sound (answered output appends done told) =
     let more : AreAnswered offer server start (lines ++ line ∷ []) before after w' =
         answered_more offer server start lines line before between after w w' sound.so_far (written.answered output appends done) in
@@ -103,6 +115,14 @@ bad_more offer server start lines line rest before between after w w' number cou
       run = λ clean. absurd (true≢false (sym (refused sound.so_far.written [] refusal sound.so_far.ended) ∙ clean));
     }
 
+-- what holds of these lines with any behind them holds of all lines of what is known
+pub of_first : (P : List (List ℕ) → Type 0) (a b : Option (List ℕ)) (lines : List (List ℕ)) (line : List ℕ)
+    → AreTaken a b (lines ++ line ∷ []) → ((rest : List (List ℕ)) → P (lines ++ line ∷ rest)) → IfSome a (λ all. P (lines_of all))
+of_first P None b lines line taken holds = tt
+of_first P (Some all) None lines line taken holds = absurd taken
+of_first P (Some all) (Some rest) lines line taken holds =
+    subst P (sym (taken ∙ append_assoc lines (line ∷ []) (lines_of rest))) (holds (lines_of rest))
+
 -- all lines, none of which is bad
 pub none_bad : {K L : Type 0} (offer : Event → Offered) (server : List ℕ) (start : Start)
     (lines : List (List ℕ)) (before after : Option (List ℕ)) (w : WorldView K L)
@@ -123,7 +143,11 @@ pub strictly_answered : (judges : Judge) (server : List ℕ) (remaining before a
     → IfSome remaining (λ read. (written : List ℕ) × Appends before after written × (has_refusal written ≡ false
     → IsAnsweredToBad judges server read written bad))
 strictly_answered judges server None before after bad done = tt
-strictly_answered judges server (Some read) before after bad done = (done.written, done.appends, λ clean. (done.first clean, done.run clean))
+strictly_answered judges server (Some read) before after bad done = (
+  done.written,
+  done.appends,
+  λ clean. let run = done.run clean in (done.first clean, run.0, run.1),
+)
 
 -- what is written for an answer, or for an answer that found no memory
 pub told_by : {K L : Type 0} (offer : Event → Offered)

@@ -7,13 +7,14 @@ use Rattle.mx_log.specs.LineSteps.{AreRun, Exchange, nothing_yet}
 use Rattle.mx_log.specs.Lines.{Line, bad_line, malformed_host, step_line, call_line, lines_of, read_line}
 use Rattle.mx_log.specs.declared.strict_logs.BadLine.{BadLine}
 
+-- it is of no form
 abbrev pub is_bad : Line → Bool
 is_bad bad_line = true
 is_bad malformed_host = false
 is_bad (step_line step) = false
 is_bad (call_line now r) = false
 
--- the first bad line, with its number where the first of these lines has this one
+-- the first bad one of lines that are numbered from this number, with its own
 abbrev pub first_bad : (Event → Offered) → ℕ → List (List ℕ) → Option (ℕ × List ℕ)
 first_bad offer n [] = None
 first_bad offer n (text ∷ rest) = if is_bad (read_line offer text) then Some (n, text) else first_bad offer (suc n) rest
@@ -26,7 +27,7 @@ up_to_bad offer (text ∷ rest) = text ∷ (if is_bad (read_line offer text) the
 abbrev pub bad_shown : BadLine → ℕ × List ℕ
 bad_shown bad = (bad.number, bad.text.items)
 
--- what a new server under its name writes for an input up to the first bad line, which is this one
+-- this is the first bad line of an input, or there is none, and a new server under its name writes this for the lines up to it
 abbrev pub IsAnsweredToBad : Judge → List ℕ → List ℕ → List ℕ → Option (ℕ × List ℕ) → Type 0
 IsAnsweredToBad judges server input output bad =
     (bad ≡ first_bad (offer_by judges) 1 (lines_of input))

@@ -32,11 +32,13 @@ pub struct BadLine {
     pub text: Vec<u8>,
 }
 
-/// Answers a log as [`run_lines`](crate::run_lines) does, up to its first bad line, that one too, and gives that line; none where
-/// no line is bad. What comes after it is not read.
+/// Answers a log as [`run_lines`](crate::run_lines) does, with the same errors, up to its first bad line, that one too, and gives
+/// that line; none where no line is bad. The lines behind it are not answered.
 ///
-/// Where no line is a refusal for memory or storage, the line that is given is the first bad one, and what is written is what the
-/// steps of the lines up to it call for. Nothing is promised of what was written after an error.
+/// Where no line of what is written is a refusal for memory or storage, the line that is given is the first bad one, and what is
+/// written is what the steps of the lines up to it call for. Nothing is promised of what was written before an error.
+///
+/// Source: the lines are our own; the requests that they hold are those of the Matrix specification, Server-Server API.
 pub fn run_lines_to_bad<R: Read, W: Write, V: Verifier>(
     alloc: Global,
     input: &mut R,
