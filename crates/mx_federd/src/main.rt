@@ -70,8 +70,8 @@ pub fn invocation_of<E: Write>(
 }
 
 /// Does what the program is asked, all but to serve, to audit and to migrate. The exit status is 0, or 1 where the input is
-/// refused, memory runs out, storage fails, or a read or a write fails. What went wrong is said on `err`, in one line;
-/// where the reader of `out` has closed it, as `head` does, nothing is said.
+/// refused, memory runs out, storage fails, or a read or a write fails. What went wrong is said on `err`, in one line, and in a
+/// second what that is about, if that is known; where the reader of `out` has closed it, as `head` does, nothing is said.
 pub fn main_with<R: Read, W: Write, E: Write>(
     alloc: Global,
     command: Command,
