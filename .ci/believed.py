@@ -76,7 +76,7 @@ THEOREMS: dict[str, dict[str, str]] = {
         "events_in_order_stay",
     },
     "audit": {
-        "mx_audit": "RoomAudit::begin RoomAudit::receive RoomAudit::explanation resolution_steps resolution_before "
+        "mx_audit": "RoomAudit::begin RoomAudit::receive RoomAudit::of_timeline RoomAudit::explanation resolution_steps resolution_before "
         "deciding_check_makes_the_verdict steps_make_the_state event_line state_lines lines_of_resolution picture_lines "
         "picture_head picture_end",
         "mx_page": "page_entry changes data_start refused_start refused_entry data_end changes_make_the_state data_has_no_tag"

@@ -18,9 +18,9 @@ OPENING, CLOSING = "([{", ")]}"
 
 
 def tokens_of(source: str) -> list[str]:
-    """The tokens of a source, without comments and white space."""
-    found = TOKEN.finditer(source)
-    return [it[0] for it in found if not it["comment"] and not it["space"]]
+    """The tokens of a source, without comments, white space, and commas in front of a closing bracket: these are layout."""
+    found = [it[0] for it in TOKEN.finditer(source) if not it["comment"] and not it["space"]]
+    return [it for it, after in zip(found, [*found[1:], ""]) if it != "," or after not in CLOSING or not after]
 
 
 def end_of_group(tokens: list[str], at: int) -> int:

@@ -152,6 +152,63 @@ def check_refusals() -> None:
         assert run("check", source=source) == (1, b"", b"refused: " + told + b"\n"), source
 
 
+def explained_refusals() -> None:
+    """`check --explain` says in a second line which field of an event has which fault; the first line stays as it is."""
+    whole = without(create(), "unsigned")
+    wrong, limit, number = b"refused: field missing or of a wrong kind\n", b"refused: limit\n", b"refused: not canonical\n"
+    cases = (
+        (without(whole, "depth"), wrong, b"depth: missing\n"), ({**whole, "depth": "1"}, wrong, b"depth: wrong kind\n"),
+        ({**whole, "state_key": 1}, wrong, b"state_key: wrong kind\n"), ({**whole, "depth": -1}, limit, b"depth: over limit\n"),
+        ({**whole, "type": "t" * 256}, limit, b"type: over limit\n"), ({**whole, "room_id": "r"}, wrong, b"room_id: wrong kind\n"),
+        ({**whole, "prev_events": ["$a"] * 21}, limit, b"prev_events: over limit\n"),
+        ({**whole, "depth": 2 ** 53}, number, b'"depth": an integer is out of range\n'),
+        ({**whole, "content": {"x": [1.5]}}, number, b'"content": a number is not a 64-bit integer\n'),
+        ({**whole, "content": {"x": 2 ** 53}, "depth": 1.5}, number, b'"depth": a number is not a 64-bit integer\n'),
+    )
+    for made, first, second in cases:
+        source = canonical(made)
+        assert run("check", source=source) == (1, b"", first), made
+        assert run("check", "--explain", source=source) == (1, b"", first + second), made
+    assert run("check", "--explain", source=b"[1]") == (1, b"", b"refused: not an object\nnot an object\n")
+    assert run("check", "--explain", source=b"[1.5]") == (1, b"", number + b"a number is not a 64-bit integer\n")
+    assert run("check", "--explain", source=b"[") == (1, b"", b"refused: not JSON\n")
+    assert run("check", "--explain", source=canonical(whole)) == checked(whole, True)
+
+
+def content_hash_as_a_status() -> None:
+    """With `check --strict` a content hash that does not hold is told after the three lines, with status 1."""
+    made = create()
+    other = {**made, "origin": 2}
+    assert run("check", "--strict", source=canonical(made)) == checked(made, True)
+    _, lines, _ = checked(other, False)
+    assert run("check", source=canonical(other)) == (0, lines, b"")
+    assert run("check", "--strict", source=canonical(other)) == (1, lines, b"refused: content hash\n")
+
+
+def first_bad_line() -> None:
+    """`replay --strict` ends behind the answer to the first bad line, and says its number and fault."""
+    first = create()
+    host = b'{"event":' + canonical(first) + b',"step":"host"}\n'
+    hosted = b'{"hosted":"%s"}\n' % id_of(first).encode()
+    open_line = b'{"step":"open","origin":"a.example","txn":"t","pdus":%s}'
+    for line, why in (
+        (b"", b"not JSON"), (b"{", b"not JSON"), (b"[]", b"not an object"), (b"{}", b"step: missing"), (b'{"step":1}', b"step: wrong kind"),
+        (b'{"step":"hosts"}', b"step: unknown"), (b'{"step":"host"}', b"event: missing"), (b'{"step":"host","event":1,"x":2}', b'"x": unknown key'),
+        (b'{"step":"next","txn":"t"}', b"origin: missing"), (b'{"step":"close","origin":"","txn":"t"}', b"origin: wrong kind"),
+        (open_line % b"1", b"pdus: wrong kind"), (open_line % (b"[" + b"1," * 50 + b"1]"), b"pdus: over limit"),
+        (b'{"step":"call","method":"GET","target":"/","now":-1}', b"now: wrong kind"),
+        (b'{"step":"call","method":"GET","target":"/","now":9007199254740992}', b"now: over limit"),
+        (b'{"step":"call","method":"GET","target":"/","now":1,"body":null}', b"body: wrong kind"),
+    ):
+        source = host + line + b"\n" + host
+        told = b"refused: bad line\nline 2: " + why + b"\n"
+        assert replay(source, "--strict") == (1, hosted + BAD_LINE, told), line
+        assert replay(source) == (0, hosted + BAD_LINE + hosted.replace(b"hosted", b"already"), b""), line
+    malformed = b'{"event":1,"step":"host"}\n'
+    assert replay(host + malformed, "--strict") == (0, hosted + b'{"refused":"malformed"}\n', b""), "a malformed event makes no line bad"
+    assert replay(host * 2000 + b"x", "--strict")[2] == b"refused: bad line\nline 2001: not JSON\n"
+
+
 def deep_nesting() -> None:
     """Values nested 127 deep are read, and deeper ones refused."""
     for depth, told in ((127, b"not an object"), (128, b"not JSON"), (100_000, b"not JSON")):
@@ -266,6 +323,36 @@ def progress_on_a_terminal() -> None:
         process.wait()
         os.close(ours)
         assert told and all(line in ("3 bytes read", "6 bytes read", "9 bytes read") for line in told), (words, told)
+
+
+def shares_told(log: Path, *words: str) -> tuple[list[int], str]:
+    """The shares of a log that a replay of it tells on a terminal, on one line, and what it tells behind them."""
+    ours, theirs = os.openpty()
+    command = [str(program()), "replay", "--name=hub.example", *words, str(log)]
+    process = subprocess.Popen(command, stdout=subprocess.PIPE, stderr=theirs)
+    os.close(theirs)
+    time.sleep(2.2)  # the pipe is full, and the program waits
+    process.stdout.read()
+    process.wait()
+    told = os.read(ours, 65_536).decode()
+    os.close(ours)
+    size = log.stat().st_size
+    found = re.fullmatch(r"((?:\r[0-9]{1,3} %% of %d bytes read)+)\r\n(.*)" % size, told, re.DOTALL)
+    assert found, told
+    return [int(it) for it in re.findall(r"\r([0-9]+) %", found[1])], found[2]
+
+
+def share_on_a_terminal(folder: Path) -> None:
+    """Of a file it is told which share was read, on one line, which ends with the file, or before it is told what is wrong."""
+    log = folder / "log"
+    lines = b'{"event":1,"step":"host"}\n' * 300_000
+    log.write_bytes(lines)
+    shares, behind = shares_told(log)
+    assert shares == sorted(shares) and len(shares) > 1 and shares[-1] == 100 and behind == "", (shares, behind)
+    log.write_bytes(lines + b"[]\n" + lines)
+    shares, behind = shares_told(log, "--strict")
+    assert shares == sorted(shares) and len(shares) > 1 and 49 <= shares[-1] <= 51, shares
+    assert behind == "refused: bad line\r\nline 300001: not an object\r\n", behind
 
 
 def files_opened_on_a_terminal(folder: Path) -> None:
@@ -401,7 +488,8 @@ def million_empty_lines() -> None:
 
 
 TESTS = [
-    check_prints_three_lines, hashes_and_ids, canonical_texts, room_at_its_limit, check_refusals, deep_nesting, cut_input,
+    check_prints_three_lines, hashes_and_ids, canonical_texts, room_at_its_limit, check_refusals, explained_refusals,
+    content_hash_as_a_status, first_bad_line, deep_nesting, cut_input, share_on_a_terminal,
     words_that_ask_for_nothing, words_of_replay, words_of_serve, help_of_each_subcommand, progress_on_a_terminal, files_opened_on_a_terminal,
     words_of_migrate, migrated_files, answers_before_the_end_of_a_log, a_log_takes_the_memory_of_a_line,
     failed_reads_and_writes, files_in_place_of_standard_input, output_that_nobody_reads_on, answers_of_the_logs, line_of_8_mebibytes, million_empty_lines,

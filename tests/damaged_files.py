@@ -10,6 +10,7 @@ import random
 import shutil
 import sqlite3
 import sys
+import time
 from pathlib import Path
 
 from suite import run_tests
@@ -18,6 +19,8 @@ from matrix_events import A, B, canonical, error, id_of, message, rejected, topi
 from running_server import Refused, Server, getting, is_refused, refusal, rows_of, sending, serving
 from served_files import REPLIES_TABLE, ROWS_OF_REPLIES, filled
 
+# Within how many seconds a server writes how many rows its files have.
+SECONDS_UNTIL_COUNTED = 15
 # In how many copies of a directory a bit is changed.
 FLIPS = 200
 
@@ -103,7 +106,7 @@ def read_by_sqlite(folder: Path) -> None:
         with serving(data) as server:
             assert server.ask(*sending("a.example", "t1", [])) == reply
     with contextlib.closing(sqlite3.connect(data / "shard-0.db")) as connection:
-        connection.execute("UPDATE kept2 SET caller = 2 WHERE place = 3")
+        connection.execute("UPDATE kept2 SET caller = caller + 1 WHERE place = 3")
         connection.commit()
     assert is_refused(refusal(data), b"storage", bytes(data / "shard-0.db"))
 
@@ -232,8 +235,62 @@ def damaged_logs(folder: Path) -> None:
         assert server.ask(*sending("a.example", "t1", [])) == reply
 
 
+def put_back(older: Path, data: Path, name: str) -> None:
+    """A file of an older day, with its log as it was then."""
+    for end in ("", "-wal"):
+        (data / (name + end)).unlink(missing_ok=True)
+        if (older / (name + end)).exists():
+            shutil.copy(older / (name + end), data / (name + end))
+
+
+def files_of_an_older_day(folder: Path) -> None:
+    """A file that comes back from before another start is told with the number of rows that it had, and the start is refused
+    unless the loss is accepted. All files of one older day can't be told from that day's."""
+    data, reply, (base, *_) = filled(folder, "whole")
+    older = folder / "older"
+    shutil.copytree(data, older)
+    said = [message(A, [base.join_c], base.of_a, "m%d" % number) for number in range(2)]
+    with serving(data) as server:
+        for number, made in enumerate(said):
+            assert server.ask(*sending("a.example", "m%d" % number, [made]))[0] == 200
+    # The start that notes how many rows there are.
+    assert refusal(data) is None
+    assert json.loads((data / "rows.json").read_bytes()) == {"book-0.db": 4, "shard-0.db": 11}
+    for name, told in (
+        ("book-0.db", b"it has 2 rows, and had 4 before: it is from an older copy, or has lost its log\n"),
+        ("shard-0.db", b"2 events that its replies call kept are in no shard\n"),
+    ):
+        mixed = folder / name
+        shutil.copytree(data, mixed)
+        put_back(older, mixed, name)
+        line = bytes(mixed / "book-0.db") + b": " + told
+        assert refusal(mixed) == (1, b"storage\n" + line), name
+        with serving(mixed, "--accept-loss") as server:
+            said_lines = [server.process.stderr.readline() for _ in range(2 if name == "shard-0.db" else 1)]
+            assert server.ask(*sending("a.example", "t1", [])) == reply
+        assert said_lines[0] == line, said_lines
+        assert name == "book-0.db" or said_lines[1].startswith(bytes(mixed / name) + b": it has 9 rows, and had 11 before: ")
+        # What was accepted is not told again; events that are in no shard are.
+        assert (refusal(mixed) is None) == (name == "book-0.db"), name
+    # An emptied log is a file of an older day too.
+    mixed = folder / "emptied"
+    shutil.copytree(data, mixed)
+    with serving(mixed) as server:
+        assert server.ask(*sending("a.example", "more", []))[0] == 200
+        time.sleep(SECONDS_UNTIL_COUNTED)
+    (mixed / "book-0.db-wal").write_bytes(b"")
+    assert refusal(mixed) == (1, b"storage\n" + bytes(mixed / "book-0.db") + b": it has 4 rows, and had 5 before: it is from an older copy, or has lost its log\n")
+    # What does not say how many rows there were is refused, and without it nothing is compared.
+    (mixed / "rows.json").write_bytes(b"[]")
+    assert is_refused(refusal(mixed), b"storage", bytes(mixed / "rows.json") + b": ")
+    (mixed / "rows.json").unlink()
+    assert refusal(mixed) is None
+    assert refusal(older) is None
+
+
 TESTS = [
     broken_tables, broken_books, read_by_sqlite, flipped_bits, files_that_disagree, files_of_other_places, damaged_logs,
+    files_of_an_older_day,
 ]
 
 if __name__ == "__main__":

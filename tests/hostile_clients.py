@@ -393,7 +393,7 @@ def mutated_requests(folder: Path) -> None:
 
 def large_bodies(folder: Path) -> None:
     """64 bodies of 8 MiB at once, made to take much memory: within 1.5 GB each is answered, and the memory is given back."""
-    server, _ = base_room(folder, "--threads", "4", "--connections", "64")
+    server, _ = base_room(folder, "--threads", "4", "--connections", "64", "--memory", "600")
     before = memory_of(server.process)
     objects = b'{"pdus":[' + b'{"":0},' * ((LARGEST_BODY - 20) // 7) + b"{}]}"
     content = b'{"pdus":[{"content":[' + b'{"":0},' * ((LARGEST_BODY - 40) // 7) + b"{}]}]}"

@@ -39,12 +39,12 @@ class Server:
         rooms = Path(data).with_suffix(".rooms")
         rooms.write_bytes(b"".join(line + b"\n" for line in hosts))
         command = [program(), "serve", "--name", NAME, "--data", data, "--port", port, "--host", rooms, *words]
-        self.process = subprocess.Popen([str(word) for word in command], stdin=subprocess.DEVNULL,
-                                        stdout=subprocess.PIPE, stderr=subprocess.PIPE, **how)
+        how = {"stdout": subprocess.PIPE, "stderr": subprocess.PIPE, **how}
+        self.process = subprocess.Popen([str(word) for word in command], stdin=subprocess.DEVNULL, **how)
         told = self.process.stdout.readline()
         if not told:
             status = self.process.wait(SECONDS)
-            raise Refused(status, self.process.stderr.read())
+            raise Refused(status, self.process.stderr.read() if self.process.stderr else b"")
         assert told.startswith(b"listening 127.0.0.1:"), told
         self.port = int(told.rpartition(b":")[2])
 
@@ -52,8 +52,9 @@ class Server:
         """Ends the server, and waits for its end."""
         self.process.terminate()
         self.process.wait(SECONDS)
-        self.process.stdout.close()
-        self.process.stderr.close()
+        for stream in (self.process.stdout, self.process.stderr):
+            if stream:
+                stream.close()
 
     def connect(self) -> http.client.HTTPConnection:
         """A connection for requests."""

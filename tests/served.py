@@ -166,21 +166,20 @@ def messages_of_seat(events: list[Event], txn: str) -> list[Event]:
     return [message(A, events[1:], events, "%s %d" % (txn, number), room=events[0]["room_id"]) for number in range(25)]
 
 
-def callers_of_rows(rows: list[tuple[Any, ...]]) -> set[int]:
-    """The callers of a room's rows, of which each has its 25 messages, in the order sent."""
+def check_sendings(rows: list[tuple[Any, ...]], txns: set[str]) -> None:
+    """Of a room's rows those of each of these transactions are its 25 messages, in the order sent, with one seat's number."""
     assert len(rows) == 52, len(rows)
-    sent = [(caller, json.loads(event)["content"]["body"]) for caller, event in rows[2:]]
-    callers = {caller for caller, _ in sent}
-    assert len(callers) == 2, callers
-    for caller in callers:
-        bodies = [body for whose, body in sent if whose == caller]
-        assert bodies == ["%s %d" % (bodies[0].split()[0], at) for at in range(25)], bodies
-    return callers
+    sent = [(caller, *json.loads(event)["content"]["body"].split()) for caller, event in rows[2:]]
+    assert {txn for _, txn, _ in sent} == txns, sent
+    for txn in txns:
+        of_one = [(caller, int(number)) for caller, whose, number in sent if whose == txn]
+        assert [number for _, number in of_one] == list(range(25)), of_one
+        assert len({caller for caller, _ in of_one}) == 1 and 1 <= of_one[0][0] <= 64, of_one
 
 
-def four_seats(folder: Path) -> None:
+def four_clients(folder: Path) -> None:
     """Four clients at the same time, two for each of two rooms in two shards, send 25 messages each. Each room keeps its
-    beginning and 50 messages: 25 of each of two callers, in the order sent."""
+    beginning and 50 messages: 25 of each of its clients, in the order sent, each transaction through one seat."""
     rooms = []
     for name in ("!r:a.example", "!s:a.example"):
         made = create(room=name)
@@ -208,8 +207,8 @@ def four_seats(folder: Path) -> None:
         run_together(client, [(server, events, "%d%s" % (number, half)) for number, events in enumerate(rooms) for half in "ab"])
     assert not faults, faults
     statement = "SELECT caller, event FROM kept2 ORDER BY place"
-    first, second = (callers_of_rows(rows_of(folder / "seats", statement, "shard-%d.db" % number)) for number in (0, 1))
-    assert not first & second, (first, second)
+    for number in (0, 1):
+        check_sendings(rows_of(folder / "seats", statement, "shard-%d.db" % number), {f"{number}a", f"{number}b"})
 
 
 def bodies_over_the_limit(folder: Path) -> None:
@@ -366,7 +365,7 @@ def transactions_in_two_rooms(folder: Path) -> None:
 
 
 TESTS = [
-    every_route, two_connections, one_reply_to_a_transaction, seen_later, four_seats, bodies_over_the_limit,
+    every_route, two_connections, one_reply_to_a_transaction, seen_later, four_clients, bodies_over_the_limit,
     bad_clients, connections_past_the_limit, many_requests, walk_of_the_readme, refused_tries, unheard,
     transactions_in_two_rooms,
 ]

@@ -304,6 +304,28 @@ def later_state_judges_nothing_anew(folder: Path) -> None:
             assert status == 200 and json.loads(told)["event"]["prev_events"] == [id_of(again)], (txn, told)
 
 
+def a_start_without_room(folder: Path) -> None:
+    """On a disk that has no room a server starts over its files, though their logs can't be copied. It answers what it has, and
+    503 to what it would have to keep; with room again it keeps what comes."""
+    exchange, data = Exchange(), folder / "data"
+    long = [message(A, [exchange.base.join_c], exchange.base.of_a, "x" * 60_000 + str(number)) for number in range(5)]
+    with serving(data, hosts=exchange.hosts) as server:
+        assert server.ask(*exchange.first) == exchange.reply_to("base")
+        assert server.ask(*sending("a.example", "long", long))[0] == 200
+    # So much has to be copied, which makes the file longer.
+    assert (data / "shard-0.db-wal").stat().st_size > 300_000 > (data / "shard-0.db").stat().st_size
+    server = FailingServer(data, "file", "full")
+    assert server.ask(*exchange.empty("base")) == exchange.reply_to("base")
+    for made in [*exchange.events["base"], *long]:
+        shown = server.ask(*getting("a.example", "v1/event/" + quoted(id_of(made))))
+        assert json.loads(shown[1])["pdus"] == [made], shown
+    assert server.ask(*exchange.second) == STORAGE
+    server.stop()
+    with serving(data) as server:
+        assert server.ask(*exchange.second) == exchange.reply_to("t1")
+        assert server.ask(*exchange.empty("base")) == exchange.reply_to("base")
+
+
 def sent_in_two_parts(server: Server, request: Request) -> tuple[bool, bytes]:
     """Sends a request, the end of its body by itself: whether its connection was open until then, and what was told."""
     method, target, authorization, body = request
@@ -356,7 +378,7 @@ def failing_connections(folder: Path) -> None:
 TESTS = [
     ended_at_each_write, ended_at_each_write_of_a_start, ended_at_each_write_of_a_move, power_lost_at_each_write, one_failing_call,
     second_message_not_kept, reply_not_kept, reply_not_kept_and_then_denied, later_state_judges_nothing_anew,
-    failing_connections,
+    a_start_without_room, failing_connections,
 ]
 
 if __name__ == "__main__":

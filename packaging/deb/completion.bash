@@ -1,4 +1,4 @@
-# Completion of the words of mx_federd for bash.
+# Completion of the words of mx_federd for bash; where no word fits, of files.
 
 _mx_federd() {
     local word=${COMP_WORDS[COMP_CWORD]} before=${COMP_WORDS[COMP_CWORD - 1]} subcommand=${COMP_WORDS[1]} words
@@ -20,4 +20,4 @@ _mx_federd() {
     mapfile -t COMPREPLY < <(compgen -W "$words" -- "$word")
 }
 
-complete -F _mx_federd mx_federd
+complete -o default -F _mx_federd mx_federd

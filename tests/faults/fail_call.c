@@ -49,6 +49,14 @@ static int fails(void) {
     return IS("error");
 }
 
+/* Whether a write that ends here finds no room. */
+static int finds_no_room(int file, off_t end) {
+    struct stat about;
+    if (!IS("full") || fstat(file, &about) || !S_ISREG(about.st_mode) || end <= about.st_size) return 0;
+    errno = ENOSPC;
+    return 1;
+}
+
 /* A call on a file or a connection: what it does, and what it does to half of its bytes. */
 #define CALL(file, whole, half)                       \
     do {                                              \
@@ -81,14 +89,17 @@ static int brought(int file, int answer) {
 }
 
 ssize_t write(int file, const void *bytes, size_t size) {
+    if (finds_no_room(file, lseek(file, 0, SEEK_CUR) + (off_t)size)) return -1;
     CALL(file, REAL(write)(file, bytes, size), REAL(write)(file, bytes, size / 2));
 }
 
 ssize_t pwrite(int file, const void *bytes, size_t size, off_t at) {
+    if (finds_no_room(file, at + (off_t)size)) return -1;
     CALL(file, REAL(pwrite)(file, bytes, size, at), REAL(pwrite)(file, bytes, size / 2, at));
 }
 
 ssize_t pwrite64(int file, const void *bytes, size_t size, off64_t at) {
+    if (finds_no_room(file, at + (off_t)size)) return -1;
     CALL(file, REAL(pwrite64)(file, bytes, size, at), REAL(pwrite64)(file, bytes, size / 2, at));
 }
 

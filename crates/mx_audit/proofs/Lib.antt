@@ -1,3 +1,4 @@
+pub mod EarlierLemmas
 pub mod ExplainingLemmas
 pub mod StepLemmas
 pub mod SoundLemmas

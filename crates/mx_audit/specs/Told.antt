@@ -1,8 +1,8 @@
 -- What is told of the events of a room (Matrix specification, Server-Server API, checks performed on receipt of a PDU).
-use Rattle.std.specs.Prelude.{◌≡◌, ◌<◌, ℕ, zero, suc, ◌-◌, ◌++◌, List, [], ◌∷◌, length, map, take, slice_get, Option, None, option_map}
+use Rattle.std.specs.Prelude.{ℕ, zero, suc, List, take, slice_get, Option, None, option_map}
 use Rattle.mx_auth.specs.Rules.{Key}
 use Rattle.mx_receipt.specs.Receipt.{Kept, kept_at}
-use Rattle.mx_audit.specs.Explaining.{deciding_check, entries_asked, verdict_by}
+use Rattle.mx_audit.specs.Explaining.{deciding_check, entries_asked}
 use Rattle.mx_audit.specs.declared.checks.FailedCheck.{FailedCheck}
 use Rattle.mx_audit.specs.declared.explaining.Explanation.{Explanation}
 
@@ -26,14 +26,3 @@ told_at kept p =
 abbrev pub told : List Kept → ℕ → Option Told
 told kept zero = None
 told kept (suc p) = option_map (λ _. told_at kept (suc p)) (slice_get kept (suc p))
-
--- of the events from the second on, so many of them
-abbrev pub told_first : List Kept → ℕ → List Told
-told_first kept zero = []
-told_first kept (suc n) = told_first kept n ++ told_at kept (suc n) ∷ []
-
--- these were told of a room that has begun, and each verdict but the first is that of the check that is told
-pub record AreTold (kept : List Kept) (explanations : List Explanation) : Type 0 where
-  pub begun : 0 < length kept
-  pub told : map told_shown explanations ≡ told_first kept (length kept - 1)
-  pub judged : (p : ℕ) → 0 < p → p < length kept → (kept_at kept p).verdict ≡ verdict_by (told_at kept p).failed

@@ -49,7 +49,8 @@ pub fn event_line(
     if number.index() >= timeline.len() {
         return Ok(None);
     }
-    let line = line_of_event(alloc, timeline, number, audit.explanation(number))?;
+    let explanation = audit.explanation(alloc, number)?;
+    let line = line_of_event(alloc, timeline, number, explanation.as_ref())?;
     Ok(Some(line))
 }
 

@@ -1,20 +1,17 @@
 // How the state before an event was resolved.
-ghost use Rattle.std.specs.Prelude.{◌≡◌, ◌<◌, ◌++◌, ◌∷◌, [], ℕ, All, IfOk, IsErrOf, OnOk, Some, length, map, take};
-ghost use Rattle.mx_graph.specs.Adding.{add_error};
-ghost use Rattle.mx_graph.specs.Record.{row as row_at};
-ghost use Rattle.mx_graph.specs.declared.refusals.NotAdded.{NotAdded as Cause};
+ghost use Rattle.std.specs.Prelude.{◌≡◌, ◌<◌, All, IfOk, length, map};
 ghost use Rattle.mx_receipt.specs.Receipt.{rows_of, state_after, version_in};
 ghost use Rattle.mx_audit.specs.Steps as definition;
 ghost use Rattle.mx_audit.specs.Resolutions.{states_before};
 
 use crate::steps::{ResolutionSteps, resolution_steps};
-use mx_graph::{EventNo, Graph, GraphError, GraphRow, rising};
+use mx_graph::{EventNo, Graph, rising};
 use mx_receipt::{Timeline, timeline_is_sound};
 use mx_state_res::StateMap;
 use std::alloc::{AllocError, Global};
 
 /// How the state before the event with this number was resolved: the states after its prev events, each once, rising. The
-/// graph is that of the room's events, as [`room_graph`] makes it.
+/// graph is that of the room's events, as [`RoomAudit::graph`](crate::RoomAudit::graph) lends it.
 ///
 /// The one error is that no memory is left. The time is that of [`resolution_steps`], and of a copy of the states.
 ///
@@ -66,36 +63,4 @@ fn borrowed_of(alloc: Global, states: &[StateMap]) -> Result<Vec<&StateMap>, All
         borrowed.push(state)?;
     }
     Ok(borrowed)
-}
-
-/// The events of a room as a graph.
-///
-/// `Memory` where no memory is left. `NotAdded` would say that they make none, which those of a room that took each of them
-/// do. The time is that of a copy of the events.
-pub fn room_graph(alloc: Global, timeline: &Timeline) -> Result<Graph, GraphError>
-    ensures graph { IfOk result (λ graph. graph ≡ rows_of timeline.now.kept) }
-    ensures refused { (cause : Cause) → IsErrOf result (GraphError.NotAdded cause)
-        → (p : ℕ) × (p < length timeline.now.kept)
-        × (add_error (take p (rows_of timeline.now.kept)) (row_at (rows_of timeline.now.kept) p) ≡ Some cause) }
-{
-    timeline_is_sound(timeline);
-    let mut graph = Graph::new(alloc);
-    for place in 0..timeline.len() {
-        add_copy(&mut graph, timeline.row(EventNo::at(place as u32)))?;
-    }
-    Ok(graph)
-}
-
-fn add_copy(graph: &mut Graph, row: &GraphRow) -> Result<(), GraphError>
-    ensures added { OnOk result (graph.new ≡ graph.old ++ row.now ∷ []) }
-    ensures refused { (cause : Cause) → IsErrOf result (GraphError.NotAdded cause) → add_error graph.old row.now ≡ Some cause }
-{
-    let id = row.id.clone()?;
-    let event = row.event.clone()?;
-    graph.add(GraphRow {
-        id,
-        event,
-        rejected: row.rejected,
-    })?;
-    Ok(())
 }

@@ -7,34 +7,32 @@ ghost use Rattle.mx_orders.specs.StateMap.{view};
 ghost use Rattle.mx_receipt.specs.Receipt.{begun, created_version as created_version_of, kept_at, offer_error, received, rows_of};
 ghost use Rattle.mx_receipt.specs.declared.refusals.NotReceived.{NotReceived as Cause};
 ghost use Rattle.mx_audit.specs.Explaining.{verdict_by};
-ghost use Rattle.mx_audit.specs.Told.{AreTold, told, told_shown};
+ghost use Rattle.mx_audit.specs.Told.{told, told_shown};
 ghost use Rattle.mx_audit.specs.SoundTest.{has_none, sound_test};
 ghost use Rattle.mx_receipt.specs.TimelineView.{IsSoundCreate};
 
 use crate::audit_errors::AuditError;
-use crate::explaining::{Explanation, prepared_explanation};
+use crate::explaining::{Explanation, explained};
 use mx_auth::{RoomState, judge};
-use mx_graph::EventNo;
+use mx_graph::{EventNo, Graph};
 use mx_ident::EventId;
 use mx_pdu::Pdu;
 use mx_receipt::{Timeline, created_version};
-use std::alloc::Global;
+use std::alloc::{AllocError, Global};
 use std::marker::Model;
 
-/// The events of a room in the order of their arrival, each with why it was received as it was. Contracts see it as the
-/// record of its events: what is told of each follows from that.
+/// The events of a room in the order of their arrival, and why each was received as it was. Contracts see it as the record of
+/// its events: what is told of each follows from that.
 #[derive(Debug, Drop)]
 pub struct RoomAudit {
+    // No event is prepared.
     timeline: Timeline,
-    // Of each event but the first, in their order.
-    explanations: Vec<Explanation>,
 }
 
 impl Model for RoomAudit {
-    ghost use Rattle.std.specs.Prelude.{List};
+    ghost use Rattle.std.specs.Prelude.{◌≡◌, List, None};
     ghost use Rattle.mx_receipt.specs.KeptCode.{record_code};
     ghost use Rattle.mx_receipt.specs.Receipt.{Kept};
-    ghost use Rattle.mx_audit.specs.Told.{AreTold};
 
     ghost Value = { List Kept };
 
@@ -42,7 +40,7 @@ impl Model for RoomAudit {
 
     ghost view = { λ audit. audit.timeline.kept };
 
-    ghost invariant = { λ audit. AreTold audit.timeline.kept audit.explanations.items };
+    ghost invariant = { λ audit. audit.timeline.prepared ≡ None };
 }
 
 // The state of a room that has no event.
@@ -77,20 +75,26 @@ impl RoomAudit {
             return Err(AuditError::NotACreateEvent);
         }
         let timeline = Timeline::begin(alloc, event, id)?;
-        Ok(RoomAudit {
-            timeline,
-            explanations: Vec::new(alloc),
-        })
+        Ok(RoomAudit { timeline })
     }
 
-    /// Receives the room's next event: it judges it, and keeps why it is received as it is.
+    /// The audit of the events of a timeline, which were judged as they came, and are not judged again. An event that is
+    /// prepared is given up. It takes no memory.
+    pub fn of_timeline(timeline: Timeline) -> RoomAudit
+        ensures { result ≡ timeline.kept }
+    {
+        let mut timeline = timeline;
+        timeline.discard();
+        RoomAudit { timeline }
+    }
+
+    /// Receives the room's next event, and judges it.
     ///
     /// `NotReceived` with the first cause that holds, and `Memory`; at an error the room stays. The time is that of
-    /// [`Timeline::offer`], and of a look-up for each key that the rules ask for; of an event that is rejected also of one
-    /// more judgement by its auth events.
+    /// [`Timeline::offer`].
     ///
     /// Source: the Matrix specification, Server-Server API, "Checks performed on receipt of a PDU".
-    pub fn receive(&mut self, alloc: Global, event: Pdu, id: EventId) -> Result<(), AuditError>
+    pub fn receive(&mut self, event: Pdu, id: EventId) -> Result<(), AuditError>
         ensures received { OnOk result (self.new ≡ received self.old (id, event)) }
         ensures free { OnOk result (offer_error (rows_of self.old) id event ≡ None) }
         ensures refused { (cause : Cause) → (IsErrOf result (AuditError.NotReceived cause)
@@ -98,7 +102,8 @@ impl RoomAudit {
         ensures begun { ¬ IsErrOf result AuditError.NotACreateEvent }
         ensures err { OnErr result (self.new ≡ self.old) }
     {
-        receive_in(alloc, &mut self.timeline, &mut self.explanations, event, id)
+        self.timeline.offer(event, id)?;
+        Ok(())
     }
 
     /// The events under their verdicts.
@@ -108,45 +113,36 @@ impl RoomAudit {
         &self.timeline
     }
 
+    /// The events as a graph.
+    pub fn graph(&self) -> &Graph
+        ensures { result.now ≡ rows_of self.now }
+    {
+        self.timeline.graph()
+    }
+
     /// Why the event with this number was received as it was: by the check that decides on it after the events that came
     /// before it, and what stood in that check's state. None for the create event, which begins the room, and where there
-    /// is no such event. The verdict that the record has is that of the check.
-    pub fn explanation(&self, number: EventNo) -> Option<&Explanation>
-        ensures told { option_map (λ e. told_shown e.now) result ≡ told self.now number }
-        ensures verdict { IfSome result (λ e. (kept_at self.now number).verdict ≡ verdict_by e.now.failed) }
+    /// is no such event. The verdict that the record has is that of the check. `AllocError` where no memory is left.
+    ///
+    /// The time is that of a look-up for each key that the rules ask for; of an event that was rejected also of one
+    /// judgement by its auth events.
+    pub fn explanation(
+        &self,
+        alloc: Global,
+        number: EventNo,
+    ) -> Result<Option<Explanation>, AllocError>
+        ensures told { IfOk result (λ explanation. option_map told_shown explanation ≡ told self.now number) }
+        ensures verdict { IfOk result (λ explanation. IfSome explanation (λ e. (kept_at self.now number).verdict ≡ verdict_by e.failed)) }
     {
-        let place = number.index().checked_sub(1)?;
-        self.explanations.get(place)
-    }
-}
-
-// Receives an event, and adds why it is received as it is to what is told of the others.
-fn receive_in(
-    alloc: Global,
-    timeline: &mut Timeline,
-    explanations: &mut Vec<Explanation>,
-    event: Pdu,
-    id: EventId,
-) -> Result<(), AuditError>
-    requires { AreTold timeline.old.kept explanations.old.items }
-    ensures received { OnOk result (timeline.new.kept ≡ received timeline.old.kept (id, event)) }
-    ensures free { OnOk result (offer_error (rows_of timeline.old.kept) id event ≡ None) }
-    ensures refused { (cause : Cause) → (IsErrOf result (AuditError.NotReceived cause)
-        ↔ (offer_error (rows_of timeline.old.kept) id event ≡ Some cause)) }
-    ensures begun { ¬ IsErrOf result AuditError.NotACreateEvent }
-    ensures err { OnErr result (timeline.new.kept ≡ timeline.old.kept) }
-    ensures told { AreTold timeline.new.kept explanations.new.items }
-{
-    let explanation = prepared_explanation(alloc, timeline, event, id)?;
-    match explanations.push(explanation) {
-        Ok(()) => {
-            timeline.install();
-            Ok(())
+        let place = number.index();
+        if place == 0 {
+            return Ok(None);
         }
-        Err(refused) => {
-            timeline.discard();
-            Err(AuditError::from(refused))
+        if place >= self.timeline.len() {
+            return Ok(None);
         }
+        let explanation = explained(alloc, &self.timeline, number)?;
+        Ok(Some(explanation))
     }
 }
 

@@ -7,8 +7,8 @@ use clap::{ArgMatches, Error};
 use mx_ident::{EventId, IdError, RoomId, ServerName};
 use mx_keeper::ShardCount;
 use mx_options::{
-    AskedOf, AuditOptions, AuditQuestion, AuditSource, EventQuestion, LogOptions, MigrateOptions,
-    SeatCount, ServeOptions,
+    AskedOf, AuditOptions, AuditQuestion, AuditSource, CheckOptions, EventQuestion, LogOptions,
+    MigrateOptions, ReplayOptions, SeatCount, ServeOptions,
 };
 use std::alloc::{AllocError, Global};
 
@@ -23,12 +23,9 @@ pub struct Invocation {
 #[derive(Debug, Drop)]
 pub enum Command {
     // One event from the input, to its id.
-    Check,
-    // A log from the input, to the answers of a server of this name, over so many shards.
-    Replay {
-        name: ServerName,
-        shards: ShardCount,
-    },
+    Check(CheckOptions),
+    // A log from the input, to the answers of a server.
+    Replay(ReplayOptions),
     // A server on loopback.
     Serve(ServeOptions),
     // What became of the events of a room, and why.
@@ -105,7 +102,7 @@ fn named_file(alloc: Global, matches: &ArgMatches) -> Result<Option<String>, All
 
 fn chosen(alloc: Global, matches: &ArgMatches) -> Result<Command, CommandLineError> {
     match matches.subcommand() {
-        Some(("check", _)) => Ok(Command::Check),
+        Some(("check", given)) => Ok(Command::Check(check_options_of(given))),
         Some(("replay", given)) => replay_of(alloc, given),
         Some(("serve", given)) => serve_of(alloc, given),
         Some(("audit", given)) => audit_of(alloc, given),
@@ -115,13 +112,24 @@ fn chosen(alloc: Global, matches: &ArgMatches) -> Result<Command, CommandLineErr
     }
 }
 
+fn check_options_of(given: &ArgMatches) -> CheckOptions {
+    CheckOptions {
+        explains: given.get_flag("explain"),
+        is_strict: given.get_flag("strict"),
+    }
+}
+
 // `replay`, where the name is a server name.
 fn replay_of(alloc: Global, given: &ArgMatches) -> Result<Command, CommandLineError> {
     let Some(shards) = shards_of(given) else {
         return misused(alloc, "the number of shards is not 1 to 64\n");
     };
     match name_of(alloc, given)? {
-        Some(name) => Ok(Command::Replay { name, shards }),
+        Some(name) => Ok(Command::Replay(ReplayOptions {
+            name,
+            shards,
+            is_strict: given.get_flag("strict"),
+        })),
         None => misused(alloc, "--name takes a server name, such as hub.example\n"),
     }
 }
@@ -301,11 +309,12 @@ fn options_of(
     given: &ArgMatches,
     name: ServerName,
 ) -> Result<Option<ServeOptions>, AllocError> {
-    let (Some(port), Some(threads), Some(shards), Some(connections)) = (
+    let (Some(port), Some(threads), Some(shards), Some(connections), Some(memory)) = (
         given.get_one::<u16>("port"),
         given.get_one::<u32>("threads").and_then(SeatCount::of),
         shards_of(given),
         given.get_one::<usize>("connections"),
+        given.get_one::<usize>("memory"),
     ) else {
         return Ok(None);
     };
@@ -320,6 +329,7 @@ fn options_of(
         threads,
         shards,
         connections,
+        memory,
         rooms,
         stop_on_storage: given.get_flag("stop-on-storage"),
         accept_loss: given.get_flag("accept-loss"),

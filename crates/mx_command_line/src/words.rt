@@ -20,7 +20,13 @@ pub(crate) fn check_words<'a>(alloc: Global) -> Result<clap::Command<'a>, AllocE
             "Reads one event, and prints its ID, whether its content hash holds, and its canonical text",
         )
         .after_help("Example: mx_federd check event.json\nPage: docs/LOG.md")
-        .arg(file_word(alloc))
+        .arg(file_word(alloc))?
+        .arg(flag_word(alloc, "explain").help(
+            "Say in a second line which field of a refused event has which fault",
+        ))?
+        .arg(flag_word(alloc, "strict").help(
+            "End with status 1 where the content hash does not hold",
+        ))
 }
 
 fn name_word<'a>(alloc: Global) -> Arg<'a> {
@@ -54,7 +60,10 @@ pub(crate) fn replay_words<'a>(alloc: Global) -> Result<clap::Command<'a>, Alloc
         .after_help("Example: mx_federd replay --name hub.example log.jsonl\nPage: docs/LOG.md")
         .arg(file_word(alloc))?
         .arg(name_word(alloc))?
-        .arg(shards_word(alloc))
+        .arg(shards_word(alloc))?
+        .arg(flag_word(alloc, "strict").help(
+            "End with status 1 at the first bad line, and say its number and fault",
+        ))
 }
 
 pub(crate) fn serve_words<'a>(alloc: Global) -> Result<clap::Command<'a>, AllocError> {
@@ -66,20 +75,27 @@ pub(crate) fn serve_words<'a>(alloc: Global) -> Result<clap::Command<'a>, AllocE
         .help("The port on 127.0.0.1; 0 takes a free one");
     let threads = number_word(alloc, "threads", "1", 1, 64)
         .value_name("1-64")
-        .help("How many threads answer requests");
+        .help(
+            "How many threads read and write connections, more than 30 as 30; as many and three more answer what may have to wait",
+        );
     let connections = number_word(alloc, "connections", "16", 1, 256)
         .value_name("1-256")
         .help(
             "How many connections may be open; one more takes the place of the one that has been idle longest, or else the one that has been waited for longest within a request; where none waits for its client, it is closed unanswered",
         );
+    let memory = number_word(alloc, "memory", "512", 16, 1_048_576)
+        .value_name("MB")
+        .help(
+            "How many MB (1,000,000 bytes) of requests and replies may be held for clients; past that long ones wait, and who takes nothing for longest is closed",
+        );
     let rooms = text_word(alloc, "rooms", "FILE")
         .visible_alias("host")?
         .help("A file of lines of a log, each of which hosts a room at the start");
     let stop = flag_word(alloc, "stop-on-storage").help(
-        "End with status 1 once a file of rows has failed, so that a supervisor starts it again",
+        "End with status 1 once a file of rows has failed or has lost its name, so that a supervisor starts it again",
     );
     let accept = flag_word(alloc, "accept-loss").help(
-        "Start though events that were answered as kept are in no file; standard error tells how many",
+        "Start although answered rows are lost: events in no file, fewer rows than there were, a damaged write-ahead log; standard error tells which",
     );
     clap::Command::new(alloc, "serve")
         .about("Answers other servers' requests on 127.0.0.1")
@@ -92,6 +108,7 @@ pub(crate) fn serve_words<'a>(alloc: Global) -> Result<clap::Command<'a>, AllocE
         .arg(threads)?
         .arg(shards_word(alloc))?
         .arg(connections)?
+        .arg(memory)?
         .arg(rooms)?
         .arg(stop)?
         .arg(accept)

@@ -1,7 +1,7 @@
 // `audit`: why the events of a room were received as they were, and what its states are.
 mod file_rows;
 mod line_kinds;
-mod log_rows;
+mod logged;
 mod offerings;
 mod page;
 mod questions;
@@ -10,7 +10,7 @@ mod sums;
 mod telling;
 
 use crate::auditing::file_rows::rows_of_directory;
-use crate::auditing::log_rows::rows_of_log;
+use crate::auditing::logged::logged_room;
 use crate::auditing::records::RoomRecord;
 use crate::auditing::sums::sum_line;
 use crate::auditing::telling::tell;
@@ -63,8 +63,8 @@ fn record_of<R: Read>(
     let alloc = host.alloc();
     match source {
         AuditSource::Log { name, shards } => {
-            let logged = rows_of_log(alloc, name.as_ref(), shards, room, log)?;
-            let record = RoomRecord::of_log(alloc, room, logged, progress)?;
+            let logged = logged_room(alloc, name.as_ref(), shards, room, log)?;
+            let record = RoomRecord::of_log(alloc, logged)?;
             Ok(record)
         }
         AuditSource::Directory(directory) => {

@@ -1,5 +1,5 @@
 // `check`: one event, from its bytes to its id.
-ghost use Rattle.std.specs.Prelude.{◌≡◌, ◌≤◌, IfOk, IsErrOf, None, Some, string_bytes};
+ghost use Rattle.std.specs.Prelude.{◌≡◌, ◌≤◌, ◌↔◌, Err, IfErr, IfOk, IsErrOf, None, Some, false, string_bytes, true};
 ghost use Rattle.serde_json.specs.Data.{Data, depth};
 ghost use Rattle.serde_json.specs.Read.{max_depth, read as read_text};
 ghost use Rattle.serde_json.specs.View.{view};
@@ -7,14 +7,16 @@ ghost use Rattle.mx_canon.specs.Canonical.{canonical_error, canonical_text};
 ghost use Rattle.mx_canon.specs.KeyOrder.{KeysRise};
 ghost use Rattle.mx_canon.specs.Reading.{IsJsonFor};
 ghost use Rattle.mx_canon.specs.declared.checking.NotCanonical.{NotCanonical as Unwritable};
-ghost use Rattle.mx_redact.specs.Hashes.{event_id};
+ghost use Rattle.mx_redact.specs.Hashes.{event_id, hash_holds};
 ghost use Rattle.mx_pdu.specs.Format.{format_error};
 ghost use Rattle.mx_pdu.specs.declared.refusals.NotAnEvent.{NotAnEvent as Malformed};
 
-use crate::output::{Failure, lines_of, write_to};
+use crate::explanations::explanation;
+use crate::output::{Failure, FailureAbout, lines_of, write_to};
 use mx_canon::{NotCanonical, ReadError, read, text_of_canonical};
 use mx_ident::EventId;
 use mx_log::read_all;
+use mx_options::CheckOptions;
 use mx_pdu::{NotAnEvent, Pdu, PduError};
 use serde_json::Value;
 use std::alloc::{AllocError, Global};
@@ -68,13 +70,53 @@ pub struct Checked {
 /// Reads one event from the input, and writes its three lines: its id, whether its content hash holds, and its canonical
 /// text.
 ///
-/// `Check` as [`check_event`] refuses the event, `Memory` where none is left for what is read or written, and
-/// `ReadOrWrite` where a read or a write fails.
-pub fn check<R: Read, W: Write>(alloc: Global, input: &mut R, out: &mut W) -> Result<(), Failure> {
-    let bytes = read_all(alloc, input)?;
-    let checked = check_event(alloc, &bytes)?;
+/// `Check` as [`check_event`] refuses the event, where that is asked for with the field that has a fault. `BadHash` where a
+/// content hash has to hold and does not: the lines are written before. `Memory` where none is left for what is read or written,
+/// and `ReadOrWrite` where a read or a write fails.
+pub fn check<R: Read, W: Write>(
+    alloc: Global,
+    options: CheckOptions,
+    input: &mut R,
+    out: &mut W,
+) -> Result<(), FailureAbout> {
+    let bytes = read_all(alloc, input).map_err(Failure::from)?;
+    let checked = match check_event(alloc, &bytes) {
+        Ok(checked) => checked,
+        Err(refused) if options.explains => return Err(explained(alloc, refused, &bytes)),
+        Err(refused) => return Err(FailureAbout::from(Failure::from(refused))),
+    };
     let lines = lines_of(alloc, &checked)?;
-    write_to(out, &lines)
+    write_to(out, &lines)?;
+    hash_failure(options, &checked)?;
+    Ok(())
+}
+
+// Why an event was not checked, with what keeps it from being one. Where no memory is left for that, it is left out.
+fn explained(alloc: Global, refused: CheckError, bytes: &[u8]) -> FailureAbout
+    ensures { result.failure ≡ Failure.Check refused }
+{
+    let cause = match refused {
+        CheckError::NotCanonical(_) | CheckError::NotAnEvent(_) => {
+            explanation(alloc, bytes).unwrap_or(None)
+        }
+        _ => None,
+    };
+    FailureAbout {
+        failure: Failure::Check(refused),
+        cause,
+    }
+}
+
+// Refuses an event whose content hash has to hold and does not.
+fn hash_failure(options: CheckOptions, checked: &Checked) -> Result<(), Failure>
+    ensures bad { (result ≡ Err Failure.BadHash)
+        ↔ ((options.is_strict ≡ true) × (hash_holds checked.now.event ≡ false)) }
+    ensures only { IfErr result (λ failure. failure ≡ Failure.BadHash) }
+{
+    if options.is_strict && !checked.event.hash_holds() {
+        return Err(Failure::BadHash);
+    }
+    Ok(())
 }
 
 /// Reads one event: its id, and the event, which tells whether its content hash holds, and its canonical text.

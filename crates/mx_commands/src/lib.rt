@@ -3,7 +3,10 @@
 #![tactic(auto)]
 
 mod auditing;
+mod bad_lines;
 mod checking;
+mod event_faults;
+mod explanations;
 mod logging;
 mod output;
 mod replaying;

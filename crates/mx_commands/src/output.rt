@@ -45,6 +45,10 @@ pub enum Failure {
     NoCreateEvent,
     #[error("refused: a line is a request, for which --name says whose server answers")]
     NameNeeded,
+    #[error("refused: content hash")]
+    BadHash,
+    #[error("refused: bad line")]
+    BadLine,
 }
 
 impl Failure {

@@ -1,3 +1,4 @@
 pub mod LogDamage
 pub mod ServerErrors
 pub mod ServerFile
+pub mod WatchedKeepers

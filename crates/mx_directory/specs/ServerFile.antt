@@ -1,5 +1,5 @@
 -- What the file of a server's directory says that it was made for.
-use Rattle.std.specs.Prelude.{◌≡◌, ℕ, ◌==◌, Bool, ◌&&◌, List, codes, Option, option_and_then, option_map, Some, ◌++◌, string_bytes, IsUtf8}
+use Rattle.std.specs.Prelude.{◌≡◌, ℕ, ◌==◌, Bool, ◌&&◌, List, codes, Option, option_and_then, option_map, unwrap_or, Some, ◌++◌, string_bytes, IsUtf8}
 use Rattle.serde_json.specs.Data.{Data, number, unsigned, string, object, no_members, member}
 use Rattle.serde_json.specs.Read.{read}
 use Rattle.serde_json.specs.Written.{compact_text}
@@ -16,6 +16,10 @@ current_layout = 2
 
 abbrev pub count_in : List ℕ → Data → Option ℕ
 count_in key d = option_and_then as_u64 (option_and_then as_number (get key d))
+
+-- how many rows the file `rows.json` says that a file had: 0 where it does not say so
+abbrev pub rows_before : List ℕ → Data → ℕ
+rows_before file d = unwrap_or (count_in file d) 0
 
 -- what a value of JSON says so, if it says all of it
 abbrev pub made_in : Data → Option Made

@@ -294,8 +294,9 @@ fn take<R: TableRow>(
     for found in opened {
         let NotingFile { opened, file } = found?;
         so_far.is_moved |= opened.is_moved;
+        let keeper = file.watched(opened.keeper)?;
         so_far.files.push(file)?;
-        push(keepers, opened.keeper)?;
+        push(keepers, keeper)?;
     }
     Ok(())
 }

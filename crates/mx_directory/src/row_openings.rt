@@ -2,8 +2,11 @@
 ghost use Rattle.std.specs.Prelude.{◌≡◌, IfOk};
 
 use crate::errors::{ServerError, StartError};
+use crate::file_states::FileState;
 use crate::new_files::make_file;
+use crate::opened_names::OpenedName;
 use crate::row_files::RowFile;
+use crate::watched_keepers::WatchedKeeper;
 use mx_keeper::{FailureNote, Keeper, KeeperFault, SqliteKeeper, TableRow};
 use sqlite::{Alter, Connection, Error, ErrorCode, File, FileStore, Options, Unknown};
 use sqlite_std_file::OpenError;
@@ -20,17 +23,17 @@ const CACHED_PAGES: usize = 32;
 // A log of so many bytes at most has nothing: it is cut to so many once it is copied.
 const LENGTH_OF_EMPTY_LOG: u64 = 41;
 
-/// Rows of one kind in a file.
-pub type FileRows<R> = SqliteKeeper<FileStore<File>, R>;
+/// Rows of one kind in a file that is watched.
+pub type FileRows<R> = WatchedKeeper<FileStore<File>, R>;
 
 /// Rows of one kind in a file, and whether it was of an earlier layout.
 #[derive(Drop)]
 pub(crate) struct OpenedFile<R: TableRow> {
-    pub(crate) keeper: FileRows<R>,
+    pub(crate) keeper: SqliteKeeper<FileStore<File>, R>,
     pub(crate) is_moved: bool,
 }
 
-/// Rows of one kind in a file, and what is told where it fails.
+/// Rows of one kind in a file, and what is told where it fails or is lost.
 #[derive(Drop)]
 pub(crate) struct NotingFile<R: TableRow> {
     pub(crate) opened: OpenedFile<R>,
@@ -43,10 +46,26 @@ pub(crate) fn noting_file_at<R: TableRow>(
     path: String,
 ) -> Result<NotingFile<R>, StartError> {
     let note = Arc::new(host.alloc(), FailureNote::new(host.alloc()))?;
+    let state = Arc::new(host.alloc(), FileState::new())?;
     let mut opened = file_at(host, &path)?;
     opened.keeper.note_failures_in(Arc::try_clone(&note)?);
-    let file = RowFile::new(path, note);
+    let file = row_file(host, path, note, state)?;
     Ok(NotingFile { opened, file })
+}
+
+// A file that is open, under its name, and SQLite's log beside it.
+fn row_file(
+    host: &HostRuntime,
+    path: String,
+    note: Arc<FailureNote>,
+    state: Arc<FileState>,
+) -> Result<RowFile, StartError> {
+    let log = format!(in host.alloc(); "{path}-wal")?;
+    let log = OpenedName::new(host, log).ok();
+    match OpenedName::new(host, path) {
+        Ok(rows) => Ok(RowFile::new(rows, log, note, state)),
+        Err((error, path)) => Err(StartError::of_storage(host.alloc(), &path, &error)),
+    }
 }
 
 /// Whether a file has rows.
@@ -100,13 +119,14 @@ pub(crate) fn opened_at<R: TableRow>(
     Ok(OpenedFile { keeper, is_moved })
 }
 
-// Copies what SQLite's log beside a file has into the file.
+// Copies what SQLite's log beside a file has into the file. Where the disk has no room for that, it stays in the log, from which it
+// is read.
 fn copy_log(host: &HostRuntime, path: &str) -> Result<(), StartError> {
     if !has_log(host, path)? {
         return Ok(());
     }
     match connection_at(host, path)?.close() {
-        Ok(()) => Ok(()),
+        Ok(()) | Err(Error::SqliteFailure(ErrorCode::DiskFull)) => Ok(()),
         Err(error) => Err(unopened(host, path, &error)),
     }
 }

@@ -6,16 +6,19 @@
 //! log of one room.
 #![tactic(auto)]
 
+ghost use Rattle.std.specs.Prelude.{◌≡◌, OnErr, OnOk};
+
 mod counted_input;
 mod noted_output;
 
 use counted_input::CountedInput;
 use mx_command_line::{Command, CommandLineError, Invocation};
 use mx_commands::{
-    Failure, MISUSED, REFUSED, SUCCESS, audit, check, log, replay, report, report_about,
-    report_server,
+    Failure, FailureAbout, MISUSED, REFUSED, SUCCESS, audit, check, log, replay, report,
+    report_about, report_server,
 };
-use mx_directory::{ProgressLine, migrate};
+use mx_directory::{ProgressLine, ServerError, StartError, migrate};
+use mx_line_queue::{LineOutput, LineSender, start_writer};
 use mx_options::{AuditOptions, MigrateOptions, ServeOptions};
 use mx_server::serve;
 use noted_output::NotedOutput;
@@ -28,7 +31,13 @@ use std::process::ExitCode;
 use std::random::RandomSource;
 use std::sync::Wait;
 use std::thread::Threads;
-use std::time::Clock;
+use std::time::{Clock, Duration};
+
+// How many lines for standard error may wait to be written.
+const MOST_WAITING_LINES: usize = 1024;
+
+// How long the program waits at its end for lines to be written.
+const SECONDS_FOR_LAST_LINES: u64 = 1;
 
 /// What the words of the command line leave to do.
 #[derive(Debug, Drop)]
@@ -61,40 +70,99 @@ pub fn invocation_of<E: Write>(
 }
 
 /// Does what the program is asked, all but to serve, to audit and to migrate. The exit status is 0, or 1 where the input is
-/// refused, memory runs out, storage fails, or a read or a write fails. What went wrong is said on `err`, in one line;
-/// where the reader of `out` has closed it, as `head` does, nothing is said.
+/// refused, memory runs out, storage fails, or a read or a write fails. What went wrong is said on `err`, in one line, and in a
+/// second what that is about, if that is known; where the reader of `out` has closed it, as `head` does, nothing is said.
 pub fn main_with<R: Read, W: Write, E: Write>(
     alloc: Global,
     command: Command,
-    input: &mut R,
+    input: &mut CountedInput<'_, R>,
     out: &mut W,
     err: &mut E,
 ) -> Asked {
     let mut out = NotedOutput::new(out);
     let ran = match command {
-        Command::Check => check(alloc, input, &mut out),
-        Command::Replay { name, shards } => replay(alloc, &name, shards, input, &mut out),
-        Command::Log(options) => log(alloc, &options, input, &mut out, err),
+        Command::Check(options) => check(alloc, options, input, &mut out),
+        Command::Replay(options) => replay(alloc, &options, input, &mut out),
+        Command::Log(options) => {
+            log(alloc, &options, input, &mut out, err).map_err(FailureAbout::from)
+        }
         Command::Version(text) => told(&mut out, &text),
         Command::Serve(options) => return Asked::Serve(options),
         Command::Audit(options) => return Asked::Audit(options),
         Command::Migrate(options) => return Asked::Migrate(options),
     };
+    input.end_line();
     Asked::Ended(status_of(ran, out.is_closed(), err))
 }
 
 // Writes a text.
-fn told<W: Write>(out: &mut W, text: &str) -> Result<(), Failure> {
+fn told<W: Write>(out: &mut W, text: &str) -> Result<(), FailureAbout> {
     out.write_all(text.as_bytes()).map_err(Failure::of_io)?;
-    out.flush().map_err(Failure::of_io)
+    out.flush().map_err(Failure::of_io)?;
+    Ok(())
 }
 
 // The exit status of a run that gave so, and whose output is closed or not.
-fn status_of<E: Write>(ran: Result<(), Failure>, is_closed: bool, err: &mut E) -> u8 {
+fn status_of<E: Write>(ran: Result<(), FailureAbout>, is_closed: bool, err: &mut E) -> u8
+    ensures done { OnOk ran (result ≡ SUCCESS) }
+    ensures failed { OnErr ran (result ≡ REFUSED) }
+{
     match ran {
         Ok(()) => SUCCESS,
-        Err(Failure::ReadOrWrite) if is_closed => REFUSED,
-        Err(failure) => report(failure, err),
+        Err(about) if is_closed && about.failure == Failure::ReadOrWrite => REFUSED,
+        Err(about) => report_about(about, err),
+    }
+}
+
+// Serves, and gives the exit status. What is said on standard error is written by a thread of its own, which nothing waits
+// for but the end of the program, for a second.
+fn served<R, W: Write, E: Write>(
+    rt: &R,
+    host: &HostRuntime,
+    options: ServeOptions,
+    out: &mut W,
+    err: &mut E,
+) -> u8
+where
+    R: Threads
+        + Wait
+        + Clock
+        + Net<Listener = TcpListener, Stream = TcpStream>
+        + RandomSource
+        + AllocGlobal
+        + Copy
+        + Drop
+        + Send
+        + Sync
+        + 'static,
+{
+    let lines = match lines_to(rt, host.stderr()) {
+        Ok(lines) => lines,
+        Err(error) => return report_server(StartError::from(error), err),
+    };
+    let status = match serve(rt, host, options, out, &lines) {
+        Ok(()) => SUCCESS,
+        Err(error) => report_server(error, &mut LineOutput::new(rt, rt.alloc(), &lines)),
+    };
+    lines.close(rt, Duration::from_secs(SECONDS_FOR_LAST_LINES));
+    status
+}
+
+// What hands lines to a thread that writes them. The error is want of memory, or that the thread can't be started.
+fn lines_to<R, W>(rt: &R, out: W) -> Result<LineSender, ServerError>
+where
+    R: Threads + Wait + AllocGlobal + Copy + Send + Drop + 'static,
+    W: Write + Send + Drop + 'static,
+{
+    let Ok(lines) = LineSender::new(rt.alloc(), MOST_WAITING_LINES) else {
+        return Err(ServerError::Memory);
+    };
+    let Ok(another) = lines.another() else {
+        return Err(ServerError::Memory);
+    };
+    match start_writer(rt, another, out) {
+        Ok(()) => Ok(lines),
+        Err(_error) => Err(ServerError::Thread),
     }
 }
 
@@ -102,12 +170,14 @@ fn status_of<E: Write>(ran: Result<(), Failure>, is_closed: bool, err: &mut E) -
 fn audited<R: Read, W: Write, E: Write>(
     host: &HostRuntime,
     options: AuditOptions,
-    log: &mut R,
+    log: &mut CountedInput<'_, R>,
     out: &mut W,
     err: &mut E,
 ) -> u8 {
     let mut out = NotedOutput::new(out);
-    match audit(host, options, log, &mut out, err) {
+    let told = audit(host, options, log, &mut out, err);
+    log.end_line();
+    match told {
         Ok(()) => SUCCESS,
         Err(_) if out.is_closed() => REFUSED,
         Err(about) => report_about(about, err),
@@ -147,14 +217,14 @@ where
     R: Threads
         + Wait
         + Clock
-        + Eprint
         + Net<Listener = TcpListener, Stream = TcpStream>
         + RandomSource
         + AllocGlobal
         + Copy
         + Drop
         + Send
-        + Sync,
+        + Sync
+        + 'static,
 {
     let Invocation {
         command,
@@ -163,12 +233,28 @@ where
         Ok(invocation) => invocation,
         Err(status) => return status,
     };
+    let progress = ProgressLine::new(host);
     match file {
-        None => status_with(rt, host, command, input, out, err),
+        None => {
+            let mut counted = CountedInput::new(input, None, progress);
+            status_with(rt, host, command, &mut counted, out, err)
+        }
         Some(path) => match File::open(host, path.as_str()) {
-            Ok(mut file) => status_with(rt, host, command, &mut file, out, err),
+            Ok(mut file) => {
+                let length = length_of(&file);
+                let mut counted = CountedInput::new(&mut file, length, progress);
+                status_with(rt, host, command, &mut counted, out, err)
+            }
             Err(error) => unopened(&path, &error, err),
         },
+    }
+}
+
+// How many bytes a file has; none of what is no plain file, such as a pipe.
+fn length_of(file: &File) -> Option<u64> {
+    match file.metadata() {
+        Ok(about) if about.is_file() => Some(about.len()),
+        _ => None,
     }
 }
 
@@ -184,7 +270,7 @@ fn status_with<R, I: Read, W: Write, E: Write>(
     rt: &R,
     host: &HostRuntime,
     command: Command,
-    input: &mut I,
+    input: &mut CountedInput<'_, I>,
     out: &mut W,
     err: &mut E,
 ) -> u8
@@ -192,23 +278,19 @@ where
     R: Threads
         + Wait
         + Clock
-        + Eprint
         + Net<Listener = TcpListener, Stream = TcpStream>
         + RandomSource
         + AllocGlobal
         + Copy
         + Drop
         + Send
-        + Sync,
+        + Sync
+        + 'static,
 {
-    let mut counted = CountedInput::new(input, ProgressLine::new(host));
-    match main_with(rt.alloc(), command, &mut counted, out, err) {
+    match main_with(rt.alloc(), command, input, out, err) {
         Asked::Ended(status) => status,
-        Asked::Serve(options) => match serve(rt, host, options, out, err) {
-            Ok(()) => SUCCESS,
-            Err(error) => report_server(error, err),
-        },
-        Asked::Audit(options) => audited(host, options, &mut counted, out, err),
+        Asked::Serve(options) => served(rt, host, options, out, err),
+        Asked::Audit(options) => audited(host, options, input, out, err),
         Asked::Migrate(options) => match migrate(rt, host, &options.data, options.shards, out) {
             Ok(()) => SUCCESS,
             Err(error) => report_server(error, err),

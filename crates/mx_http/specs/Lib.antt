@@ -1,1 +1,3 @@
+pub mod Claims
+pub mod Memory
 pub mod Places

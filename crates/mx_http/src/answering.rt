@@ -1,23 +1,27 @@
 // The replies to the requests of a connection of HTTP/1.1.
-use crate::bodies::{BodyError, WholeBody};
-use crate::endings::Ending;
+ghost use Rattle.std.specs.Prelude.{◌≡◌, IfNone, IsSomeAnd, MatchOption};
+ghost use Rattle.futures.specs.Task.{Covers, Keeps};
+ghost use Rattle.futures.specs.Poll.{OnPending};
+ghost use Rattle.tokio.specs.Channels.{sent_source};
+
+use crate::bodies::{BodyError, CountedBody, WholeBody};
 use crate::heads::{head_fault, target_of};
+use crate::memory::{ClientMemory, CountedReply, ReplyBody, Room};
 use crate::messages::{HttpReply, HttpRequest, Responder};
+use crate::pool::loops::{Begun, LoopResponder};
+use crate::pool::tickets::Ticket;
+use crate::runtimes::ConnectionRuntime;
 use crate::stages::{SharedProgress, Stage};
 use bytes::Bytes;
 use futures::task::{Context, Poll};
 use futures::{Future, ready};
-use http_body_util::Full;
 use hyper::body::{Body, Incoming};
 use hyper::header::{self, HeaderValue};
 use hyper::service::Service;
 use hyper::{Request, Response, StatusCode};
-use std::alloc::{AllocError, AllocGlobal, Global};
-use std::net::Net;
+use std::alloc::{AllocError, Global};
 use std::rc::Rc;
-use std::sync::atomic::{AtomicBool, Ordering};
-use std::sync::{Arc, Mutex, Wait};
-use std::time::Clock;
+use std::sync::{Arc, Wait};
 use thiserror::Error;
 
 /// Why a request gets no reply, and its connection is closed.
@@ -44,109 +48,39 @@ impl From<AllocError> for Unanswered {
     }
 }
 
-/// A responder, shared by the connections whose requests it answers; whether it answers one now, and whether its listener
-/// is to end.
-#[derive(Drop)]
-pub struct SharedResponder<A> {
-    pub responder: Arc<Mutex<A>>,
-    pub is_busy: Arc<AtomicBool>,
-    // None where it serves one connection alone.
-    pub ending: Option<Ending>,
-}
-
-impl<A: Drop> SharedResponder<A> {
-    /// The same, to another connection or request.
-    pub fn another(&self) -> Result<SharedResponder<A>, AllocError> {
-        let ending = match &self.ending {
-            Some(ending) => Some(ending.another()?),
-            None => None,
-        };
-        Ok(SharedResponder {
-            responder: Arc::try_clone(&self.responder)?,
-            is_busy: Arc::try_clone(&self.is_busy)?,
-            ending,
-        })
+// The response with a reply. Where the listener is to end, the connection is closed behind it.
+fn response_by<A: Responder>(
+    alloc: Global,
+    responder: &LoopResponder<A>,
+    reply: CountedReply,
+) -> Response<ReplyBody<Bytes>> {
+    let response = response(alloc, reply);
+    if responder.is_ending() {
+        return closing(response);
     }
-
-    // Whether the listener is to end.
-    fn is_ending(&self) -> bool {
-        match &self.ending {
-            Some(ending) => ending.is_wanted(),
-            None => false,
-        }
-    }
-}
-
-impl<A: Responder> SharedResponder<A> {
-    fn end<N: Net>(&self, net: &N) {
-        if let Some(ending) = &self.ending {
-            ending.want(net);
-        }
-    }
-
-    // The reply to a request. Where the responder wants no more of them, its listener is to end.
-    fn respond<R: Wait + Clock + Eprint + Net>(
-        &self,
-        rt: &R,
-        alloc: Global,
-        request: HttpRequest,
-    ) -> HttpReply
-        requires { A.can_respond }
-    {
-        self.is_busy.store(true, Ordering::SeqCst);
-        let (reply, is_done) = respond_by(rt, alloc, &self.responder, request);
-        self.is_busy.store(false, Ordering::SeqCst);
-        if is_done {
-            self.end(rt);
-        }
-        reply
-    }
-
-    // The response with a reply. Where the listener is to end, the connection is closed behind it.
-    fn response(&self, alloc: Global, reply: HttpReply) -> Response<Full<Bytes>> {
-        let response = response(alloc, reply);
-        if self.is_ending() {
-            return closing(response);
-        }
-        response
-    }
+    response
 }
 
 // A response behind which the connection is closed.
-fn closing(mut response: Response<Full<Bytes>>) -> Response<Full<Bytes>> {
+fn closing(mut response: Response<ReplyBody<Bytes>>) -> Response<ReplyBody<Bytes>> {
     let close = HeaderValue::from_static("close");
     let _ = response.headers_mut().insert(header::CONNECTION, close);
     response
 }
 
-// The reply of a responder, and whether it wants no more requests.
-fn respond_by<R: Wait + Clock + Eprint, A: Responder>(
-    rt: &R,
-    alloc: Global,
-    responder: &Mutex<A>,
-    request: HttpRequest,
-) -> (HttpReply, bool)
-    requires { A.can_respond }
-{
-    let mut responder = responder.lock(rt);
-    let reply = responder.respond(rt, alloc, request);
-    let is_done = responder.is_done();
-    (reply, is_done)
-}
-
 // A request whose body has not come yet, and who answers it.
 #[derive(Drop)]
-struct Call<A> {
-    shared: SharedResponder<A>,
+struct Call<A: Responder> {
+    responder: Arc<LoopResponder<A>>,
     progress: SharedProgress,
     request: HttpRequest,
     // Whether its body comes in a transfer coding other than `chunked`.
     has_other_coding: bool,
 }
 
-fn call_of<I, A: Drop>(
+fn call_of<I, A: Responder>(
     alloc: Global,
-    shared: &SharedResponder<A>,
+    responder: &Arc<LoopResponder<A>>,
     progress: &SharedProgress,
     request: &Request<Incoming<I>>,
 ) -> Result<Call<A>, AllocError> {
@@ -163,7 +97,7 @@ fn call_of<I, A: Drop>(
         body: Vec::new(alloc),
     };
     Ok(Call {
-        shared: shared.another()?,
+        responder: Arc::try_clone(responder)?,
         progress: Rc::clone(progress)?,
         request: asked,
         has_other_coding: has_other_coding(request),
@@ -179,53 +113,89 @@ fn has_other_coding<I>(request: &Request<Incoming<I>>) -> bool {
 }
 
 impl<A: Responder> Call<A> {
-    // The response to the request with this body.
-    fn reply<R: Wait + Clock + Eprint + Net>(
+    // Whether the request may have a long reply.
+    fn has_long_reply(&self) -> bool {
+        A::has_long_reply(self.request.method.as_str(), self.request.target.as_slice())
+    }
+
+    // What becomes of the request with this body.
+    fn begin<R: ConnectionRuntime>(
         self,
         rt: &R,
         alloc: Global,
-        body: Vec<u8>,
-    ) -> Response<Full<Bytes>>
+        body: CountedBody,
+    ) -> Result<Handled<R, A>, Unanswered>
         requires { A.can_respond }
     {
         let Call {
-            shared,
+            responder,
+            progress,
             mut request,
             has_other_coding,
-            ..
         } = self;
         if has_other_coding {
-            let reply = shared.responder.lock(rt).refuse_coding(alloc);
-            return shared.response(alloc, reply);
+            let reply = CountedReply::small(responder.refuse_coding(rt, alloc));
+            return Ok(Handled::Replied(response_by(alloc, &responder, reply)));
         }
-        request.body = body;
-        let reply = shared.respond(rt, alloc, request);
-        shared.response(alloc, reply)
+        let CountedBody { bytes, memory } = body;
+        request.body = bytes;
+        match responder.begin(rt, alloc, request)? {
+            Begun::Replied(reply) => {
+                let reply = CountedReply::count(rt, reply, memory)?;
+                Ok(Handled::Replied(response_by(alloc, &responder, reply)))
+            }
+            Begun::Waits(ticket) => {
+                progress.enter(Stage::Turn);
+                Ok(Handled::Waits(WaitingCall {
+                    responder,
+                    progress,
+                    ticket,
+                    memory,
+                }))
+            }
+        }
     }
 
     // The response to a request whose body is too long. The connection is closed behind it.
-    fn refuse_body<R: Wait>(self, rt: &R, alloc: Global) -> Response<Full<Bytes>> {
+    fn refuse_body<R: Wait>(self, rt: &R, alloc: Global) -> Response<ReplyBody<Bytes>> {
         self.progress.note_left_body();
-        let reply = self.shared.responder.lock(rt).refuse_body(alloc);
+        let reply = CountedReply::small(self.responder.refuse_body(rt, alloc));
         closing(response(alloc, reply))
     }
 
     // The response to a request whose body does not come in its coding, or whose `Host` is no host and port. The
     // connection is closed behind it.
-    fn refuse_framing<R: Wait>(self, rt: &R, alloc: Global) -> Response<Full<Bytes>> {
+    fn refuse_framing<R: Wait>(self, rt: &R, alloc: Global) -> Response<ReplyBody<Bytes>> {
         self.progress.note_left_body();
-        let reply = self.shared.responder.lock(rt).refuse_framing(alloc);
+        let reply = CountedReply::small(self.responder.refuse_framing(rt, alloc));
         closing(response(alloc, reply))
     }
 }
 
-// The response to a request, once its body has come or not.
-fn answered<R: Wait + Clock + Eprint + Net, A: Responder>(
+// A request that waits for an answering thread.
+#[derive(Drop)]
+struct WaitingCall<R: ConnectionRuntime, A: Responder> {
+    responder: Arc<LoopResponder<A>>,
+    progress: SharedProgress,
+    ticket: Ticket<R, A::Call>,
+    // What is held for its client.
+    memory: Option<ClientMemory>,
+}
+
+// What became of a request whose body has come.
+#[derive(Drop)]
+enum Handled<R: ConnectionRuntime, A: Responder> {
+    Replied(Response<ReplyBody<Bytes>>),
+    Waits(WaitingCall<R, A>),
+}
+
+// What becomes of a request, once its body has come or not.
+fn answered<R: ConnectionRuntime, A: Responder>(
     rt: &R,
     alloc: Global,
     call: Result<Call<A>, AllocError>,
-    body: Result<Vec<u8>, BodyError>,
-) -> Result<Response<Full<Bytes>>, Unanswered>
+    body: Result<CountedBody, BodyError>,
+) -> Result<Handled<R, A>, Unanswered>
     requires { A.can_respond }
 {
     let call = call?;
@@ -235,35 +205,37 @@ fn answered<R: Wait + Clock + Eprint + Net, A: Responder>(
     call.progress.enter(Stage::Reply);
     call.progress.note_answer();
     match body {
-        Ok(body) => Ok(call.reply(rt, alloc, body)),
-        Err(BodyError::TooLong) => Ok(call.refuse_body(rt, alloc)),
-        Err(BodyError::Malformed) => Ok(call.refuse_framing(rt, alloc)),
+        Ok(body) => call.begin(rt, alloc, body),
+        Err(BodyError::TooLong) => Ok(Handled::Replied(call.refuse_body(rt, alloc))),
+        Err(BodyError::Malformed) => Ok(Handled::Replied(call.refuse_framing(rt, alloc))),
         Err(BodyError::Memory) => Err(Unanswered::Memory),
         Err(BodyError::Cut) => Err(Unanswered::Cut),
+        Err(BodyError::Closed) => Err(Unanswered::GivenUp),
     }
 }
 
 /// The requests of a connection go to a responder.
 #[derive(Drop)]
-pub struct Answers<R, A> {
+pub struct Answers<R, A: Responder> {
     pub rt: R,
-    pub shared: SharedResponder<A>,
+    pub responder: Arc<LoopResponder<A>>,
     pub progress: SharedProgress,
     // How many bytes the body of a request may have.
     pub largest_body: usize,
+    pub room: Rc<Room<R>>,
 }
 
 impl<R, I, A> Service<Request<Incoming<I>>> for Answers<R, A>
 where
-    R: Wait + Clock + Eprint + Net + AllocGlobal + Copy + Drop,
+    R: ConnectionRuntime,
     I: Drop,
     A: Responder,
 {
-    type Response = Response<Full<Bytes>>;
+    type Response = Response<ReplyBody<Bytes>>;
 
     type Error = Unanswered;
 
-    type Future = Answer<R, A, WholeBody<Incoming<I>>>;
+    type Future = Answer<R, A, WholeBody<Incoming<I>, R>>;
 
     ghost can_call = { λ _. A.can_respond };
 
@@ -274,56 +246,102 @@ where
         } else {
             Stage::Body
         });
-        let call = call_of(alloc, &self.shared, &self.progress, &request);
+        let call = call_of(alloc, &self.responder, &self.progress, &request);
         let fault = head_fault(&request, self.largest_body);
+        let has_long_reply = match &call {
+            Ok(call) => call.has_long_reply(),
+            Err(_refused) => false,
+        };
+        let room = Room::wait(&self.room).ok();
+        let largest = self.largest_body;
+        let body = request.into_body();
         Answer {
             rt: self.rt,
             call: Some(call),
-            body: WholeBody::new(alloc, request.into_body(), self.largest_body, fault),
+            body: WholeBody::new(alloc, body, largest, fault, room, has_long_reply),
+            waiting: None,
         }
     }
 }
 
 /// The response to a request, once its body has come or not. Where its connection has answered another one in this turn, it
-/// waits for the next turn, so that all other connections have theirs before.
+/// waits for the next turn, so that all other connections have theirs before. It waits too where an answering thread is
+/// left to answer it.
 #[derive(Drop)]
-pub struct Answer<R, A, F> {
+pub struct Answer<R: ConnectionRuntime, A: Responder, F> {
     rt: R,
     call: Option<Result<Call<A>, AllocError>>,
     body: F,
+    waiting: Option<WaitingCall<R, A>>,
 }
 
 impl<R, A, F> Future for Answer<R, A, F>
 where
-    R: Wait + Clock + Eprint + Net + AllocGlobal + Copy + Drop,
+    R: ConnectionRuntime,
     A: Responder,
-    F: Future<Output = Result<Vec<u8>, BodyError>>,
+    F: Future<Output = Result<CountedBody, BodyError>>,
 {
-    type Output = Result<Response<Full<Bytes>>, Unanswered>;
+    type Output = Result<Response<ReplyBody<Bytes>>, Unanswered>;
 
-    ghost can_poll = { λ answer. A.can_respond × F.can_poll answer.body };
+    ghost can_poll = { λ answer. A.can_respond × IfNone answer.waiting (F.can_poll answer.body) };
 
-    ghost needs = { λ answer. F.needs answer.body };
+    ghost needs = { λ answer source. MatchOption answer.waiting (F.needs answer.body source)
+        (λ waiting. IsSomeAnd waiting.ticket.reply (λ reply. source ≡ sent_source reply)) };
 
-    fn poll(&mut self, cx: &mut Context<'_>) -> Poll<Result<Response<Full<Bytes>>, Unanswered>> {
-        if let Some(Ok(call)) = &self.call {
-            if call.progress.has_answered() {
-                call.progress.enter(Stage::Turn);
-                return cx.yield_now();
+    fn poll(
+        &mut self,
+        cx: &mut Context<'_>,
+    ) -> Poll<Result<Response<ReplyBody<Bytes>>, Unanswered>> {
+        if self.waiting.is_none() {
+            if let Some(Ok(call)) = &self.call {
+                if call.progress.has_answered() {
+                    call.progress.enter(Stage::Turn);
+                    return cx.yield_now();
+                }
+                call.progress.enter(Stage::Body);
             }
-            call.progress.enter(Stage::Body);
+            let body = ready!(self.body.poll(cx));
+            let Some(call) = self.call.take() else {
+                return Poll::Ready(Err(Unanswered::Memory));
+            };
+            match answered(&self.rt, self.rt.alloc(), call, body) {
+                Ok(Handled::Replied(response)) => return Poll::Ready(Ok(response)),
+                Ok(Handled::Waits(waiting)) => self.waiting = Some(waiting),
+                Err(error) => return Poll::Ready(Err(error)),
+            }
         }
-        let body = ready!(self.body.poll(cx));
-        match self.call.take() {
-            Some(call) => Poll::Ready(answered(&self.rt, self.rt.alloc(), call, body)),
+        match &mut self.waiting {
+            Some(waiting) => poll_reply(&self.rt, waiting, cx),
             None => Poll::Ready(Err(Unanswered::Memory)),
         }
     }
 }
 
+// The response of a request that waits, once its thread has answered it.
+fn poll_reply<R: ConnectionRuntime, A: Responder>(
+    rt: &R,
+    waiting: &mut WaitingCall<R, A>,
+    cx: &mut Context<'_>,
+) -> Poll<Result<Response<ReplyBody<Bytes>>, Unanswered>>
+    ensures registered { OnPending result
+        (Covers cx.new (λ source. IsSomeAnd waiting.new.ticket.reply (λ reply. source ≡ sent_source reply))) }
+    ensures kept { Keeps cx.old cx.new }
+{
+    let Some(reply) = ready!(waiting.ticket.poll(cx)) else {
+        return Poll::Ready(Err(Unanswered::Memory));
+    };
+    waiting.progress.enter(Stage::Reply);
+    waiting.progress.note_answer();
+    match CountedReply::count(rt, reply, waiting.memory.take()) {
+        Ok(reply) => Poll::Ready(Ok(response_by(rt.alloc(), &waiting.responder, reply))),
+        Err(_refused) => Poll::Ready(Err(Unanswered::Memory)),
+    }
+}
+
 // Where no memory is left for a header, the reply goes without it.
-fn response(alloc: Global, reply: HttpReply) -> Response<Full<Bytes>> {
-    let mut response = Response::new(alloc, Full::new(reply.body));
+fn response(alloc: Global, reply: CountedReply) -> Response<ReplyBody<Bytes>> {
+    let CountedReply { reply, memory } = reply;
+    let mut response = Response::new(alloc, ReplyBody::new(reply.body, memory));
     *response.status_mut() = StatusCode::from_u16(reply.status).unwrap_or(
         StatusCode::INTERNAL_SERVER_ERROR,
     );

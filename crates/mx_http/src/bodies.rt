@@ -1,13 +1,19 @@
 // The bodies of requests.
-ghost use Rattle.std.specs.Prelude.{◌≡◌, Err, IfSome};
+ghost use Rattle.std.specs.Prelude.{◌≡◌, Err, IfSome, false};
+ghost use Rattle.futures.specs.Task.{Covers, Keeps};
+ghost use Rattle.futures.specs.Poll.{OnPending};
 
+use crate::memory::{ClientMemory, RoomWait};
 use bytes::Bytes;
 use futures::task::{Context, Poll};
 use futures::{Future, ready};
-use hyper::body::{Body, Frame};
-use std::alloc::{AllocError, Global};
+use hyper::body::Body;
+use std::alloc::{AllocError, AllocGlobal, Global};
 use std::mem;
+use std::time::Clock;
 
+// How many bytes an allocation has at least that glibc takes from the system for itself, whatever came before (32 MiB).
+const ADDRESSES: usize = 33_554_432;
 // How many pieces of a body one poll takes.
 const MOST_PIECES: usize = 64;
 /// Of a body that is longer than it may be, so many times the most bytes are read, so that its client comes to read the
@@ -24,6 +30,8 @@ pub enum BodyError {
     Malformed,
     // The client went away before it had come.
     Cut,
+    // Its connection was closed for want of room.
+    Closed,
 }
 
 impl BodyError {
@@ -53,6 +61,7 @@ impl From<AllocError> for BodyError {
 // What has come of a body.
 #[derive(Drop)]
 struct Gathered {
+    alloc: Global,
     bytes: Vec<u8>,
     // How many bytes a body may have.
     largest: usize,
@@ -61,13 +70,26 @@ struct Gathered {
 }
 
 impl Gathered {
+    // Whether so many bytes more are kept.
+    fn keeps(&self, more: usize) -> bool {
+        self.past == 0 && self.bytes.len().saturating_add(more) <= self.largest
+    }
+
+    // A body that is counted gets addresses enough at once. The system gives memory for those that are written, and takes it
+    // back as soon as they are dropped: it does so with allocations of that size, and may keep what smaller ones leave.
+    fn reserve(&mut self) {
+        if self.bytes.capacity() < ADDRESSES {
+            let _ = self.bytes.reserve_exact(ADDRESSES);
+        }
+    }
+
     // Of a body that is too long nothing is kept. `TooLong` where it has gone on for long enough.
     fn add(&mut self, piece: &[u8]) -> Result<(), BodyError> {
-        if self.past == 0 && self.bytes.len().saturating_add(piece.len()) <= self.largest {
+        if self.keeps(piece.len()) {
             self.bytes.extend_from_slice(piece)?;
             return Ok(());
         }
-        self.bytes.clear();
+        self.bytes = Vec::new(self.alloc);
         self.past = self.past.saturating_add(piece.len());
         if self.past > self.largest.saturating_mul(READ_ON) {
             return Err(BodyError::TooLong);
@@ -76,75 +98,153 @@ impl Gathered {
     }
 
     // A body that has come to its end.
-    fn take(&mut self, alloc: Global) -> Result<Vec<u8>, BodyError> {
+    fn take(&mut self) -> Result<Vec<u8>, BodyError> {
         if self.past > 0 {
             return Err(BodyError::TooLong);
         }
-        Ok(mem::replace(&mut self.bytes, Vec::new(alloc)))
+        Ok(mem::replace(&mut self.bytes, Vec::new(self.alloc)))
     }
 }
 
-/// The whole of a body, once it has come.
+/// A body, and what is held for its client.
 #[derive(Drop)]
-pub struct WholeBody<B> {
-    alloc: Global,
+pub struct CountedBody {
+    pub bytes: Vec<u8>,
+    pub memory: Option<ClientMemory>,
+}
+
+/// The whole of a body, once it has come, each of whose pieces is kept once there is room for it; and where its request may
+/// have a long reply, once there is room for that.
+#[derive(Drop)]
+pub struct WholeBody<B, R> {
     body: B,
     // Why it is not read, as its head says.
     fault: Option<BodyError>,
     gathered: Gathered,
+    // None where no memory is left, or once it is had.
+    room: Option<RoomWait<R>>,
+    // A piece that came, and is kept once there is room.
+    piece: Option<Bytes>,
+    has_ended: bool,
+    has_long_reply: bool,
 }
 
-impl<B> WholeBody<B> {
+impl<B, R> WholeBody<B, R> {
     /// The whole of this body, which may have so many bytes; or, where its head has a fault, that, and no byte is read.
-    pub fn new(alloc: Global, body: B, largest: usize, fault: Option<BodyError>) -> WholeBody<B>
+    pub fn new(
+        alloc: Global,
+        body: B,
+        largest: usize,
+        fault: Option<BodyError>,
+        room: Option<RoomWait<R>>,
+        has_long_reply: bool,
+    ) -> WholeBody<B, R>
         ensures body { result.body ≡ body }
         ensures fault { result.fault ≡ fault }
+        ensures begins { result.has_ended ≡ false }
     {
         let gathered = Gathered {
+            alloc,
             bytes: Vec::new(alloc),
             largest,
             past: 0,
         };
         WholeBody {
-            alloc,
             body,
             fault,
             gathered,
+            room,
+            piece: None,
+            has_ended: false,
+            has_long_reply,
         }
     }
 }
 
-impl<B: Body<Data = Bytes, Error = hyper::Error>> Future for WholeBody<B> {
-    type Output = Result<Vec<u8>, BodyError>;
+impl<B: Drop, R: Clock + AllocGlobal + Copy + Drop> WholeBody<B, R> {
+    // Ready once the piece that came is kept.
+    fn poll_piece(&mut self, cx: &mut Context<'_>) -> Poll<Result<(), BodyError>>
+        ensures body { self.new.body ≡ self.old.body }
+        ensures fault { self.new.fault ≡ self.old.fault }
+        ensures ended { self.new.has_ended ≡ self.old.has_ended }
+        ensures registered { OnPending result (Covers cx.new (λ _. ⊥)) }
+        ensures kept { Keeps cx.old cx.new }
+    {
+        let Some(piece) = &self.piece else {
+            return Poll::Ready(Ok(()));
+        };
+        let Some(room) = &mut self.room else {
+            return Poll::Ready(Err(BodyError::Memory));
+        };
+        if self.gathered.keeps(piece.len()) {
+            let own = self.gathered.bytes.len();
+            if let Err(error) = ready!(room.poll_piece(own, piece.len(), cx)) {
+                return Poll::Ready(Err(error));
+            }
+            if !room.is_empty() {
+                self.gathered.reserve();
+            }
+        } else {
+            room.clear();
+        }
+        let added = self.gathered.add(piece.as_slice());
+        self.piece = None;
+        Poll::Ready(added)
+    }
 
-    ghost can_poll = { λ whole. B.can_poll whole.body };
+    // Ready once all has come, and there is room for a long reply where its request may have one.
+    fn poll_end(&mut self, cx: &mut Context<'_>) -> Poll<Result<CountedBody, BodyError>>
+        ensures body { self.new.body ≡ self.old.body }
+        ensures fault { self.new.fault ≡ self.old.fault }
+        ensures ended { self.new.has_ended ≡ self.old.has_ended }
+        ensures registered { OnPending result (Covers cx.new (λ _. ⊥)) }
+        ensures kept { Keeps cx.old cx.new }
+    {
+        let Some(room) = &mut self.room else {
+            return Poll::Ready(Err(BodyError::Memory));
+        };
+        if self.has_long_reply && self.gathered.past == 0 {
+            if let Err(error) = ready!(room.poll_reply(cx)) {
+                return Poll::Ready(Err(error));
+            }
+        }
+        let bytes = match self.gathered.take() {
+            Ok(bytes) => bytes,
+            Err(error) => return Poll::Ready(Err(error)),
+        };
+        let memory = self.room.take().map(RoomWait::into_memory);
+        Poll::Ready(Ok(CountedBody { bytes, memory }))
+    }
+}
 
-    ghost needs = { λ whole. B.needs whole.body };
+impl<B, R> Future for WholeBody<B, R>
+where
+    B: Body<Data = Bytes, Error = hyper::Error>,
+    R: Clock + AllocGlobal + Copy + Drop,
+{
+    type Output = Result<CountedBody, BodyError>;
+
+    ghost can_poll = { λ whole. whole.has_ended ≡ false → B.can_poll whole.body };
 
     ghost gives = { λ whole r. IfSome whole.fault (λ fault. r ≡ Err fault) };
 
-    fn poll(&mut self, cx: &mut Context<'_>) -> Poll<Result<Vec<u8>, BodyError>> {
+    fn poll(&mut self, cx: &mut Context<'_>) -> Poll<Result<CountedBody, BodyError>> {
         if let Some(fault) = self.fault {
             return Poll::Ready(Err(fault));
         }
         for _ in 0..MOST_PIECES {
-            let frame = match ready!(self.body.poll_frame(cx)) {
-                Some(Ok(frame)) => frame,
-                Some(Err(error)) => return Poll::Ready(Err(BodyError::of(&error))),
-                None => return Poll::Ready(self.gathered.take(self.alloc)),
-            };
-            if let Err(error) = add_frame(&mut self.gathered, &frame) {
+            if let Err(error) = ready!(self.poll_piece(cx)) {
                 return Poll::Ready(Err(error));
+            }
+            if self.has_ended {
+                return self.poll_end(cx);
+            }
+            match ready!(self.body.poll_frame(cx)) {
+                Some(Ok(frame)) => self.piece = frame.into_data().ok(),
+                Some(Err(error)) => return Poll::Ready(Err(BodyError::of(&error))),
+                None => self.has_ended = true,
             }
         }
         cx.yield_now()
-    }
-}
-
-// Trailers are passed over.
-fn add_frame(gathered: &mut Gathered, frame: &Frame<Bytes>) -> Result<(), BodyError> {
-    match frame.data_ref() {
-        Some(piece) => gathered.add(piece.as_slice()),
-        None => Ok(()),
     }
 }

@@ -12,7 +12,7 @@ pub struct Wait {
 }
 
 // The longer of the wait in this place, which may be none, and the longest in the places behind it.
-fn longer(since: Option<u64>, place: usize, behind: Option<Wait>) -> Option<Wait>
+pub(crate) fn longer(since: Option<u64>, place: usize, behind: Option<Wait>) -> Option<Wait>
     ensures { result ≡ longer since place behind }
 {
     let Some(since) = since else {

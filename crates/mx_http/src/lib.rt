@@ -1,5 +1,5 @@
-//! HTTP/1.1 on a listener: its connections, served side by side in one thread for each of several responders. What a
-//! request is answered is the responder's.
+//! HTTP/1.1 on a listener: its connections, served side by side by event loops in threads, and threads beside these that
+//! answer the requests which may have to wait. What a request is answered is the responder's.
 #![tactic(auto)]
 
 mod activities;
@@ -12,15 +12,21 @@ mod guards;
 mod heads;
 mod listening;
 mod making;
+mod memory;
 mod messages;
 mod open_connections;
+mod pool;
 mod quiet;
 mod runtimes;
 mod stages;
 mod turns;
+mod workers;
 
 pub use answering::Unanswered;
 pub use connections::{Source, serve_one};
-pub use listening::{Announcer, Limits, ServeError, serve_on};
-pub use messages::{HttpReply, HttpRequest, Responder};
+pub use endings::Ending;
+pub use listening::{Announcer, Limits, ListenerHandle, Responders, ServeError, serve_on};
+pub use memory::RoomClosings;
+pub use messages::{AskedCall, HttpReply, HttpRequest, ReadRequest, Responder};
+pub use pool::claims::Claim;
 pub use runtimes::ServerRuntime;

@@ -6,12 +6,10 @@ use std::sync::Wait;
 use std::thread::Threads;
 use std::time::Clock;
 
-/// What a server of connections runs on: threads that may wait, a clock, sockets, random numbers, memory, and standard
-/// error.
+/// What a server of connections runs on: threads that may wait, a clock, sockets, random numbers, and memory.
 pub trait ServerRuntime: Threads
     + Wait
     + Clock
-    + Eprint
     + Net<Listener = TcpListener, Stream = TcpStream>
     + RandomSource
     + AllocGlobal
@@ -25,7 +23,6 @@ where
     R: Threads
         + Wait
         + Clock
-        + Eprint
         + Net<Listener = TcpListener, Stream = TcpStream>
         + RandomSource
         + AllocGlobal
@@ -33,4 +30,12 @@ where
         + Drop
         + Send
         + Sync,
+{}
+
+/// What the requests of a connection are answered on: as [`ServerRuntime`], without what starts threads.
+pub trait ConnectionRuntime: Wait + Clock + Net + AllocGlobal + Copy + Drop {}
+
+impl<R> ConnectionRuntime for R
+where
+    R: Wait + Clock + Net + AllocGlobal + Copy + Drop,
 {}

@@ -1,3 +1,4 @@
 pub mod CutLemmas
 pub mod LineLemmas
 pub mod WalkLemmas
+pub mod ScanLemmas

@@ -1,4 +1,5 @@
 pub mod Lines
+pub mod Scanning
 pub mod Written
 pub mod Contents
 pub mod RefusedCauses

@@ -1,5 +1,5 @@
 -- Values that were offered and are no events, in words and as a line (docs/AUDIT.md).
-use Rattle.std.specs.Prelude.{ℕ, List, [], ◌∷◌, codes, Option, Some, option_map, string_bytes}
+use Rattle.std.specs.Prelude.{ℕ, List, [], ◌∷◌, codes, Some, option_map, string_bytes}
 use Rattle.serde_json.specs.Data.{number, string, unsigned}
 use Rattle.mx_lines.specs.Lines.{line_of}
 use Rattle.mx_lines.specs.declared.malformed_events.EventField.{EventField}

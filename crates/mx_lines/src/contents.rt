@@ -8,6 +8,7 @@ ghost use Rattle.mx_pdu.specs.Event.{content_of};
 ghost use Rattle.mx_lines.specs.Contents as definition;
 ghost use Rattle.mx_lines.specs.Written.{with_members};
 
+use crate::scanning::content_in;
 use mx_canon::{TextBuffer, TextSink, write_key, write_string, write_text};
 use mx_pdu::Pdu;
 use serde_json::Value;
@@ -16,11 +17,14 @@ use std::alloc::{AllocError, Global};
 // How many bytes of the text of a content a line has, where the event is no state event.
 const MOST_BYTES: usize = 1024;
 
-/// The canonical text of the content of an event. It is made of the event's text, which is read. `AllocError` where no
-/// memory is left.
+/// The canonical text of the content of an event, as it stands in the event's text. `AllocError` where no memory is left.
 pub fn content_text(alloc: Global, event: &Pdu) -> Result<Vec<u8>, AllocError>
     ensures { IfOk result (λ text. text.items ≡ canonical_text (content_of event.now)) }
 {
+    if let Some(content) = content_in(event.text().as_bytes()) {
+        let text = Vec::from_slice(alloc, content)?;
+        return Ok(text);
+    }
     let whole = value_of(alloc, event.text())?;
     let mut text = TextBuffer::new(alloc);
     write_content_of(&mut text, &whole);

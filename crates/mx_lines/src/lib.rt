@@ -8,6 +8,7 @@ mod malformed_events;
 mod members;
 mod refused_causes;
 mod refused_lines;
+mod scanning;
 
 pub use contents::{content_text, hash_name, write_content};
 pub use line_writing::{

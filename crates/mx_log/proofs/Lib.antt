@@ -11,3 +11,4 @@ pub mod TextMemberLemmas
 pub mod LineRows
 pub mod AnswerLemmas
 pub mod HostLineLemmas
+pub mod StrictLemmas

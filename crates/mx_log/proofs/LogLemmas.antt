@@ -20,7 +20,7 @@ use Rattle.mx_log.proofs.LineRunLemmas.{appends_more, appends_none, none_so_far,
 use Rattle.mx_log.proofs.RefusalLineLemmas.{ended-more, ended-none, refusal-stays, refused}
 
 -- what comes before a clean end is clean
-clean-before : (out rest : List ℕ) → IsEnded out → has_refusal (out ++ rest) ≡ false → has_refusal out ≡ false
+pub clean-before : (out rest : List ℕ) → IsEnded out → has_refusal (out ++ rest) ≡ false → has_refusal out ≡ false
 clean-before out rest ended clean =
     ⊎_elim (λ yes. absurd (true≢false (sym (refusal-stays out rest ended yes) ∙ clean))) (λ no. no) (cases_Bool (has_refusal out))
 
@@ -32,7 +32,7 @@ answered_none offer server start contents w now = record {
   run = λ clean. none_so_far offer server start w now;
 }
 
-pub answered_more : {K L : Type 0} (offer : Event → Offered) (server : List ℕ) (start : Start) (lines : List (List ℕ)) (line : List ℕ) (before between after : Option (List ℕ)) (w w' : WorldView K L) → AreAnswered offer server start lines before between w → IsWritten offer server line w w' between after → AreAnswered offer server start (lines ++ line ∷ []) before after w'
+unfoldable pub answered_more : {K L : Type 0} (offer : Event → Offered) (server : List ℕ) (start : Start) (lines : List (List ℕ)) (line : List ℕ) (before between after : Option (List ℕ)) (w w' : WorldView K L) → AreAnswered offer server start lines before between w → IsWritten offer server line w w' between after → AreAnswered offer server start (lines ++ line ∷ []) before after w'
 answered_more offer server start lines line before between after w w' so_far (answered output appends done) = record {
   written = so_far.written ++ (output ++ 10 ∷ []);
   appends = appends_more before between after so_far.written (output ++ 10 ∷ []) so_far.appends appends;

@@ -13,3 +13,5 @@ pub mod TextMembers
 pub mod LineErrors
 pub mod HostLines
 pub mod HostAnswers
+pub mod StrictLogs
+pub mod StrictRuns

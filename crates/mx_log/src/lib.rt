@@ -10,6 +10,7 @@ mod lines;
 mod log_servers;
 mod logs;
 mod steps;
+mod strict_logs;
 mod watching;
 
 pub use host_lines::{HostLineOutcome, host_by_line};
@@ -18,4 +19,5 @@ pub use lines::splitting::first_line;
 pub use log_servers::{WatchedServer, server_after_log};
 pub use logs::{LinesError, run_lines};
 pub use steps::replies::{asked_reply, joined_reply, sent_reply};
+pub use strict_logs::{BadLine, run_lines_to_bad};
 pub use watching::{LineForm, LogWatcher};

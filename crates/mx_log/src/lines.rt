@@ -4,6 +4,7 @@ ghost use Rattle.serde_json.specs.Data.{object};
 ghost use Rattle.serde_json.specs.View.{view, members_view};
 ghost use Rattle.mx_log.specs.Lines as definition;
 ghost use Rattle.mx_log.specs.LinesShown.{line_shown};
+ghost use Rattle.mx_log.specs.StrictLogs.{is_bad};
 ghost use Rattle.mx_pdu.specs.Offers.{offer_by};
 
 pub(crate) mod call_forms;
@@ -39,6 +40,13 @@ pub(crate) enum Line {
 }
 
 impl Line {
+    /// Whether it has no form.
+    pub(crate) fn is_bad(&self) -> bool
+        ensures { result ≡ is_bad (line_shown self.now) }
+    {
+        matches!(self, Line::Bad)
+    }
+
     /// What it is, for who is told of it.
     pub(crate) fn form(&self) -> LineForm {
         match self {

@@ -2,11 +2,15 @@
 #![tactic(auto)]
 
 mod auditing;
+mod checking;
 mod logging;
 mod migrating;
+mod replaying;
 mod serving;
 
 pub use auditing::{AskedOf, AuditOptions, AuditQuestion, AuditSource, EventQuestion};
+pub use checking::CheckOptions;
 pub use logging::LogOptions;
 pub use migrating::MigrateOptions;
+pub use replaying::ReplayOptions;
 pub use serving::{SeatCount, ServeOptions};

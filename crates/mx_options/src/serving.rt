@@ -17,6 +17,8 @@ pub struct ServeOptions {
     pub shards: ShardCount,
     // How many connections may be open.
     pub connections: usize,
+    // How many megabytes, of 1,000,000 bytes each, may be held of requests that come and of replies that go.
+    pub memory: usize,
     // A file of lines, each of which hosts a room.
     pub rooms: Option<String>,
     // Whether the server ends once what keeps rows has failed.

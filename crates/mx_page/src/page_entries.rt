@@ -20,40 +20,31 @@ use std::alloc::{AllocError, Global};
 /// event and the state before this one, and between the states before and after this one, and where it has several prev
 /// events the lines of their resolution. None where there is no such event.
 ///
-/// The graph is that of the room's events, as [`mx_audit::room_graph`] makes it. The one error is that no memory is left. The
-/// time is that of [`event_line`], and of a look-up in the state before the event; of an event with several prev events also
-/// that of [`changes`] and of [`resolution_before`].
+/// The one error is that no memory is left. The time is that of [`event_line`], and of a look-up in the state before the
+/// event; of an event with several prev events also that of [`changes`] and of [`resolution_before`].
 pub fn page_entry(
     alloc: Global,
     audit: &RoomAudit,
-    graph: &Graph,
     number: EventNo,
 ) -> Result<Option<Vec<u8>>, AllocError>
-    requires { graph.now ≡ rows_of audit.now }
     ensures { IfOk result (λ entry. option_map (λ text. text.items) entry
         ≡ (if nat_lt number (length audit.now) then Some (escaped_text (definition.entry_text audit.now number)) else None)) }
 {
     if number.index() >= audit.timeline().len() {
         return Ok(None);
     }
-    let parts = parts_of(alloc, audit, graph, number)?;
+    let parts = parts_of(alloc, audit, number)?;
     let entry = text_of_parts(alloc, number, &parts)?;
     let bytes = escaped(alloc, &entry)?;
     Ok(Some(bytes))
 }
 
-fn parts_of(
-    alloc: Global,
-    audit: &RoomAudit,
-    graph: &Graph,
-    number: EventNo,
-) -> Result<EntryParts, AllocError>
-    requires below { number < length audit.now }
-    requires graph { graph.now ≡ rows_of audit.now }
+fn parts_of(alloc: Global, audit: &RoomAudit, number: EventNo) -> Result<EntryParts, AllocError>
+    requires { number < length audit.now }
     ensures { IfOk result (AreParts audit.now number) }
 {
     let timeline = audit.timeline();
-    let resolution = resolution_lines(alloc, timeline, graph, number)?;
+    let resolution = resolution_lines(alloc, timeline, audit.graph(), number)?;
     let line = line_of_event(alloc, audit, number)?;
     let base = first_prev_event(timeline, number);
     let before = changes_before(alloc, timeline, number)?;

@@ -263,6 +263,7 @@ impl Pdu {
         ensures reads { read result.now ≡ Some self.now }
         ensures well_formed { IsTrue (is_well_formed self.now) }
         ensures nesting { IsTrue (has_readable_nesting self.now) }
+        ensures keys { KeysRise self.now }
     {
         &self.parts.text
     }

@@ -22,6 +22,7 @@ use Rattle.mx_state_res.specs.Resolution.{resolve, unconflicted, full_conflicted
 use Rattle.mx_receipt.specs.Receipt.{state_before_next, before_event, forward_extremities, current_state}
 use Rattle.mx_receipt.specs.Judgements.{Judged, IsHeld, IsKept, IsJudged, AreAfter, AreNext, is_marked, leads_on, kept_row}
 use Rattle.mx_receipt.specs.TimelineView.{IsSoundCreate}
+use Rattle.mx_receipt.proofs.JudgedLemmas.{none-judged}
 use Rattle.mx_receipt.proofs.PastLemmas.{none-past}
 use Rattle.mx_receipt.specs.declared.verdicts.Verdict.TheVariants.{Accepted}
 
@@ -87,6 +88,7 @@ held-empty states are = subst (λ (ss : List State). IsHeld [] ss [] [] 0) (sym 
       below_current = omega arith;
       known = none-known;
       past = none-past [] [] [] (is_marked []) (λ p. refl);
+      judged = none-judged ([] ∷ []);
     }
 
 empty-before : (e : Event) → state_before_next [] e ≡ []

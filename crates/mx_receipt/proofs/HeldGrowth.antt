@@ -1,17 +1,19 @@
 -- What is kept, with numbered states, after one more row.
 use Rattle.std.proofs.Common.{◌≡◌, ◌<◌, ◌+◌, ◌++◌, ℕ, zero, suc, List, [], ◌∷◌, length, sym, ap, subst, ◌∙◌, arith}
-use Rattle.std.proofs.lemmas.List.{length-append}
+use Rattle.std.proofs.lemmas.List.{length-append, length-map, map-append}
 use Rattle.std.proofs.lemmas.List.Elements.{All-append, All-get_or}
 use Rattle.std.specs.List.{All}
 use Rattle.mx_graph.specs.Graph.{IsSound}
 use Rattle.mx_graph.specs.Record.{Row}
 use Rattle.mx_orders.specs.StateMap.{State}
 use Rattle.mx_state_res.specs.Numbered.{AreAdded, AreKnown, state_at}
-use Rattle.mx_receipt.specs.Receipt.{resolve_in, states_at}
-use Rattle.mx_receipt.specs.Judgements.{AreBelow, ArePast, IsHeld, IsJudged, IsKept, afters, is_marked, judged_by, judged_in, verdicts_in}
+use Rattle.mx_receipt.specs.Receipt.{resolve_in, states_at, verdict}
+use Rattle.mx_receipt.specs.Judgements.{AreBelow, ArePast, IsHeld, IsJudged, IsKept, WereJudged, afters, currents, is_marked, judged_by, judged_in, kept_of, kept_row, verdicts_in}
 use Rattle.mx_receipt.specs.declared.snapshots.Judgement.{Judgement}
-use Rattle.mx_receipt.proofs.HeldLemmas.{added-below, added-judged, all-known, judged-length, judged-push, known-longer}
+use Rattle.mx_receipt.proofs.HeldLemmas.{added-below, added-judged, added-twice, all-known, judged-length, judged-push, known-longer}
+use Rattle.mx_receipt.proofs.JudgedLemmas.{were-push}
 use Rattle.mx_receipt.proofs.KeptLemmas.{below-push, kept-push}
+use Rattle.mx_receipt.proofs.RecordLemmas.{kept_of-length, kept_of-push}
 
 module _ (rows : List Row) (old : List State) (js : List Judgement) (exts : List ℕ) (cur : ℕ) (held : IsHeld rows old js exts cur)
     (r : Row) (j : Judgement) (exts' : List ℕ) (mid : List State)
@@ -44,12 +46,28 @@ module _ (rows : List Row) (old : List State) (js : List Judgement) (exts : List
 
   module _ (sound : IsSound rows) (after : IsSound (rows ++ r ∷ [])) (new : List State) (more : AreAdded (rows ++ r ∷ []) mid new) (cur' : ℕ) (below : cur' < length new)
       (current : state_at new cur' ≡ resolve_in (rows ++ r ∷ []) (states_at (afters (judged_in mid (js ++ j ∷ []))) exts'))
-      (past : ArePast (rows ++ r ∷ []) (verdicts_in (js ++ j ∷ [])) exts' (is_marked (js ++ j ∷ []))) where
+      (past : ArePast (rows ++ r ∷ []) (verdicts_in (js ++ j ∷ [])) exts' (is_marked (js ++ j ∷ [])))
+      (came_at : j.current ≡ cur) (is_verdict : 0 < length rows → j.verdict ≡ verdict (kept_of rows (judged_in old js)) r.event) where
     known-new : AreKnown (rows ++ r ∷ []) new
     known-new = all-known (rows ++ r ∷ []) mid new known-mid more
 
     are-new : judged_in new (js ++ j ∷ []) ≡ judged_in old js ++ judged_by mid j ∷ []
     are-new = added-judged (rows ++ r ∷ []) mid new (js ++ j ∷ []) more numbers-mid ∙ are-mid
+
+    were : WereJudged new (currents (js ++ j ∷ [])) (kept_of (rows ++ r ∷ []) (judged_in new (js ++ j ∷ [])))
+    were =
+        let K = kept_of rows (judged_in old js) in
+        let k = kept_row r (judged_by mid j) in
+        let all : AreAdded (rows ++ r ∷ []) old new = added-twice (rows ++ r ∷ []) old mid new (added (rows ++ r ∷ []) one_more) more in
+        let many : length K ≡ length js = kept_of-length rows (judged_in old js) held.is_kept.count ∙ judged-length old js in
+        let base : WereJudged (old ++ all.more) (currents js ++ j.current ∷ []) (K ++ k ∷ []) =
+        were-push K k old all.more (currents js) j.current (length-map js (λ (i : Judgement). i.current) ∙ sym many) held.judged
+        (subst (λ n. n < length old) (sym came_at) held.below_current) (ap (state_at old) came_at ∙ held.is_kept.is_current)
+        (λ l. is_verdict (let e : length rows ≡ length js = held.is_kept.count ∙ judged-length old js in let f : length K ≡ length js = many in omega arith)) in
+        subst (λ ss. WereJudged ss (currents (js ++ j ∷ [])) (kept_of (rows ++ r ∷ []) (judged_in new (js ++ j ∷ [])))) (sym all.are)
+        (subst (λ ns. WereJudged (old ++ all.more) ns (kept_of (rows ++ r ∷ []) (judged_in new (js ++ j ∷ [])))) (sym (map-append (λ (i : Judgement). i.current) js (j ∷ [])))
+        (subst (WereJudged (old ++ all.more) (currents js ++ j.current ∷ []))
+        (sym (ap (kept_of (rows ++ r ∷ [])) are-new ∙ kept_of-push rows (judged_in old js) r (judged_by mid j) held.is_kept.count)) base))
 
     pub held-push : IsHeld (rows ++ r ∷ []) new (js ++ j ∷ []) exts' cur'
     held-push = record {
@@ -62,4 +80,5 @@ module _ (rows : List Row) (old : List State) (js : List Judgement) (exts : List
       below_current = below;
       known = known-new;
       past = past;
+      judged = were;
     }

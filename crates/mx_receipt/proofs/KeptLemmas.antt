@@ -33,7 +33,7 @@ single P x p zero d l = p
 single P x p (suc i) d l = absurd (omega arith)
 
 -- all of a list and one more
-all-push : {A : Type 0} (P : A → Type 0) (xs : List A) (x : A) → All P xs → P x → All P (xs ++ x ∷ [])
+pub all-push : {A : Type 0} (P : A → Type 0) (xs : List A) (x : A) → All P xs → P x → All P (xs ++ x ∷ [])
 all-push P xs x h p = All-append P xs (x ∷ []) h (single P x p)
 
 and_left : (a b : Bool) → (a && b) ≡ true → a ≡ true

@@ -1,5 +1,6 @@
 pub mod StateLemmas
 pub mod CoverLemmas
+pub mod JudgedLemmas
 pub mod JudgementLemmas
 pub mod RecordLemmas
 pub mod GrowthLemmas

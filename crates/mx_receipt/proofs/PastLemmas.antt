@@ -13,7 +13,7 @@ use Rattle.mx_graph.proofs.Closure.{is_in-from, one_answer, or_cases, or_left, o
 use Rattle.mx_orders.specs.StateMap.{State}
 use Rattle.mx_state_res.proofs.SetLemmas.{is_in-filter}
 use Rattle.mx_receipt.specs.Receipt.{is_accepted}
-use Rattle.mx_receipt.specs.Judgements.{AreAfter, AreBelow, AreCovered, AreNext, ArePast, IsCovered, Judged, is_marked, judged_in, leads_further, leads_on, unmarked, verdicts_in}
+use Rattle.mx_receipt.specs.Judgements.{AreAfter, AreBelow, AreCovered, AreNext, ArePast, IsCovered, Judged, currents, is_marked, judged_in, leads_further, leads_on, unmarked, verdicts_in}
 use Rattle.mx_receipt.specs.declared.verdicts.Verdict.{Verdict}
 use Rattle.mx_receipt.specs.declared.verdicts.Verdict.TheVariants.{Accepted}
 use Rattle.mx_receipt.specs.declared.snapshots.Judgement.{Judgement}
@@ -245,15 +245,19 @@ marked-set js e j p l is = by (e == p) refl
         marks ∙ get_or-set_other (map (λ (i : Judgement). i.covered) js) e p j.covered false (λ g. absurd (eqb-false e p f (sym g)))
         ∙ or-none (is_marked js p) ∙ ap (λ b. is_marked js p || b) (sym f)
 
-abbrev pub part : Judgement → Verdict × (ℕ × ℕ)
-part j = (j.verdict, (j.before, j.after))
+abbrev pub part : Judgement → Verdict × (ℕ × (ℕ × ℕ))
+part j = (j.verdict, (j.before, (j.after, j.current)))
 
-verdicts-of : (js : List Judgement) → map (λ (q : Verdict × (ℕ × ℕ)). q.0) (unmarked js) ≡ verdicts_in js
+verdicts-of : (js : List Judgement) → map (λ (q : Verdict × (ℕ × (ℕ × ℕ))). q.0) (unmarked js) ≡ verdicts_in js
 verdicts-of [] = refl
 verdicts-of (j ∷ js) = ap (λ vs. j.verdict ∷ vs) (verdicts-of js)
 
-abbrev judged_of : List State → Verdict × (ℕ × ℕ) → Judged
-judged_of states q = record { verdict = q.0; before = Rattle.mx_state_res.specs.Numbered.state_at states q.1.0; after = Rattle.mx_state_res.specs.Numbered.state_at states q.1.1 }
+currents-of : (js : List Judgement) → map (λ (q : Verdict × (ℕ × (ℕ × ℕ))). q.1.1.1) (unmarked js) ≡ currents js
+currents-of [] = refl
+currents-of (j ∷ js) = ap (λ ns. j.current ∷ ns) (currents-of js)
+
+abbrev judged_of : List State → Verdict × (ℕ × (ℕ × ℕ)) → Judged
+judged_of states q = record { verdict = q.0; before = Rattle.mx_state_res.specs.Numbered.state_at states q.1.0; after = Rattle.mx_state_res.specs.Numbered.state_at states q.1.1.0 }
 
 judged-of : (states : List State) (js : List Judgement) → map (judged_of states) (unmarked js) ≡ judged_in states js
 judged-of states [] = refl
@@ -261,13 +265,16 @@ judged-of states (j ∷ js) = ap (λ is. judged_of states (part j) ∷ is) (judg
 
 module _ (js js' : List Judgement) (stay : unmarked js' ≡ unmarked js) where
   pub marked-verdicts : verdicts_in js' ≡ verdicts_in js
-  marked-verdicts = sym (verdicts-of js') ∙ ap (map (λ (q : Verdict × (ℕ × ℕ)). q.0)) stay ∙ verdicts-of js
+  marked-verdicts = sym (verdicts-of js') ∙ ap (map (λ (q : Verdict × (ℕ × (ℕ × ℕ))). q.0)) stay ∙ verdicts-of js
+
+  pub marked-currents : currents js' ≡ currents js
+  marked-currents = sym (currents-of js') ∙ ap (map (λ (q : Verdict × (ℕ × (ℕ × ℕ))). q.1.1.1)) stay ∙ currents-of js
 
   pub marked-judged : (states : List State) → judged_in states js' ≡ judged_in states js
   marked-judged states = sym (judged-of states js') ∙ ap (map (judged_of states)) stay ∙ judged-of states js
 
   pub marked-below : (n : ℕ) → AreBelow n js → AreBelow n js'
   marked-below n h = λ k d l.
-      subst (λ (q : Verdict × (ℕ × ℕ)). (q.1.0 < n) × (q.1.1 < n)) (get_or-map part js' k d (part d) l)
-      (subst (All (λ (q : Verdict × (ℕ × ℕ)). (q.1.0 < n) × (q.1.1 < n))) (sym stay) (All-map (λ (q : Verdict × (ℕ × ℕ)). (q.1.0 < n) × (q.1.1 < n)) part js h) k (part d)
+      subst (λ (q : Verdict × (ℕ × (ℕ × ℕ))). (q.1.0 < n) × (q.1.1.0 < n)) (get_or-map part js' k d (part d) l)
+      (subst (All (λ (q : Verdict × (ℕ × (ℕ × ℕ))). (q.1.0 < n) × (q.1.1.0 < n))) (sym stay) (All-map (λ (q : Verdict × (ℕ × (ℕ × ℕ))). (q.1.0 < n) × (q.1.1.0 < n)) part js h) k (part d)
       (let e : length (unmarked js') ≡ length js' = length-map js' part in omega arith))

@@ -3,7 +3,7 @@ use Rattle.std.proofs.Common.{◌≡◌, ◌<◌, ◌≤◌, ◌+◌, ◌++◌, 
 use Rattle.std.proofs.lemmas.Bool.{cases_lt}
 use Rattle.std.proofs.lemmas.List.{get_or_append_left, length-append, get_or-map, length-map, append-nil}
 use Rattle.std.proofs.lemmas.List.Elements.{All-map}
-use Rattle.std.specs.Prelude.{slice_index_or, option_to_list, bytes_eq, cond}
+use Rattle.std.specs.Prelude.{slice_index_or, option_to_list, bytes_eq, cond, take}
 use Rattle.std.specs.List.{All}
 use Rattle.std.specs.Option.{option_or}
 use Rattle.mx_auth.specs.Rules.{Key}
@@ -11,9 +11,9 @@ use Rattle.mx_graph.proofs.RowLemmas.{place_of-push, place_of-below}
 use Rattle.mx_graph.specs.Graph.{IsSound}
 use Rattle.mx_graph.specs.Record.{Row, no_row, row, place_of}
 use Rattle.mx_orders.specs.StateMap.{State}
-use Rattle.mx_receipt.specs.Receipt.{Kept, rows_of, kept_at, states_after, state_before, state_after, forward_extremities, current_state}
+use Rattle.mx_receipt.specs.Receipt.{AreJudged, Kept, rows_of, kept_at, states_after, state_before, state_after, forward_extremities, current_state}
 use Rattle.mx_state_res.specs.Numbered.{state_at}
-use Rattle.mx_receipt.specs.Judgements.{Judged, judged_by, judged_in, kept_of, Knows}
+use Rattle.mx_receipt.specs.Judgements.{Judged, currents, judged_by, judged_in, kept_of, Knows}
 use Rattle.mx_receipt.specs.Timelines.{kept_in, IsTimeline, HasKept}
 use Rattle.mx_receipt.specs.declared.verdicts.Verdict.TheVariants.{Accepted}
 use Rattle.mx_receipt.specs.declared.snapshots.Judgement.{Judgement}
@@ -166,6 +166,27 @@ module _ (rows : List Row) (states : List State) (js : List Judgement) (exts : L
       ∙ ap (λ (j : Judged). j.after) (judged-at p v l e) ∙ sym (get_or-map (λ (j : Judged). j.after) judged p (judged_by h.kept_states v) [] (judged-index p l))
       ∙ ap (λ ss. slice_index_or ss p []) h.is_held.is_kept.afters ∙ states_after-at (kept_of h.kept_rows judged) (length judged) p (judged-index p l)
       ∙ ap (λ ks. state_after ks p) (sym h.shown)
+
+  -- the current state when it came
+  came-at : (p : ℕ) (v : Judgement) → p < length kept → v ≡ slice_index_or js p v → v.current ≡ slice_index_or (currents h.kept_judgements) p 0
+  came-at p v l e = ap (λ (j : Judgement). j.current) (shown-at p v l e) ∙ sym (get_or-map (λ (j : Judgement). j.current) h.kept_judgements p v 0 (shown-index p l))
+
+  came-index : (p : ℕ) → p < length kept → p < length (currents h.kept_judgements)
+  came-index p l = let e : length (currents h.kept_judgements) ≡ length h.kept_judgements = length-map h.kept_judgements (λ (j : Judgement). j.current) in let m : p < length h.kept_judgements = shown-index p l in omega arith
+
+  came-below : (p : ℕ) (v : Judgement) → p < length kept → v ≡ slice_index_or js p v → v.current < length h.kept_states
+  came-below p v l e = subst (λ n. n < length h.kept_states) (sym (came-at p v l e)) (h.is_held.judged.below p 0 (came-index p l))
+
+  pub current_before-below : (p : ℕ) (v : Judgement) → p < length kept → v ≡ slice_index_or js p v → v.current < length states
+  current_before-below p v l e = more-states v.current (came-below p v l e)
+
+  pub shown-current_before : (p : ℕ) (v : Judgement) → p < length kept → v ≡ slice_index_or js p v → state_at states v.current ≡ current_state (take p kept)
+  shown-current_before p v l e =
+      state-here v.current (came-below p v l e) ∙ ap (state_at h.kept_states) (came-at p v l e)
+      ∙ h.is_held.judged.currents p (came-index p l) ∙ ap (λ ks. current_state (take p ks)) (sym h.shown)
+
+  pub shown-judged : AreJudged kept
+  shown-judged = subst AreJudged (sym h.shown) h.is_held.judged.verdicts
 
   pub shown-row : (p : ℕ) → p < length kept → row rows p ≡ row (rows_of kept) p
   shown-row p l =

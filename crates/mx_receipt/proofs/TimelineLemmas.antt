@@ -15,12 +15,12 @@ use Rattle.mx_graph.proofs.Closure.{all-in, or_right}
 use Rattle.mx_orders.specs.StateMap.{State}
 use Rattle.mx_state_res.specs.Numbered.{state_at}
 use Rattle.mx_receipt.specs.Receipt.{Kept, offer_error, lacks_cited, installed, judged}
-use Rattle.mx_receipt.specs.Judgements.{Judged, judged_by, judged_in, kept_of, kept_row, is_marked, unmarked, verdicts_in, ArePast, IsKept, IsHeld, IsAdded}
+use Rattle.mx_receipt.specs.Judgements.{Judged, judged_by, judged_in, kept_of, kept_row, currents, is_marked, unmarked, verdicts_in, ArePast, IsKept, IsHeld, IsAdded, WereJudged}
 use Rattle.mx_receipt.specs.Timelines.{kept_in, prepared_in, IsPrepared, IsTimeline}
 use Rattle.mx_receipt.specs.declared.snapshots.Judgement.{Judgement}
 use Rattle.mx_receipt.specs.declared.timelines.Prepared.{Prepared}
 use Rattle.mx_receipt.proofs.HeldLemmas.{judged-grows, judged-length, judged-push}
-use Rattle.mx_receipt.proofs.PastLemmas.{marked-below, marked-judged, marked-verdicts, past-fewer}
+use Rattle.mx_receipt.proofs.PastLemmas.{marked-below, marked-currents, marked-judged, marked-verdicts, past-fewer}
 use Rattle.mx_receipt.proofs.RecordLemmas.{take-whole, kept_of-push, kept_of-length}
 
 get-seam : {A : Type 0} (xs : List A) (y : A) → slice_get (xs ++ y ∷ []) (length xs) ≡ Some y
@@ -89,6 +89,9 @@ module _ (rows : List Row) (states : List State) (js : List Judgement) (exts : L
       past =
           subst (λ vs. ArePast rows vs p.extremities.items (is_marked js')) (sym (marked-verdicts js js' stay))
           (past-fewer rows (verdicts_in js) p.extremities.items (λ q. is_marked js q || is_in p.covered.items q) (is_marked js') (λ q e. sym (marked q) ∙ e) h.past);
+      judged =
+          subst (λ ns. WereJudged states ns (kept_of rows (judged_in states js'))) (sym (marked-currents js js' stay))
+          (subst (λ is. WereJudged states (currents js) (kept_of rows is)) (sym (marked-judged js js' stay states)) h.after.judged);
     }
 
     pub marked-kept : kept_of rows (judged_in states js') ≡ kept_of rows (judged_in states js)

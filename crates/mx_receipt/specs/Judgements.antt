@@ -1,12 +1,12 @@
 -- What is kept beside the rows of a record, for private clauses.
-use Rattle.std.specs.Prelude.{◌≡◌, ℕ, ◌<◌, ◌++◌, ◌∷◌, ◌||◌, Bool, true, false, not, List, [], All, T, length, map, filter, slice_index_or, if◌then◌else◌}
+use Rattle.std.specs.Prelude.{◌≡◌, ℕ, ◌<◌, ◌++◌, ◌∷◌, ◌||◌, Bool, true, false, not, List, [], All, T, length, map, filter, slice_index_or, take, if◌then◌else◌}
 use Rattle.std.specs.FinMap.Entries.{is_sorted}
 use Rattle.mx_redact.specs.Fields.{Event}
 use Rattle.mx_graph.specs.Edges.{IsAllFrom}
 use Rattle.mx_graph.specs.Record.{Row, event, is_in, prev_events}
 use Rattle.mx_orders.specs.StateMap.{State, key_cmp}
 use Rattle.mx_state_res.specs.Numbered.{AreKnown, state_at}
-use Rattle.mx_receipt.specs.Receipt.{Kept, verdict, is_accepted, is_rejected, rows_of, with_kept, states_after, state_before, state_before_next, forward_extremities, current_state}
+use Rattle.mx_receipt.specs.Receipt.{AreJudged, Kept, verdict, is_accepted, is_rejected, rows_of, with_kept, states_after, state_before, state_before_next, forward_extremities, current_state}
 use Rattle.mx_receipt.specs.declared.verdicts.Verdict.{Verdict}
 use Rattle.mx_receipt.specs.declared.verdicts.Verdict.TheVariants.{Accepted}
 use Rattle.mx_receipt.specs.declared.snapshots.Judgement.{Judgement}
@@ -111,8 +111,8 @@ abbrev pub is_marked : List Judgement → ℕ → Bool
 is_marked judgements p = slice_index_or (map (λ j. j.covered) judgements) p false
 
 -- judgements without their marks
-abbrev pub unmarked : List Judgement → List (Verdict × (ℕ × ℕ))
-unmarked = map (λ j. (j.verdict, (j.before, j.after)))
+abbrev pub unmarked : List Judgement → List (Verdict × (ℕ × (ℕ × ℕ)))
+unmarked = map (λ j. (j.verdict, (j.before, (j.after, j.current))))
 
 -- these events, and those that they lead on to, are no extremities
 pub record ArePast (rows : List Row) (verdicts : List Verdict) (extremities : List ℕ) (some : ℕ → Bool) : Type 0 where
@@ -144,6 +144,16 @@ pub record IsJudged (rows : List Row) (judgements : List Judged) (extremities : 
   pub knows_before : Knows rows j.before
   pub are_next : AreAfter rows (verdicts_of judgements) (prev_events rows r.event) extremities (length rows) j.verdict next
 
+-- the numbers of the current states before the events
+abbrev pub currents : List Judgement → List ℕ
+currents = map (λ j. j.current)
+
+-- the events of a record were judged by those before them, and these are the numbers of the current states when they came
+pub record WereJudged (states : List State) (numbers : List ℕ) (kept : List Kept) : Type 0 where
+  pub below : All (λ n. n < length states) numbers
+  pub currents : (p : ℕ) → p < length numbers → state_at states (slice_index_or numbers p 0) ≡ current_state (take p kept)
+  pub verdicts : AreJudged kept
+
 -- what is kept, where states have numbers
 pub record IsHeld (rows : List Row) (states : List State) (judgements : List Judgement) (extremities : List ℕ) (current : ℕ) : Type 0 where
   pub is_kept : IsKept rows (judged_in states judgements) extremities (state_at states current)
@@ -151,6 +161,7 @@ pub record IsHeld (rows : List Row) (states : List State) (judgements : List Jud
   pub below_current : current < length states
   pub known : AreKnown rows states
   pub past : ArePast rows (verdicts_in judgements) extremities (is_marked judgements)
+  pub judged : WereJudged states (currents judgements) (kept_of rows (judged_in states judgements))
 
 -- an event was added under its verdict
 pub record IsAdded (rows : List Row) (states : List State) (judgements : List Judgement) (id : List ℕ) (e : Event) (rows' : List Row) (states' : List State) (judgements' : List Judgement) (extremities covered : List ℕ) (current : ℕ) : Type 0 where

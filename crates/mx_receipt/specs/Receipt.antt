@@ -1,5 +1,5 @@
 -- Checks performed on receipt of a PDU, forward extremities and room state (Matrix specification, Server-Server API).
-use Rattle.std.specs.Prelude.{ℕ, zero, suc, nat_le, Bool, true, false, not, if◌then◌else◌, List, [], ◌∷◌, ◌++◌, codes, map, length, take, slice_index_or, filter, unwrap_or, Option, None, Some, is_some, is_none}
+use Rattle.std.specs.Prelude.{◌≡◌, ◌<◌, ℕ, zero, suc, nat_le, Bool, true, false, not, if◌then◌else◌, List, [], ◌∷◌, ◌++◌, codes, map, length, take, slice_index_or, filter, unwrap_or, Option, None, Some, is_some, is_none}
 use Rattle.std.specs.Option.{option_or}
 use Rattle.std.specs.List.{list_any}
 use Rattle.serde_json.specs.Data.{null}
@@ -125,6 +125,10 @@ verdict kept e =
     accept_or Rejected (auth_failure rows e)
     (accept_or Rejected (rules (version_in rows) e (view rows (state_before_next kept e)))
     (accept_or SoftFailed (rules (version_in rows) e (view rows (current_state kept))) Accepted))
+
+-- each event but the first is under the verdict that the events before it give it
+abbrev pub AreJudged : List Kept → Type 0
+AreJudged kept = (p : ℕ) → 0 < p → p < length kept → (kept_at kept p).verdict ≡ verdict (take p kept) (kept_at kept p).event
 
 -- the event under its verdict
 abbrev pub judged : List Kept → List ℕ → Event → Kept

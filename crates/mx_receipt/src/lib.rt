@@ -17,5 +17,7 @@ mod verdicts;
 
 pub use refusals::{NotReceived, OfferError};
 pub use room_states::created_version;
-pub use timelines::{Timeline, timeline_depths_hold, timeline_ids_differ, timeline_is_sound};
+pub use timelines::{
+    Timeline, timeline_depths_hold, timeline_ids_differ, timeline_is_judged, timeline_is_sound,
+};
 pub use verdicts::Verdict;

@@ -143,6 +143,7 @@ fn judged_event(
         → IsJudged graph.now (judged_in states.old judgements.now) latest.now.extremities.now
         (record { id = id; event = citing.now.event.now; rejected = definition.is_rejected judged.judgement.verdict })
         (judged_by states.new judged.judgement) judged.extremities.items) }
+    ensures current { IfOk result (λ judged. judged.judgement.current ≡ latest.now.current) }
     ensures unmarked { IfOk result (λ judged. judged.judgement.covered ≡ false) }
     ensures covered { IfOk result (λ judged. AreCovered graph.now judgements.now (record_of.prev_events graph.now citing.now.event.now)
         judged.judgement.verdict judged.covered.items) }
@@ -187,6 +188,7 @@ fn judged_event(
             verdict,
             before,
             after,
+            current: latest.current,
             covered: false,
         },
         extremities: next.extremities,
@@ -445,6 +447,7 @@ pub(crate) fn begin_in(
             verdict: Verdict::Accepted,
             before,
             after,
+            current: before,
             covered: false,
         },
         extremities,

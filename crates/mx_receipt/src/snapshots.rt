@@ -15,12 +15,13 @@ use mx_pdu::Pdu;
 use mx_state_res::{StateNo, States};
 use std::alloc::{AllocError, Global};
 
-// What a room found of an event, and the states before and after it.
+// What a room found of an event, the states before and after it, and the current state when it came.
 #[derive(Debug, Drop)]
 pub(crate) struct Judgement {
     pub verdict: Verdict,
     pub before: StateNo,
     pub after: StateNo,
+    pub current: StateNo,
     // An accepted event leads to it, through events that were not accepted.
     pub covered: bool,
 }

@@ -1,5 +1,5 @@
 // A room's events under their verdicts.
-ghost use Rattle.std.specs.Prelude.{◌≡◌, ◌<◌, ◌≤◌, ◌↔◌, ◌++◌, ◌∷◌, All, IfOk, IfSome, IsErrOf, None, OnErr, OnOk, Option, Some, [], ℕ, is_none, length, option_copied, option_map};
+ghost use Rattle.std.specs.Prelude.{◌≡◌, ◌<◌, ◌≤◌, ◌↔◌, ◌++◌, ◌∷◌, All, IfOk, IfSome, IsErrOf, None, OnErr, OnOk, Option, Some, [], ℕ, is_none, length, option_copied, option_map, take};
 ghost use Rattle.std.specs.List.{list_any};
 ghost use Rattle.std.specs.Fn.{FnOnceReturnsAt};
 ghost use Rattle.std.specs.Result.{result_err};
@@ -9,7 +9,7 @@ ghost use Rattle.mx_graph.specs.Graph as closure;
 ghost use Rattle.mx_graph.specs.Record as record_of;
 ghost use Rattle.mx_graph.specs.Record.{place_of, row as row_at};
 ghost use Rattle.mx_receipt.specs.Receipt as definition;
-ghost use Rattle.mx_receipt.specs.Receipt.{Kept};
+ghost use Rattle.mx_receipt.specs.Receipt.{AreJudged, Kept};
 ghost use Rattle.mx_receipt.specs.TimelineView.{IsSoundCreate};
 ghost use Rattle.mx_receipt.specs.Timelines.{IsTimeline};
 ghost use Rattle.mx_receipt.specs.declared.refusals.NotReceived.{NotReceived as Cause};
@@ -196,6 +196,14 @@ impl Timeline {
         self.graph.depth_bound(number)
     }
 
+    /// The events as a graph, where none is prepared: that one would stand behind them.
+    pub fn graph(&self) -> &Graph
+        requires { self.now.prepared ≡ None }
+        ensures { result.now ≡ definition.rows_of self.now.kept }
+    {
+        &self.graph
+    }
+
     /// The event that is prepared, in the form in which it would be kept; none where none is prepared. It takes no
     /// memory.
     pub fn prepared_event(&self) -> Option<&Pdu>
@@ -230,6 +238,16 @@ impl Timeline {
         ensures { result ≡ definition.state_after self.now.kept number }
     {
         self.states.state(self.judgements[number.index()].after)
+    }
+
+    /// The current state when the event with this number came, by the events before it: it judges the event last.
+    ///
+    /// Source: the Matrix specification, Server-Server API, "Checks performed on receipt of a PDU", soft failure.
+    pub fn current_before(&self, number: EventNo) -> StateRef<'_>
+        requires { number < length self.now.kept }
+        ensures { result ≡ definition.current_state (take number self.now.kept) }
+    {
+        self.states.state(self.judgements[number.index()].current)
     }
 
     /// The room's current state: the resolution of the states after the forward extremities.
@@ -447,6 +465,13 @@ pub fn timeline_is_sound(timeline: &Timeline)
         → All (λ e. e.1 < length timeline.now.kept) (definition.state_before timeline.now.kept number) }
     ensures after { (number : ℕ) → number < length timeline.now.kept
         → All (λ e. e.1 < length timeline.now.kept) (definition.state_after timeline.now.kept number) }
+{
+    let _ = timeline.graph.len();
+}
+
+/// A law: each event of a timeline but the first is under the verdict that the events before it give it.
+pub fn timeline_is_judged(timeline: &Timeline)
+    ensures { AreJudged timeline.now.kept }
 {
     let _ = timeline.graph.len();
 }

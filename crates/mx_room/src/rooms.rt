@@ -269,6 +269,15 @@ impl Room {
         self.timeline.find(id).is_some()
     }
 
+    /// Its events under their verdicts. They make a room: there is at least one.
+    pub fn into_timeline(self) -> Timeline
+        ensures timeline { result ≡ record { kept = self.kept; prepared = self.prepared } }
+        ensures hosted { IsHosted self.kept }
+    {
+        let Room { timeline, .. } = self;
+        timeline
+    }
+
     /// The answer to a server's query, at a moment. `AllocError` where it gives something and no memory is left for it:
     /// whatever denies it is asked first, and takes no memory.
     ///

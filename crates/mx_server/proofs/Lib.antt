@@ -1,1 +1,2 @@
+mod RequestSending
 mod WorkerSending

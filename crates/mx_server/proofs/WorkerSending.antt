@@ -1,8 +1,8 @@
 -- Workers may be sent between threads wherever the keepers of their rows may.
 use denote.RattleType.{RattleType}
-use denote.Param.Send.{IsSend, IsSync, view_send, view_sync, sendable}
+use denote.Param.Send.{IsSend, IsSync, view_send, sendable}
 use denote.Param.SendFields.{declared_send, declared_sync}
-use Rattle.std.proofs.Crossing.{Arc-send, Vec-send, crosses}
+use Rattle.std.proofs.Crossing.{Arc-send, Arc-sync, Vec-send}
 use Rattle.mx_keeper.specs.declared.keepers.Keeper.{Ghosts}
 use Rattle.mx_keeper.specs.declared.rows.ShardRow.{ShardRow}
 use Rattle.mx_keeper.specs.declared.rows.BookRow.{BookRow}
@@ -25,15 +25,6 @@ use Rattle.mx_engine.specs.contracts.gates.OpenGate as open_gate
 use Rattle.mx_engine.proofs.gates.OpenGate.TheSendSync as gate
 use Rattle.mx_engine.proofs.Sending.{pdu_send}
 use Rattle.mx_engine.proofs.SeatSending.{docked_shard_send, docked_book_send, seat_send, engine_sync}
-use Rattle.mx_requests.specs.contracts.requests.WireServer as wire_server
-use Rattle.mx_requests.specs.contracts.targets.routes.Routes as routes
-use Rattle.mx_requests.specs.contracts.targets.routes.Route as route
-use Rattle.mx_requests.proofs.targets.routes.Route.TheSendSync as route_of
-use Rattle.matchit.specs.contracts.tree.Node as node
-use Rattle.matchit.specs.contracts.router.Router as router
-use Rattle.matchit.specs.contracts.router.Router.TheInside as router_inside
-use Rattle.matchit.proofs.route.Route.TheSendSync as matched
-use Rattle.matchit.proofs.tree.Node.TheLaws.TheKnot.{send-Node, sync-Node}
 use Rattle.mx_directory.proofs.row_files.RowFiles.TheSendSync as row_files
 use Rattle.mx_server.specs.contracts.workers.Shared as shared
 use Rattle.mx_server.specs.contracts.workers.Worker as worker
@@ -51,35 +42,17 @@ engine_send K L V G g h k l v w = declared_send (engine.the_type K L V G g h) (
   ),
 )
 
-node_send : IsSend node.the_row
-node_send = search (send-Node, crosses, sendable) depth 20 fits 20000
-
-node_sync : IsSync node.the_row
-node_sync = search (sync-Node, crosses, sendable) depth 20 fits 20000
-
-router_send : IsSend (router.the_row route.the_row)
-router_send = view_send _ _ _ _ _ (declared_send (router_inside.the_type route.the_row) (search (node_send, matched.the_send, route_of.the_send, crosses, sendable) depth 20))
-
-routes_send : IsSend routes.the_row
-routes_send = declared_send routes.the_type (router_send, tt)
-
-router_sync : IsSync (router.the_row route.the_row)
-router_sync = view_sync _ _ _ _ _ (declared_sync (router_inside.the_type route.the_row) (search (node_sync, matched.the_sync, route_of.the_sync, crosses, sendable) depth 20))
-
-routes_sync : IsSync routes.the_row
-routes_sync = declared_sync routes.the_type (router_sync, tt)
-
 module _ (K L : RattleType) (g : Ghosts K.Denot ShardRow) (h : Ghosts L.Denot BookRow) (k : IsSend K) (l : IsSend L) where
   shared_send : IsSend (shared.the_row K L g h)
   shared_send = declared_send (shared.the_type K L g h) (
     engine_send K L presence_verifier.the_row open_gate.the_row g h k l presence.the_send gate.the_send,
-    (declared_send wire_server.the_type (server_name.the_send, (routes_send, tt)), (row_files.the_send, tt)),
+    (server_name.the_send, (Arc-send _ row_files.the_send row_files.the_sync, tt)),
   )
 
   shared_sync : IsSync (shared.the_row K L g h)
   shared_sync = declared_sync (shared.the_type K L g h) (
     engine_sync K L presence_verifier.the_row open_gate.the_row g h k l presence.the_sync gate.the_sync,
-    (declared_sync wire_server.the_type (server_name.the_sync, (routes_sync, tt)), (row_files.the_sync, tt)),
+    (server_name.the_sync, (Arc-sync _ row_files.the_send row_files.the_sync, tt)),
   )
 
   pub worker_send : IsSend (worker.the_row K L g h)

@@ -1,8 +1,12 @@
 //! The server on loopback: its rows in the files of a directory, its engine, and the connections that its workers answer.
 #![tactic(auto)]
 
+mod crews;
 mod losses;
+mod reading;
+mod sending;
 mod serving;
+mod watching;
 mod workers;
 
 pub use serving::serve;

@@ -1,18 +1,26 @@
 // `serve`: a server on loopback, over files.
 ghost use Rattle.std.specs.Prelude.{◌≡◌, ◌≤◌, ◌↔◌, IfOk, length};
 
+use crate::crews::Crew;
 use crate::losses::check_losses;
+use crate::reading::RequestReader;
+use crate::watching::{FileWatch, start_watch};
 use crate::workers::{Handler, ServerEngine, Shared, Worker, workers_of};
-use mx_directory::{RowFile, RowFiles, ServerError, ServerFiles, StartError, open_directory};
+use mx_directory::{
+    RowFile, RowFiles, ServerError, ServerFiles, StartError, WatchedKeeper, open_directory,
+};
 use mx_engine::{Engine, OpenGate};
-use mx_http::{Announcer, HttpRequest, Limits, ServeError, ServerRuntime, serve_on};
+use mx_http::{Announcer, Limits, ListenerHandle, Responders, ServeError, ServerRuntime, serve_on};
 use mx_ident::ServerName;
-use mx_keeper::{BookRow, CallError, Keeper, MOST_PLACES, ShardRow, SqliteKeeper};
+use mx_keeper::{BookRow, CallError, Keeper, MOST_PLACES, ShardRow};
+use mx_line_queue::{LineOutput, LineSender};
+use mx_name_grammar::is_in_grammar;
 use mx_options::{SeatCount, ServeOptions};
 use mx_pdu::PresenceVerifier;
 use mx_room::Moment;
 use mx_wire::{
-    HostLineOutcome, InputError, LARGEST_BODY, WireServer, first_line, host_by_line, read_all,
+    HostLineOutcome, InputError, LARGEST_BODY, WireCall, WireServer, first_line, host_by_line,
+    read_all,
 };
 use mx_world::World;
 use sqlite::Alter;
@@ -24,41 +32,76 @@ use std::sync::{Arc, Wait};
 use std::time::Duration;
 
 /// Opens the server's directory, hosts the rooms of its file of rooms, binds its port, starts its threads, says so in a line
-/// on `out`, and then on `err` where its files are, and answers requests: for good, or until what keeps rows has failed,
-/// where it is to end then. Where a room is not hosted, `err` is told what its line is answered, and where a loss is
-/// accepted, what is lost. That `err` takes what it is told does not matter.
+/// on `out`, and then on `lines` where its files are, and answers requests: for good, or until what keeps rows has failed or
+/// a file of rows is lost, where it is to end then. Where a room is not hosted, `lines` are told what its line is answered,
+/// where a loss is accepted, what is lost, and where no server can have its name, that. A thread of its own looks after the
+/// files, each second. Who reads the lines holds nothing of this up.
 ///
 /// `Storage` where the directory was made for another name or number of shards, where a file of rows can't be opened or does
 /// not read, where one is missing or empty beside one with rows, where there are more than are asked for, where SQLite's log
-/// beside one is damaged or replies call events kept that are in no file, unless such a loss is accepted, and at the end of
-/// a server that was to end. `NotHosted` where a line hosts no room.
+/// beside one is damaged, one has fewer rows than it had, or replies call events kept that are in no file, unless such a loss
+/// is accepted, and at the end of a server that was to end. `NotHosted` where a line hosts no room.
 /// `Thread` where a thread can't be started, or has no event loop. `ReadOrWrite` where the directory can't be made, the
 /// file of rooms not read, the port not bound, or the line on `out` not written. `Memory` where no memory is left.
-pub fn serve<R: ServerRuntime, W: Write, E: Write>(
+pub fn serve<R: ServerRuntime + 'static, W: Write>(
     rt: &R,
     host: &HostRuntime,
     options: ServeOptions,
     out: &mut W,
-    err: &mut E,
+    lines: &LineSender,
 ) -> Result<(), StartError> {
-    let (files, rooms) = rows_and_rooms(rt, host, &options)?;
+    let mut err = LineOutput::new(rt, rt.alloc(), lines);
+    warn_of_name(&options.name, &mut err);
     let ServerFiles {
         shards,
         books,
         is_moved,
         files,
         losses,
-    } = files;
-    tell_losses(&losses, err);
+    } = files_of(rt, host, &options)?;
+    tell_losses(&losses, &mut err);
     if is_moved {
         let _ = writeln!(err, "{}: brought to the second layout", options.data);
     }
+    let watch = watch_of(rt, host, &options, files, lines)?;
+    let rooms = rooms_to_host(host, &options)?;
     let rows = StoredRows {
         shards,
         books,
-        files,
+        watch,
     };
-    serve_rows(rt, rows, &rooms, options, out, err)
+    serve_rows(rt, rows, &rooms, options, out, &mut err)
+}
+
+// Warns of a name that no server can have.
+fn warn_of_name<E: Write>(name: &ServerName, err: &mut E) {
+    if !is_in_grammar(name) {
+        let _ = writeln!(
+            err,
+            "warning: {}: no server has such a name, by the Matrix specification",
+            name.as_str()
+        );
+    }
+}
+
+// Who looks after the files, from now on.
+fn watch_of<R: ServerRuntime + 'static>(
+    rt: &R,
+    host: &HostRuntime,
+    options: &ServeOptions,
+    files: Vec<RowFile>,
+    lines: &LineSender,
+) -> Result<Arc<FileWatch>, StartError> {
+    let alloc = rt.alloc();
+    let files = RowFiles {
+        files,
+        lines: lines.another()?,
+        stop_on_failure: options.stop_on_storage,
+    };
+    let watch = FileWatch::new(alloc, host, files, &options.data)?;
+    let watch = Arc::new(alloc, watch)?;
+    start_watch(rt, Arc::try_clone(&watch)?)?;
+    Ok(watch)
 }
 
 // Tells what is lost, where that is accepted, a line each.
@@ -68,24 +111,23 @@ fn tell_losses<E: Write>(losses: &[String], err: &mut E) {
     }
 }
 
-// The files of the server's directory, and the bytes of its file of rooms.
-fn rows_and_rooms<R: ServerRuntime>(
+// The files of the server's directory.
+fn files_of<R: ServerRuntime>(
     rt: &R,
     host: &HostRuntime,
     options: &ServeOptions,
-) -> Result<(ServerFiles, Vec<u8>), StartError>
-    ensures some_shard { IfOk result (λ found. 1 ≤ length found.0.shards.items) }
-    ensures few_shards { IfOk result (λ found. length found.0.shards.items ≤ MOST_PLACES) }
-    ensures some_book { IfOk result (λ found. 1 ≤ length found.0.books.items) }
-    ensures few_books { IfOk result (λ found. length found.0.books.items ≤ MOST_PLACES) }
+) -> Result<ServerFiles, StartError>
+    ensures some_shard { IfOk result (λ files. 1 ≤ length files.shards.items) }
+    ensures few_shards { IfOk result (λ files. length files.shards.items ≤ MOST_PLACES) }
+    ensures some_book { IfOk result (λ files. 1 ≤ length files.books.items) }
+    ensures few_books { IfOk result (λ files. length files.books.items ≤ MOST_PLACES) }
 {
     let name = options.name.as_str();
     let is_accepted = options.accept_loss;
-    let files = open_directory(rt, host, &options.data, name, options.shards, is_accepted)?;
-    let rooms = rooms_to_host(host, options)?;
-    Ok((files, rooms))
+    open_directory(rt, host, &options.data, name, options.shards, is_accepted)
 }
 
+// The bytes of the file of rooms.
 fn rooms_to_host(host: &HostRuntime, options: &ServeOptions) -> Result<Vec<u8>, StartError> {
     match &options.rooms {
         Some(path) => lines_of(host, path),
@@ -121,12 +163,12 @@ fn of_input(error: InputError) -> ServerError
     }
 }
 
-// The rows of a server, and the files that they are in. For a store that is not known the proofs are found.
+// The rows of a server, and who looks after the files that they are in. For a store that is not known the proofs are found.
 #[derive(Drop)]
 struct StoredRows<S: Alter + Drop + Send> {
-    shards: Vec<SqliteKeeper<S, ShardRow>>,
-    books: Vec<SqliteKeeper<S, BookRow>>,
-    files: Vec<RowFile>,
+    shards: Vec<WatchedKeeper<S, ShardRow>>,
+    books: Vec<WatchedKeeper<S, BookRow>>,
+    watch: Arc<FileWatch>,
 }
 
 // Serves over rows, once the rooms of these lines are hosted.
@@ -149,7 +191,7 @@ where
     let StoredRows {
         shards,
         books,
-        files,
+        watch,
     } = rows;
     let alloc = rt.alloc();
     let count = books.len();
@@ -159,8 +201,9 @@ where
     };
     let is_accepted = options.accept_loss;
     check_losses(alloc, &server, count, &options.data, is_accepted, err)?;
+    watch.check_counts(rt, is_accepted, err)?;
     host_rooms(alloc, &mut server, rooms, file_of_rooms(&options), err)?;
-    listen(rt, server, files, options, out, err)
+    listen(rt, server, watch, options, out, err)
 }
 
 // Rows that are no server's, or for which no memory is left.
@@ -223,6 +266,8 @@ fn is_hosted_by<K: Keeper<Row = ShardRow>, L: Keeper<Row = BookRow>, E: Write>(
     }
 }
 
+// How many bytes a megabyte of `--memory` has.
+const MEGABYTE: usize = 1_000_000;
 // How many seconds a client may take to begin a request.
 const IDLE_SECONDS: u64 = 75;
 // How many seconds a client may take for the head of a request.
@@ -237,10 +282,12 @@ struct Opening<'a, W, E> {
     err: &'a mut E,
     port: u16,
     data: String,
+    watch: Arc<FileWatch>,
 }
 
 impl<'a, W: Write, E: Write> Announcer for Opening<'a, W, E> {
-    fn announce(&mut self) -> io::Result<()> {
+    fn announce(&mut self, handle: ListenerHandle) -> io::Result<()> {
+        self.watch.begin(handle);
         let port = self.port;
         writeln!(self.out, "listening 127.0.0.1:{port}")?;
         self.out.flush()?;
@@ -254,7 +301,7 @@ impl<'a, W: Write, E: Write> Announcer for Opening<'a, W, E> {
 fn listen<K, L, R, W: Write, E: Write>(
     rt: &R,
     server: World<K, L>,
-    files: Vec<RowFile>,
+    watch: Arc<FileWatch>,
     options: ServeOptions,
     out: &mut W,
     err: &mut E,
@@ -271,33 +318,49 @@ where
     let ServeOptions {
         name,
         data,
+        shards,
         threads,
-        stop_on_storage,
         ..
     } = options;
-    let files = RowFiles {
-        files,
-        stop_on_failure: stop_on_storage,
+    let reader = RequestReader {
+        server: WireServer::new(alloc, name.clone()?)?,
+        shards,
     };
-    let workers = workers(rt, server, threads, name, files)?;
+    let reader = Arc::new(alloc, reader)?;
+    let files = watch.files()?;
+    let crew = Crew::of(threads);
+    let answerers = Answerers {
+        reader,
+        workers: workers(rt, server, crew, name, files)?,
+        crew,
+    };
     let mut opening = Opening {
         out,
         err,
         port,
         data,
+        watch,
     };
-    let served = serve_by(rt, &listener, workers, limits, &mut opening);
+    let served = serve_by(rt, &listener, answerers, limits, &mut opening);
     match served {
         Ok(()) => Err(StartError::from(ServerError::Storage)),
         Err(error) => Err(unserved(alloc, &error)),
     }
 }
 
+// What answers requests: who reads them, and a worker for each event loop and for each thread beside them.
+#[derive(Drop)]
+struct Answerers<K: Keeper<Row = ShardRow>, L: Keeper<Row = BookRow>> {
+    reader: Arc<RequestReader>,
+    workers: Vec<Worker<K, L>>,
+    crew: Crew,
+}
+
 // Serves the connections that come to a listener by these workers, in a thread each.
 fn serve_by<K, L, R, T: Announcer>(
     rt: &R,
     listener: &TcpListener,
-    workers: Vec<Worker<K, L>>,
+    answerers: Answerers<K, L>,
     limits: Limits,
     announcer: &mut T,
 ) -> Result<(), ServeError>
@@ -306,17 +369,28 @@ where
     L: Keeper<Row = BookRow> + Send,
     R: ServerRuntime,
 {
+    let Answerers {
+        reader,
+        workers,
+        crew,
+    } = answerers;
     let runtime = *rt;
-    let mut handlers = Vec::new(rt.alloc());
+    let mut loops = Vec::new(rt.alloc());
+    let mut threads = Vec::new(rt.alloc());
     for worker in workers {
         let mut worker = worker;
-        let answer = move |alloc: Global, now: Moment, request: HttpRequest| {
-            worker.answer(&runtime, alloc, now, request)
+        let answer = move |alloc: Global, now: Moment, call: WireCall| {
+            worker.answer(&runtime, alloc, now, call)
         };
-        let handler = Handler::new(answer);
-        handlers.push(handler).map_err(AllocError::from)?;
+        let handler = Handler::new(Arc::try_clone(&reader)?, answer);
+        if loops.len() < crew.loops() {
+            loops.push(handler).map_err(AllocError::from)?;
+        } else {
+            threads.push(handler).map_err(AllocError::from)?;
+        }
     }
-    serve_on(rt, listener, handlers, limits, announcer)?;
+    let responders = Responders { loops, threads };
+    serve_on(rt, listener, responders, limits, announcer)?;
     Ok(())
 }
 
@@ -342,6 +416,7 @@ fn limits_of(options: &ServeOptions) -> Limits {
     Limits {
         connections: options.connections,
         body: LARGEST_BODY,
+        memory: options.memory.saturating_mul(MEGABYTE),
         idle: Duration::from_secs(IDLE_SECONDS),
         head: Duration::from_secs(HEAD_SECONDS),
         quiet: Duration::from_secs(QUIET_SECONDS),
@@ -362,12 +437,11 @@ fn unserved(alloc: Global, error: &ServeError) -> StartError {
 fn workers<K: Keeper<Row = ShardRow>, L: Keeper<Row = BookRow>, R: Wait + AllocGlobal>(
     rt: &R,
     server: World<K, L>,
-    threads: SeatCount,
+    crew: Crew,
     name: ServerName,
-    files: RowFiles,
+    files: Arc<RowFiles>,
 ) -> Result<Vec<Worker<K, L>>, StartError> {
     let alloc = rt.alloc();
-    let wire_server = WireServer::new(alloc, name)?;
     if !server.none_open() {
         return Err(StartError::from(ServerError::Storage));
     }
@@ -377,9 +451,9 @@ fn workers<K: Keeper<Row = ShardRow>, L: Keeper<Row = BookRow>, R: Wait + AllocG
         server,
         PresenceVerifier,
         OpenGate,
-        threads.get(),
+        crew.seats(),
     )?;
-    let shared = shared_of(alloc, engine, wire_server, files)?;
+    let shared = shared_of(alloc, engine, name, files)?;
     Ok(workers_of(alloc, &shared, seats)?)
 }
 
@@ -387,14 +461,14 @@ fn workers<K: Keeper<Row = ShardRow>, L: Keeper<Row = BookRow>, R: Wait + AllocG
 fn shared_of<K: Keeper<Row = ShardRow>, L: Keeper<Row = BookRow>>(
     alloc: Global,
     engine: ServerEngine<K, L>,
-    server: WireServer,
-    files: RowFiles,
+    name: ServerName,
+    files: Arc<RowFiles>,
 ) -> Result<Arc<Shared<K, L>>, AllocError>
     ensures { IfOk result (λ shared. shared.value.engine ≡ engine) }
 {
     let shared = Shared {
         engine,
-        server,
+        name,
         files,
     };
     let shared = Arc::new(alloc, shared)?;

@@ -2,17 +2,17 @@
 ghost use Rattle.std.specs.Prelude.{◌≡◌, All};
 ghost use Rattle.mx_engine.specs.Seats.{IsSeatOf, seat_number};
 
+use crate::reading::RequestReader;
+use crate::sending::sent_plainly;
 use bytes::Bytes;
 use mx_directory::RowFiles;
 use mx_engine::{Engine, OpenGate, Seat};
-use mx_http::{HttpReply, HttpRequest, Responder};
+use mx_http::{HttpReply, HttpRequest, ReadRequest, Responder};
+use mx_ident::ServerName;
 use mx_keeper::{BookRow, CallError, Keeper, ShardRow};
 use mx_pdu::PresenceVerifier;
 use mx_room::{LATEST_MILLISECONDS, Moment};
-use mx_wire::{
-    Fault, ReplyBody, RequestReply, WireReply, WireRequest, WireServer, fault_reply, memory_reply,
-    respond,
-};
+use mx_wire::{Fault, RequestReply, WireCall, answer_call, fault_reply, memory_reply};
 use std::alloc::{AllocError, Global};
 use std::marker::Model;
 use std::sync::{Arc, Wait};
@@ -21,20 +21,28 @@ use std::time::Clock;
 
 // The status where a body does not come in its coding.
 const BAD_REQUEST: u16 = 400;
-// The status where the request has another method than its target.
-const METHOD_NOT_ALLOWED: u16 = 405;
 // The status where a body comes in a transfer coding that is not known.
 const NOT_IMPLEMENTED: u16 = 501;
+
+// How the paths begin of queries whose replies grow with their room.
+const LONG_REPLIES: [&[u8]; 6] = [
+    b"/_matrix/federation/v1/state/",
+    b"/_matrix/federation/v1/state_ids/",
+    b"/_matrix/federation/v1/event_auth/",
+    b"/_matrix/federation/v1/backfill/",
+    b"/_matrix/federation/v1/get_missing_events/",
+    b"/_matrix/federation/v2/send_join/",
+];
 
 /// The engine of the program.
 pub type ServerEngine<K, L> = Engine<K, L, PresenceVerifier, OpenGate>;
 
-/// What all workers share: the engine, the server's name with the routes of its requests, and the files of rows.
+/// What all workers share: the engine, the server's name, and the files of rows.
 #[derive(Drop)]
 pub struct Shared<K: Keeper<Row = ShardRow>, L: Keeper<Row = BookRow>> {
     pub engine: ServerEngine<K, L>,
-    pub server: WireServer,
-    pub files: RowFiles,
+    pub name: ServerName,
+    pub files: Arc<RowFiles>,
 }
 
 /// A worker: a seat, and what it shares with the others, whose engine it is a seat of.
@@ -64,71 +72,79 @@ pub struct AnsweredRequest {
 }
 
 impl<K: Keeper<Row = ShardRow> + Send, L: Keeper<Row = BookRow>> Worker<K, L> {
-    /// The answer to a request that came at this moment. Where what keeps rows refused it, standard error is told which
+    /// The answer at this moment to what a request asks for. Where what keeps rows refused it, who runs the server is told which
     /// file has failed, and no more requests are wanted if the server is to end then.
-    pub fn answer<R: Threads + Wait + Sync + Eprint>(
+    pub fn answer<R: Threads + Wait + Sync>(
         &mut self,
         rt: &R,
         alloc: Global,
         now: Moment,
-        request: HttpRequest,
+        call: WireCall,
     ) -> AnsweredRequest {
-        let request = asked(request);
-        let answered = answer_in(rt, alloc, &self.shared, &mut self.seat, now, &request);
-        answered_request(rt, alloc, &self.shared, &request, answered)
+        let answered = answer_in(rt, alloc, &self.shared, &mut self.seat, now, call);
+        answered_request(rt, alloc, &self.shared, answered)
     }
 }
 
-// What a request is answered. Where what keeps rows refused it, standard error is told which file has failed.
-fn answered_request<K: Keeper<Row = ShardRow>, L: Keeper<Row = BookRow>, R: Eprint>(
+// What a request is answered. Where what keeps rows refused it, who runs the server is told which file has failed.
+fn answered_request<K: Keeper<Row = ShardRow>, L: Keeper<Row = BookRow>, R: Wait>(
     rt: &R,
     alloc: Global,
     shared: &Shared<K, L>,
-    request: &WireRequest,
     answered: RequestReply,
 ) -> AnsweredRequest {
     let RequestReply { reply, refused } = answered;
-    let Shared { server, files, .. } = shared;
     let has_failed = refused == Some(CallError::Storage);
     if has_failed {
-        files.tell(rt, alloc);
+        shared.files.tell(rt, alloc);
     }
     AnsweredRequest {
-        reply: sent(alloc, server, request, reply),
-        is_last: has_failed && files.stop_on_failure,
+        reply: sent_plainly(reply),
+        is_last: has_failed && shared.files.stop_on_failure,
     }
 }
 
-/// Answers the requests of connections by a call, as of a worker.
+/// Reads the requests of connections, and answers them by a call, as of a worker.
 #[derive(Drop)]
 pub struct Handler<F: Drop> {
+    reader: Arc<RequestReader>,
     answer: F,
     // Whether it wants no more requests.
     is_done: bool,
 }
 
 impl<F: Drop> Handler<F> {
-    pub fn new(answer: F) -> Handler<F>
+    pub fn new(reader: Arc<RequestReader>, answer: F) -> Handler<F>
         ensures { result.answer ≡ answer }
     {
         Handler {
+            reader,
             answer,
             is_done: false,
         }
     }
 }
 
-impl<F: FnMut(Global, Moment, HttpRequest) -> AnsweredRequest + Drop> Responder for Handler<F> {
+impl<F: FnMut(Global, Moment, WireCall) -> AnsweredRequest + Drop> Responder for Handler<F> {
+    type Call = WireCall;
+
     ghost can_respond = { (answer : F) → F.IsAlwaysCallable answer };
 
-    fn respond<R: Wait + Clock + Eprint>(
-        &mut self,
-        rt: &R,
-        alloc: Global,
-        request: HttpRequest,
-    ) -> HttpReply {
+    fn has_long_reply(_method: &str, target: &[u8]) -> bool {
+        LONG_REPLIES.iter().any(|path| target.starts_with(*path))
+    }
+
+    fn is_short(&self, request: &HttpRequest) -> bool {
+        self.reader.is_short(request)
+    }
+
+    fn read(&self, alloc: Global, request: HttpRequest) -> ReadRequest<WireCall> {
+        self.reader.read(alloc, request)
+    }
+
+    fn respond<R: Wait + Clock>(&mut self, rt: &R, alloc: Global, call: WireCall) -> HttpReply {
         let now = moment(rt);
-        let answered = (self.answer)(alloc, now, request);
+        let answered = (self.answer)(alloc, now, call);
         let AnsweredRequest { reply, is_last } = answered;
         self.is_done |= is_last;
         reply
@@ -168,43 +184,20 @@ fn refusal(status: u16, body: &'static [u8]) -> HttpReply {
     }
 }
 
-fn asked(request: HttpRequest) -> WireRequest {
-    let HttpRequest {
-        method,
-        target,
-        authorization,
-        body,
-    } = request;
-    WireRequest {
-        method,
-        target,
-        authorization,
-        body,
-    }
-}
-
-// The reply to a request through a seat, at a moment.
+// The reply through a seat, at a moment, to what a request asks for.
 fn answer_in<K: Keeper<Row = ShardRow> + Send, L: Keeper<Row = BookRow>, R: Threads + Wait + Sync>(
     rt: &R,
     alloc: Global,
     shared: &Shared<K, L>,
     seat: &mut Seat<K, L>,
     now: Moment,
-    request: &WireRequest,
+    call: WireCall,
 ) -> RequestReply
     requires { IsSeatOf shared.now.engine seat.old }
     ensures seat { IsSeatOf shared.now.engine seat.new }
     ensures number { seat_number seat.new ≡ seat_number seat.old }
 {
-    respond(
-        rt,
-        alloc,
-        &shared.server,
-        &shared.engine,
-        seat,
-        now,
-        request,
-    )
+    answer_call(rt, alloc, &shared.name, &shared.engine, seat, now, call)
 }
 
 // The moment of the clock: the first one where it can't be read, the latest one where it shows more.
@@ -217,50 +210,6 @@ fn moment<C: Clock>(clock: &C) -> Moment {
         Moment::at(milliseconds).unwrap()
     } else {
         Moment::at(LATEST_MILLISECONDS).unwrap()
-    }
-}
-
-// The reply to a request. Where its target has another method, that is told.
-fn sent(alloc: Global, server: &WireServer, request: &WireRequest, reply: WireReply) -> HttpReply {
-    let mut sent = sent_plainly(reply);
-    if sent.status == METHOD_NOT_ALLOWED {
-        sent.allowed = allowed_at(alloc, server, &request.target);
-    }
-    sent
-}
-
-// The method that a target has. Where no memory is left for it the reply goes without it.
-fn allowed_at(alloc: Global, server: &WireServer, target: &[u8]) -> Option<String> {
-    String::from_str(alloc, server.method_at(target)?).ok()
-}
-
-// A reply, or where no memory is left for it that one.
-fn sent_plainly(reply: WireReply) -> HttpReply {
-    let WireReply { status, body } = reply;
-    match bytes_of(body) {
-        Some(body) => HttpReply {
-            status,
-            body,
-            allowed: None,
-        },
-        None => without_memory(),
-    }
-}
-
-fn bytes_of(body: ReplyBody) -> Option<Bytes> {
-    match body {
-        ReplyBody::Made(bytes) => Bytes::from_vec(bytes).ok(),
-        ReplyBody::Fixed(bytes) => Some(Bytes::from_static(bytes)),
-    }
-}
-
-// The reply where no memory is left. It takes none.
-fn without_memory() -> HttpReply {
-    let WireReply { status, body } = memory_reply();
-    HttpReply {
-        status,
-        body: bytes_of(body).unwrap_or(Bytes::from_static(b"")),
-        allowed: None,
     }
 }
 

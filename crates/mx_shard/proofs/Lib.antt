@@ -8,4 +8,5 @@ mod StoredLemmas
 mod IndexLemmas
 mod HeldLemmas
 mod ReopenLemmas
+mod TakenLemmas
 pub mod AgainLemmas

@@ -117,7 +117,7 @@ moved_back first second third id w none there back = λ q.
 -- ---- a query
 
 -- a room that is found has an event
-found_ready : (t : RoomView → Bool) (rooms : List RoomView) (room : RoomView) → All IsReady rooms → find t rooms ≡ Some room → IsReady room
+pub found_ready : (t : RoomView → Bool) (rooms : List RoomView) (room : RoomView) → All IsReady rooms → find t rooms ≡ Some room → IsReady room
 found_ready t [] room ready e = absurd (cc e)
 found_ready t (r ∷ rooms) room ready e =
     elim (t r) as (λ b. cond b (Some r) (find t rooms) ≡ Some room → IsReady room) [

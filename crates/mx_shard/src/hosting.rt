@@ -75,6 +75,22 @@ pub(crate) fn room_with<'a>(
     }
 }
 
+/// The room with this id, taken out of the rooms.
+pub(crate) fn taken_room(
+    rooms: Vec<Room>,
+    numbers: &BTreeMap<RoomId, usize>,
+    id: &RoomId,
+) -> Option<Room>
+    requires { IsNumbered numbers.now rooms.items }
+    ensures { result ≡ find (λ room. bytes_eq room.id id.now) rooms.items }
+{
+    let mut rooms = rooms;
+    match numbers.get(id) {
+        Some(number) => Some(rooms.swap_remove(*number)),
+        None => None,
+    }
+}
+
 /// Makes space for a room that is made, and for its entry, and gives the room back. What can fail is done here.
 pub(crate) fn reserve_room(
     rooms: &mut Vec<Room>,

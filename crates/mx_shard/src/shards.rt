@@ -1,5 +1,5 @@
 // The rooms of a shard.
-ghost use Rattle.std.specs.Prelude.{◌≡◌, ◌≤◌, ◌↔◌, ◌⊎◌, [], Option, Some, None, List, true, false, IfOk, OnOk, OnErr, IsErrOf, IsTrue, All};
+ghost use Rattle.std.specs.Prelude.{◌≡◌, ◌≤◌, ◌↔◌, ◌⊎◌, [], Option, Some, None, List, true, false, IfOk, IfSome, OnOk, OnErr, IsErrOf, IsTrue, All};
 ghost use Rattle.mx_keeper.specs.Keeping.{Rose};
 ghost use Rattle.mx_keeper.specs.Places.{is_at};
 ghost use Rattle.mx_keeper.specs.declared.rows.ShardRow.{ShardRow};
@@ -13,7 +13,7 @@ use crate::answers::Answer;
 use crate::asking::answer_among;
 use crate::holders::Holder;
 use crate::holding::is_held_among;
-use crate::hosting::{Hosting, add_room, hosting_in, remove_room, reserve_room};
+use crate::hosting::{Hosting, add_room, hosting_in, remove_room, reserve_room, taken_room};
 use crate::journal_places::JournalPlace;
 use crate::offering::{Offering, discard_in, install_in, offering_in};
 use crate::reopening::reopened_in;
@@ -345,6 +345,14 @@ impl<K: Keeper<Row = ShardRow>> Shard<K> {
         ensures { result ≡ has_id self.now.journal id.now }
     {
         is_held_among(&self.rooms, &self.holders, id)
+    }
+
+    /// The room with this id, where it is hosted.
+    pub fn into_room(self, id: &RoomId) -> Option<Room>
+        ensures room { IfSome result (λ room. room ≡ record { id = id.now; kept = record_of self.journal id.now; prepared = None }) }
+        ensures absent { result ≡ None → record_of self.journal id.now ≡ [] }
+    {
+        taken_room(self.rooms, &self.numbers, id)
     }
 
     /// What keeps its rows.

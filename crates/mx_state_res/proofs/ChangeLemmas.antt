@@ -27,11 +27,11 @@ use Rattle.mx_state_res.proofs.NumberedConflictLemmas.{alike, at-sorted, unconfl
 
 -- ---- entries that pass a test
 
-abbrev kept : (Key × ℕ → Bool) → Key → Option ℕ → Option ℕ
+abbrev pub kept : (Key × ℕ → Bool) → Key → Option ℕ → Option ℕ
 kept test k None = None
 kept test k (Some p) = cond (test (k, p)) (Some p) None
 
-entry-filter : (test : Key × ℕ → Bool) (k : Key) (s : State) → Sorted s → entry (filter test s) k ≡ kept test k (entry s k)
+pub entry-filter : (test : Key × ℕ → Bool) (k : Key) (s : State) → Sorted s → entry (filter test s) k ≡ kept test k (entry s k)
 entry-filter test k [] h = refl
 entry-filter test k (f ∷ s) h = by (is_eq (key_cmp k f.0)) refl (test f) refl (entry-filter test k s (second _ _ h))
   where

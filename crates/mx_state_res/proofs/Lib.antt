@@ -31,6 +31,7 @@ pub mod EntryLemmas
 pub mod DifferingLemmas
 pub mod ShownLemmas
 pub mod ChangeLemmas
+pub mod ChangedKeyLemmas
 pub mod NumberedConflictLemmas
 pub mod KeyChangeLemmas
 pub mod LongerRecordLemmas

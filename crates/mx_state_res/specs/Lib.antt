@@ -14,3 +14,4 @@ pub mod KeyNumbers
 pub mod RowSets
 pub mod LaterResolution
 pub mod KeptResolutions
+pub mod ChangedKeys

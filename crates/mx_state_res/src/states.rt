@@ -10,6 +10,7 @@ ghost use Rattle.mx_state_res.specs.MemberKeys.{is_member_key};
 ghost use Rattle.mx_state_res.specs.Numbered.{AllAlike, events_at, state_at, without};
 ghost use Rattle.mx_state_res.specs.Resolution.{overwritten};
 
+mod change_sizes;
 pub(crate) mod event_tests;
 mod key_events;
 pub(crate) mod key_numbers;

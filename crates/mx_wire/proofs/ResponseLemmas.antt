@@ -1,6 +1,6 @@
 -- What a request is answered by an engine, and what a refused one leaves.
 use Rattle.std.proofs.Common.{◌≡◌, ℕ, List, refl, sym, subst, inl}
-use Rattle.std.specs.Prelude.{Ok, Err}
+use Rattle.std.specs.Prelude.{Option, None, Some, Ok, Err, IfSome}
 use Rattle.mx_pdu.specs.Offers.{Judge}
 use Rattle.mx_engine.specs.Views.{BerthView, AreSameViews}
 use Rattle.mx_engine.proofs.TurnLemmas.{nothing_refl}
@@ -8,7 +8,9 @@ use Rattle.mx_engine.proofs.OfferingLemmas.{same_refl}
 use Rattle.mx_requests.specs.Calls.{Call, Request, sends, asks, joins, call_of}
 use Rattle.mx_requests.specs.ReplyBodies.{Response, failure}
 use Rattle.mx_requests.specs.Requests.{Read}
-use Rattle.mx_wire.specs.Responses.{ShardViews, BookViews, IsCallAnswered, IsCallRefused, IsReadAnswered, IsReadRefused, IsResponse, IsUnanswered}
+use Rattle.mx_keeper.specs.declared.refusals.CallError.{CallError}
+use Rattle.mx_keeper.specs.declared.refusals.CallError.TheVariants as refused
+use Rattle.mx_wire.specs.Responses.{ShardViews, BookViews, IsCallAnswered, IsCallRefused, IsReadAnswered, IsReadRefused, IsResponse, IsUnanswered, unavailable}
 use Rattle.mx_requests.specs.declared.faults.Fault.{Fault}
 
 -- a request that makes a call is answered as the call
@@ -38,6 +40,21 @@ none_read caller (Err fault) shards books = (refl, refl)
 
 pub none_asked : (judges : Judge) (server : List ℕ) (caller : ℕ) (shards : ShardViews) (books : BookViews) (r : Request) → IsUnanswered judges server caller shards books shards books r
 none_asked judges server caller shards books r = none_read caller (call_of judges server r) shards books
+
+-- ---- refused requests, of which one error is told
+
+pub call_unanswered : (judges : Judge) (server : List ℕ) (caller : ℕ) (shards : ShardViews) (books : BookViews) (shards' : ShardViews) (books' : BookViews) (r : Request) (call : Call) (response : Response) (error : Option CallError) → call_of judges server r ≡ Ok call
+    → IfSome error (λ e. IsCallRefused caller call shards books shards' books' × (response ≡ unavailable e))
+    → IfSome error (λ e. IsUnanswered judges server caller shards books shards' books' r × (response ≡ unavailable e))
+call_unanswered judges server caller shards books shards' books' r call response None is told = told
+call_unanswered judges server caller shards books shards' books' r call response (Some e) is told =
+    (call_refused judges server caller shards books shards' books' r call is told.0, told.1)
+
+pub fault_unanswered : (judges : Judge) (server : List ℕ) (caller : ℕ) (shards : ShardViews) (books : BookViews) (r : Request) (response : Response) (error : Option CallError)
+    → IfSome error (λ e. (e ≡ refused.Memory) × (response ≡ unavailable e))
+    → IfSome error (λ e. IsUnanswered judges server caller shards books shards books r × (response ≡ unavailable e))
+fault_unanswered judges server caller shards books r response None told = told
+fault_unanswered judges server caller shards books r response (Some e) told = (none_asked judges server caller shards books r, told.1)
 
 -- ---- views
 

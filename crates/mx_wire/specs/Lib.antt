@@ -3,4 +3,5 @@ pub use Rattle.mx_requests.specs.CallsShown
 pub use Rattle.mx_requests.specs.ReplyBodies
 pub use Rattle.mx_requests.specs.RepliesShown
 pub use Rattle.mx_requests.specs.Requests
+pub mod CallShards
 pub mod Responses

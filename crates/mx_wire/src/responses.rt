@@ -1,5 +1,5 @@
 // The replies to requests, by an engine that callers share.
-ghost use Rattle.std.specs.Prelude.{◌≡◌, ◌≢◌, ◌⊎◌, ℕ, Err, IfErr, IfOk, IfSome, Ok, OnErr, None};
+ghost use Rattle.std.specs.Prelude.{◌≡◌, ◌≢◌, ◌⊎◌, ℕ, Err, IfErr, IfOk, IfSome, Ok, OnErr, None, Some};
 ghost use Rattle.mx_engine.specs.Seats.{IsSeatOf, book_views, seat_number, shard_views, verifier_of};
 ghost use Rattle.mx_engine.specs.Views.{AreSameViews};
 ghost use Rattle.mx_requests.specs.Calls.{asks, call_of, joins, sends};
@@ -67,69 +67,16 @@ pub fn respond<
         (shard_views seat.old) (book_views seat.old) (shard_views seat.new) (book_views seat.new) (request_shown request.now)
         × (reply_shown result.reply ≡ unavailable error)) }
 {
-    match reply_or_refusal(rt, alloc, server, engine, seat, now, request) {
-        Ok(reply) => RequestReply {
-            reply,
-            refused: None,
-        },
-        Err(error) => RequestReply {
-            reply: unavailable_reply(error),
-            refused: Some(error),
-        },
+    match read_call(alloc, server, engine.verifier(), request) {
+        Ok(call) => answer_call(rt, alloc, &server.name, engine, seat, now, call),
+        Err(fault) => refuse_request(alloc, fault),
     }
 }
 
-// The reply where no memory is left, or what keeps rows failed. It takes no memory.
-fn unavailable_reply(error: CallError) -> WireReply
-    ensures { reply_shown result ≡ unavailable error }
-{
-    match error {
-        CallError::Memory => memory_reply(),
-        CallError::Storage => storage_reply(),
-    }
-}
-
-// The reply to a request, or why there is none.
-fn reply_or_refusal<
-    K: Keeper<Row = ShardRow> + Send,
-    L: Keeper<Row = BookRow>,
-    V: Verifier + Drop,
-    G: Gate + Sync + Drop,
-    R: Threads + Wait + Sync,
->(
-    rt: &R,
-    alloc: Global,
-    server: &WireServer,
-    engine: &Engine<K, L, V, G>,
-    seat: &mut Seat<K, L>,
-    now: Moment,
-    request: &WireRequest,
-) -> Result<WireReply, CallError>
-    requires { IsSeatOf engine.now seat.old }
-    ensures seat { IsSeatOf engine.now seat.new }
-    ensures number { seat_number seat.new ≡ seat_number seat.old }
-    ensures same_shards { AreSameViews (shard_views seat.old) (shard_views seat.new) }
-    ensures same_books { AreSameViews (book_views seat.old) (book_views seat.new) }
-    ensures reply { IfOk result (λ reply. IsResponse (V.judges (verifier_of engine.now)) server.now.name now (seat_number seat.old)
-        (shard_views seat.old) (book_views seat.old) (shard_views seat.new) (book_views seat.new) (request_shown request.now) (reply_shown reply)) }
-    ensures err { OnErr result (IsUnanswered (V.judges (verifier_of engine.now)) server.now.name (seat_number seat.old)
-        (shard_views seat.old) (book_views seat.old) (shard_views seat.new) (book_views seat.new) (request_shown request.now)) }
-{
-    let verifier = engine.verifier();
-    match read_alone(alloc, server, verifier, request) {
-        Ok(call) => {
-            let reply = answer_call(rt, alloc, engine, seat, &server.name, now, call)?;
-            Ok(reply)
-        }
-        Err(fault) => {
-            let reply = told_fault(alloc, fault)?;
-            Ok(reply)
-        }
-    }
-}
-
-// What a request asks for, or its first fault, read over a scratch of its own.
-fn read_alone<V: Verifier>(
+/// What a request to this server asks for, or its first fault, as this judge of signatures has it. It waits for nobody.
+///
+/// `Memory` where no memory is left. Source: the Server-Server API of the Matrix specification: "Request Authentication".
+pub fn read_call<V: Verifier>(
     alloc: Global,
     server: &WireServer,
     verifier: &V,
@@ -142,6 +89,80 @@ fn read_alone<V: Verifier>(
 {
     let mut scratch = Scratch::new(alloc);
     read_request(alloc, &mut scratch, server, verifier, request)
+}
+
+/// The reply to a request with this fault. `refused` is `Memory` where the fault is want of memory, or no memory is left
+/// for the reply's bytes.
+pub fn refuse_request(alloc: Global, fault: Fault) -> RequestReply
+    ensures told { result.refused ≡ None → fault ≢ Fault.Memory }
+    ensures reply { result.refused ≡ None → reply_shown result.reply ≡ failure fault }
+    ensures refused { IfSome result.refused (λ error. (error ≡ CallError.Memory) × (reply_shown result.reply ≡ unavailable error)) }
+{
+    match told_fault(alloc, fault) {
+        Ok(reply) => RequestReply {
+            reply,
+            refused: None,
+        },
+        Err(_refused) => unavailable_reply(CallError::Memory),
+    }
+}
+
+/// The reply of the server with this name to what a request asks for at this moment, by an engine that callers share.
+///
+/// The engine is called once, and the reply is the one by its answer. `refused` is `Memory` where no memory is left, and
+/// `Storage` where what keeps rows failed, now or before. Then a query has added nothing; a join or a transaction was
+/// refused by the engine, or it was answered, and no memory was left for the bytes of its reply.
+///
+/// It waits where the engine does. Source: the Server-Server API of the Matrix specification: "Transactions", "Retrieving
+/// events", "Backfilling and retrieving missing events" and "Joining Rooms".
+pub fn answer_call<
+    K: Keeper<Row = ShardRow> + Send,
+    L: Keeper<Row = BookRow>,
+    V: Verifier + Drop,
+    G: Gate + Sync + Drop,
+    R: Threads + Wait + Sync,
+>(
+    rt: &R,
+    alloc: Global,
+    name: &ServerName,
+    engine: &Engine<K, L, V, G>,
+    seat: &mut Seat<K, L>,
+    now: Moment,
+    call: WireCall,
+) -> RequestReply
+    requires { IsSeatOf engine.now seat.old }
+    ensures seat { IsSeatOf engine.now seat.new }
+    ensures number { seat_number seat.new ≡ seat_number seat.old }
+    ensures same_shards { AreSameViews (shard_views seat.old) (shard_views seat.new) }
+    ensures same_books { AreSameViews (book_views seat.old) (book_views seat.new) }
+    ensures reply { result.refused ≡ None → IsCallAnswered name.now now (seat_number seat.old) (call_shown call)
+        (shard_views seat.old) (book_views seat.old) (shard_views seat.new) (book_views seat.new) (reply_shown result.reply) }
+    ensures refused { IfSome result.refused (λ error. IsCallRefused (seat_number seat.old) (call_shown call)
+        (shard_views seat.old) (book_views seat.old) (shard_views seat.new) (book_views seat.new)
+        × (reply_shown result.reply ≡ unavailable error)) }
+{
+    match call_reply(rt, alloc, engine, seat, name, now, call) {
+        Ok(reply) => RequestReply {
+            reply,
+            refused: None,
+        },
+        Err(error) => unavailable_reply(error),
+    }
+}
+
+// The reply where no memory is left, or what keeps rows failed. It takes no memory.
+fn unavailable_reply(error: CallError) -> RequestReply
+    ensures reply { reply_shown result.reply ≡ unavailable error }
+    ensures refused { result.refused ≡ Some error }
+{
+    let reply = match error {
+        CallError::Memory => memory_reply(),
+        CallError::Storage => storage_reply(),
+    };
+    RequestReply {
+        reply,
+        refused: Some(error),
+    }
 }
 
 // The reply that tells a fault, unless it is want of memory.
@@ -158,8 +179,8 @@ fn told_fault(alloc: Global, fault: Fault) -> Result<WireReply, CallError>
     }
 }
 
-// The reply to a call.
-fn answer_call<
+// The reply to a call, or why there is none.
+fn call_reply<
     K: Keeper<Row = ShardRow> + Send,
     L: Keeper<Row = BookRow>,
     V: Verifier + Drop,

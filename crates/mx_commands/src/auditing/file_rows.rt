@@ -2,7 +2,6 @@
 ghost use Rattle.std.specs.Prelude.{IfOk, IsTrue};
 ghost use Rattle.sqlite_disk.specs.Memory.{memory_is_usable};
 
-use crate::auditing::log_rows::add_rows;
 use crate::output::{Failure, FailureAbout};
 use mx_directory::ProgressLine;
 use mx_keeper::{Keeper, MOST_PLACES, ShardRow, SqliteKeeper};
@@ -42,6 +41,14 @@ pub(crate) fn rows_of_directory(
         progress.tell(all.len() as u64, "rows read");
     }
     Ok(all)
+}
+
+// Adds rows behind others.
+fn add_rows(all: &mut Vec<ShardRow>, rows: Vec<ShardRow>) -> Result<(), AllocError> {
+    for row in rows {
+        all.push(row)?;
+    }
+    Ok(())
 }
 
 // A file that gives no rows.

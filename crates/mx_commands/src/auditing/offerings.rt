@@ -1,11 +1,12 @@
 // What became of the events that the lines of a log offer to one room.
-mod event_faults;
 mod malformed;
 mod offerers;
 mod open_transactions;
 mod refused;
 
-use crate::auditing::offerings::malformed::{hosting_value, malformed_among, values_in};
+use crate::auditing::offerings::malformed::{
+    has_no_more, hosting_value, malformed_among, values_in,
+};
 use crate::auditing::offerings::offerers::Offerer;
 use crate::auditing::offerings::open_transactions::OpenTransactions;
 use crate::auditing::offerings::refused::{cause_of_host, cause_of_refusal};
@@ -184,6 +185,9 @@ impl Offerings {
             return Ok(());
         }
         self.open.open(self.alloc, key, events)?;
+        if has_no_more(&self.line, key, events) {
+            return Ok(());
+        }
         match values_in(self.alloc, &mut self.scratch, &self.line)? {
             Some(values) if values.len() != events.len() => {
                 self.add_malformed(Offerer::sending(key), &values)

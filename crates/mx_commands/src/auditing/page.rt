@@ -1,12 +1,9 @@
 // The page of a room.
-ghost use Rattle.std.specs.Prelude.{◌≡◌};
-ghost use Rattle.mx_receipt.specs.Receipt.{rows_of};
-
 use crate::auditing::offerings::NotKept;
-use crate::auditing::telling::{of_graph, write_bytes};
+use crate::auditing::telling::write_bytes;
 use crate::output::Failure;
-use mx_audit::{RoomAudit, room_graph};
-use mx_graph::{EventNo, Graph};
+use mx_audit::RoomAudit;
+use mx_graph::EventNo;
 use mx_ident::RoomId;
 use mx_page::{
     data_end, data_start, page_end, page_entry, page_head, refused_entry, refused_start,
@@ -26,25 +23,17 @@ pub(crate) fn tell_page<W: Write>(
     write_pieces(out, &page_head())?;
     let start = data_start(alloc, room)?;
     write_bytes(out, &start)?;
-    let graph = room_graph(alloc, audit.timeline()).map_err(of_graph)?;
-    tell_entries(alloc, audit, &graph, out)?;
+    tell_entries(alloc, audit, out)?;
     write_bytes(out, refused_start().as_bytes())?;
     tell_not_kept(alloc, not_kept, out)?;
     write_bytes(out, data_end().as_bytes())?;
     write_pieces(out, &page_end())
 }
 
-fn tell_entries<W: Write>(
-    alloc: Global,
-    audit: &RoomAudit,
-    graph: &Graph,
-    out: &mut W,
-) -> Result<(), Failure>
-    requires { graph.now ≡ rows_of audit.now }
-{
+fn tell_entries<W: Write>(alloc: Global, audit: &RoomAudit, out: &mut W) -> Result<(), Failure> {
     timeline_is_sound(audit.timeline());
     for number in 0..audit.timeline().len() {
-        if let Some(text) = page_entry(alloc, audit, graph, EventNo::at(number as u32))? {
+        if let Some(text) = page_entry(alloc, audit, EventNo::at(number as u32))? {
             write_bytes(out, &text)?;
         }
     }

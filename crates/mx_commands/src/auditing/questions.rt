@@ -1,12 +1,11 @@
 // Questions about one event each.
-ghost use Rattle.std.specs.Prelude.{◌≡◌, ◌<◌, length};
-ghost use Rattle.mx_receipt.specs.Receipt.{rows_of};
+ghost use Rattle.std.specs.Prelude.{◌<◌, length};
 
 use crate::auditing::records::RoomRecord;
-use crate::auditing::telling::{of_graph, tell_event, write_bytes};
+use crate::auditing::telling::{tell_event, write_bytes};
 use crate::output::Failure;
-use mx_audit::{RoomAudit, lines_of_resolution, resolution_before, room_graph, state_lines};
-use mx_graph::{EventNo, Graph};
+use mx_audit::{RoomAudit, lines_of_resolution, resolution_before, state_lines};
+use mx_graph::EventNo;
 use mx_ident::EventId;
 use mx_options::{AskedOf, EventQuestion};
 use mx_state_res::StateRef;
@@ -27,10 +26,7 @@ pub(crate) fn tell_answers<W: Write>(
         find_event(record, question)?;
     }
     match &record.audit {
-        Some(audit) => {
-            let graph = room_graph(alloc, audit.timeline()).map_err(of_graph)?;
-            tell_each(alloc, record, audit, &graph, questions, out)
-        }
+        Some(audit) => tell_each(alloc, record, audit, questions, out),
         None => tell_each_refused(alloc, record, questions, out),
     }
 }
@@ -39,16 +35,13 @@ fn tell_each<W: Write>(
     alloc: Global,
     record: &RoomRecord,
     audit: &RoomAudit,
-    graph: &Graph,
     questions: &[EventQuestion],
     out: &mut W,
-) -> Result<(), Failure>
-    requires { graph.now ≡ rows_of audit.now }
-{
+) -> Result<(), Failure> {
     for question in questions {
         tell_head(alloc, record, question, questions.len(), out)?;
         if let Some(number) = audit.timeline().find(&question.event) {
-            tell_of(alloc, audit, graph, question.asked, number, out)?;
+            tell_of(alloc, audit, question.asked, number, out)?;
         }
     }
     Ok(())
@@ -137,13 +130,11 @@ fn tell_refused<W: Write>(
 fn tell_of<W: Write>(
     alloc: Global,
     audit: &RoomAudit,
-    graph: &Graph,
     asked: AskedOf,
     number: EventNo,
     out: &mut W,
 ) -> Result<(), Failure>
-    requires below { number < length audit.now }
-    requires graph { graph.now ≡ rows_of audit.now }
+    requires { number < length audit.now }
 {
     match asked {
         AskedOf::Event => tell_event(alloc, audit, number, out),
@@ -153,7 +144,7 @@ fn tell_of<W: Write>(
         AskedOf::StateAfter => {
             tell_state(alloc, audit, &audit.timeline().state_after(number), out)
         }
-        AskedOf::Resolution => tell_resolution(alloc, audit, graph, number, out),
+        AskedOf::Resolution => tell_resolution(alloc, audit, number, out),
     }
 }
 
@@ -170,14 +161,12 @@ fn tell_state<W: Write>(
 fn tell_resolution<W: Write>(
     alloc: Global,
     audit: &RoomAudit,
-    graph: &Graph,
     number: EventNo,
     out: &mut W,
 ) -> Result<(), Failure>
-    requires below { number < length audit.now }
-    requires graph { graph.now ≡ rows_of audit.now }
+    requires { number < length audit.now }
 {
-    let steps = resolution_before(alloc, audit.timeline(), graph, number)?;
+    let steps = resolution_before(alloc, audit.timeline(), audit.graph(), number)?;
     let lines = lines_of_resolution(alloc, audit.timeline(), &steps)?;
     write_bytes(out, &lines)
 }

@@ -1,5 +1,5 @@
 // What is known of a room.
-use crate::auditing::log_rows::Logged;
+use crate::auditing::logged::Logged;
 use crate::auditing::offerings::{LineCounts, NotKept};
 use crate::output::Failure;
 use mx_audit::{AuditError, RoomAudit};
@@ -35,19 +35,14 @@ impl RoomRecord {
         })
     }
 
-    /// Of a room by a log.
-    pub(crate) fn of_log(
-        alloc: Global,
-        room: &RoomId,
-        logged: Logged,
-        progress: &mut ProgressLine<'_>,
-    ) -> Result<RoomRecord, Failure> {
+    /// Of a room by a log, each of whose events was judged when it came.
+    pub(crate) fn of_log(alloc: Global, logged: Logged) -> Result<RoomRecord, AllocError> {
         let Logged {
-            rows,
+            timeline,
             mut not_kept,
             counts,
         } = logged;
-        let audit = audit_of(alloc, room, rows, progress)?;
+        let audit = timeline.map(RoomAudit::of_timeline);
         if let Some(audit) = &audit {
             name_missing(alloc, audit.timeline(), &mut not_kept)?;
         }
@@ -82,7 +77,7 @@ fn audit_of(
 fn receive_row(alloc: Global, audit: &mut Option<RoomAudit>, row: ShardRow) -> Result<(), Failure> {
     let id = row.event.event_id(alloc)?;
     match audit {
-        Some(audit) => audit.receive(alloc, row.event, id).map_err(of_audit),
+        Some(audit) => audit.receive(row.event, id).map_err(of_audit),
         None => {
             let begun = RoomAudit::begin(alloc, row.event, id).map_err(of_audit)?;
             *audit = Some(begun);

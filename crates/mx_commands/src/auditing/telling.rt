@@ -5,7 +5,7 @@ use crate::auditing::questions::tell_answers;
 use crate::auditing::records::RoomRecord;
 use crate::output::Failure;
 use mx_audit::{RoomAudit, event_line, picture_end, picture_head, picture_lines};
-use mx_graph::{EventNo, GraphError};
+use mx_graph::EventNo;
 use mx_ident::RoomId;
 use mx_options::AuditQuestion;
 use mx_receipt::timeline_is_sound;
@@ -95,14 +95,6 @@ pub(crate) fn tell_event<W: Write>(
     match event_line(alloc, audit, number)? {
         Some(line) => write_bytes(out, &line),
         None => Ok(()),
-    }
-}
-
-// Events that make no graph are no room's.
-pub(crate) fn of_graph(error: GraphError) -> Failure {
-    match error {
-        GraphError::Memory => Failure::Memory,
-        GraphError::NotAdded(_) => Failure::Storage,
     }
 }
 

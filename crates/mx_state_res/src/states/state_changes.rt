@@ -1,9 +1,10 @@
 // What is to be changed in a state to make another.
-ghost use Rattle.std.specs.Prelude.{◌≡◌, ◌<◌, ◌≤◌, ◌+◌, ◌⊎◌, ◌∷◌, All, IfOk, IsTrue, [], length};
+ghost use Rattle.std.specs.Prelude.{◌≡◌, ◌<◌, ◌≤◌, ◌+◌, ◌∷◌, All, IfOk, IsTrue, [], length};
 ghost use Rattle.mx_state_res.specs.Numbered.{change_size, edited, really_put, really_taken, restored, state_at, without};
 
 use crate::state_maps::StateMap;
 use crate::states::States;
+use crate::states::change_sizes::{StateEdit, least_of};
 use crate::states::state_numbers::StateNo;
 use std::alloc::{AllocError, Global};
 
@@ -36,7 +37,11 @@ impl StateChange {
 /// it. Without those keys the others are `base` without them. It is of the state in which the fewest keys are changed.
 ///
 /// The first and the last state are looked at first, as often one of them is what is to be made. Where a change is of no
-/// key, no other one is less, and the rest is not looked at.
+/// key, no other one is less, and the rest is not looked at. Of changes of equally many keys, the one of the state that is
+/// looked at first is taken: `base`, then the last of the others, then the rest in their order.
+///
+/// At most two changes are worked out whole, that of `base` and that which is taken. Of how many keys another one is
+/// follows from that of `base` and from the keys at which the two states differ.
 pub(crate) fn least_change(
     alloc: Global,
     states: &States,
@@ -56,60 +61,20 @@ pub(crate) fn least_change(
         ≤ change_size taken.now (state_at states.now number) puts.now) (base ∷ others.now)) }
 {
     let first = change_of(alloc, states, base, taken, puts)?;
-    let Some((last, between)) = others.split_last() else {
-        return Ok(first);
+    let size = first.len();
+    let edit = StateEdit {
+        states,
+        taken,
+        puts,
+        base,
+        size,
     };
-    if first.is_empty() {
+    let least = least_of(alloc, &edit, others)?;
+    if least == base {
         return Ok(first);
     }
-    let newest = change_of(alloc, states, *last, taken, puts)?;
-    let known = lesser(first, newest);
-    let least = lesser_change(alloc, states, known, base, between, taken, puts)?;
-    Ok(least)
-}
-
-// The change of the fewest keys, of these states and the one that is known.
-fn lesser_change(
-    alloc: Global,
-    states: &States,
-    known: StateChange,
-    base: StateNo,
-    others: &[StateNo],
-    taken: &StateMap,
-    puts: &StateMap,
-) -> Result<StateChange, AllocError>
-    requires others { All (λ number. number < length states.now) others.now }
-    requires alike { All (λ number. without taken.now (state_at states.now number)
-        ≡ without taken.now (state_at states.now base)) others.now }
-    requires parent { known.parent < length states.now }
-    requires made { edited known.taken (state_at states.now known.parent) known.puts
-        ≡ edited taken.now (state_at states.now base) puts.now }
-    ensures parent { IfOk result (λ change. change.parent < length states.now) }
-    ensures made { IfOk result (λ change. edited change.taken (state_at states.now change.parent) change.puts
-        ≡ edited taken.now (state_at states.now base) puts.now) }
-    ensures no_more { IfOk result (λ change. length change.taken + length change.puts
-        ≤ length known.taken + length known.puts) }
-    ensures least { IfOk result (λ change. All (λ number. length change.taken + length change.puts
-        ≤ change_size taken.now (state_at states.now number) puts.now) others.now) }
-{
-    let mut least = known;
-    for number in others {
-        if least.is_empty() {
-            return Ok(least);
-        }
-        let change = change_of(alloc, states, *number, taken, puts)?;
-        least = lesser(least, change);
-    }
-    Ok(least)
-}
-
-// The change of fewer keys.
-fn lesser(one: StateChange, other: StateChange) -> StateChange
-    ensures one_of { (result ≡ one) ⊎ (result ≡ other) }
-    ensures one { length result.taken + length result.puts ≤ length one.taken + length one.puts }
-    ensures other { length result.taken + length result.puts ≤ length other.taken + length other.puts }
-{
-    if other.len() < one.len() { other } else { one }
+    let change = change_of(alloc, states, least, taken, puts)?;
+    Ok(change)
 }
 
 fn change_of(

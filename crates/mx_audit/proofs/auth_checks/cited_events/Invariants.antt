@@ -6,4 +6,4 @@ use Rattle.mx_audit.proofs.auth_checks.cited_events.Given as goal
 
 -- those so far
 abbrev pub invariant-loop-number : goal.invariant-loop-number
-invariant-loop-number l = map cited_shown l.cited.items ≡ map (cited_in (rows_of l.timeline.kept)) (take l.number-index l.numbers)
+invariant-loop-number l = map cited_shown l.cited.items ≡ map (cited_in (rows_of l.earlier)) (take l.number-index l.numbers)

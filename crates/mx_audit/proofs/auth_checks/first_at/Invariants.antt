@@ -9,5 +9,5 @@ use Rattle.mx_audit.proofs.auth_checks.first_at.Given as goal
 -- none was found, so the others decide
 abbrev pub invariant-loop-event : goal.invariant-loop-event
 invariant-loop-event l =
-    find (λ p. is_some_and (same_key (l.kind, l.state_key)) (key_of (record_of.event (rows_of l.timeline.kept) p))) (drop l.event-index l.events)
-    ≡ find (λ p. is_some_and (same_key (l.kind, l.state_key)) (key_of (record_of.event (rows_of l.timeline.kept) p))) l.events
+    find (λ p. is_some_and (same_key (l.kind, l.state_key)) (key_of (record_of.event (rows_of l.earlier) p))) (drop l.event-index l.events)
+    ≡ find (λ p. is_some_and (same_key (l.kind, l.state_key)) (key_of (record_of.event (rows_of l.earlier) p))) l.events

@@ -1,8 +1,10 @@
 // The values of a transaction that are no events.
-use crate::auditing::offerings::event_faults::fault_of;
+use crate::event_faults::fault_of;
 use json::Scratch;
 use mx_body::{BodyError, body_value};
 use mx_lines::{EventFault, EventField};
+use mx_pdu::Offered;
+use mx_world::TransactionKey;
 use serde_json::{Map, Value};
 use std::alloc::{AllocError, Global};
 
@@ -12,6 +14,28 @@ pub(crate) struct Malformed {
     pub(crate) position: usize,
     pub(crate) field: Option<EventField>,
     pub(crate) fault: EventFault,
+}
+
+// A line that opens a transaction, with no origin, no number and no event.
+const EMPTY_OPEN: &str = "{\"origin\":\"\",\"pdus\":[],\"step\":\"open\",\"txn\":\"\"}";
+
+/// Whether it is plain that a line which opens a transaction has these events and no other value: it is as long as the
+/// shortest line that has them, in which there is no room for one more.
+pub(crate) fn has_no_more(line: &[u8], key: &TransactionKey, events: &[Offered]) -> bool {
+    line.len() == shortest_open(key, events)
+}
+
+// How long the shortest line is that opens a transaction with these events: none of its texts has an escape.
+fn shortest_open(key: &TransactionKey, events: &[Offered]) -> usize {
+    let texts = [EMPTY_OPEN, key.origin.as_str(), key.txn.as_str()];
+    let mut length = events.len().saturating_sub(1);
+    for text in texts {
+        length = length.saturating_add(text.len());
+    }
+    for event in events {
+        length = length.saturating_add(event.pdu.text().len());
+    }
+    length
 }
 
 /// The values that stand in the place of events in a line of a log: those in its `pdus`, or in the `pdus` of its `body`.

@@ -10,6 +10,6 @@ returns-clause-stay c = map-set_same part c.args.judgements.now.items c.index.re
 
 pub returns-clause-marked : goal.returns-clause-marked
 returns-clause-marked c = λ p.
-    let new : Judgement = record { verdict = c.index_mut.result.now.verdict; before = c.index_mut.result.now.before; after = c.index_mut.result.now.after; covered = true } in
+    let new : Judgement = record { verdict = c.index_mut.result.now.verdict; before = c.index_mut.result.now.before; after = c.index_mut.result.now.after; current = c.index_mut.result.now.current; covered = true } in
     marked-set c.args.judgements.now.items c.index.result new p (subst (λ n. n < length c.args.judgements.now.items) (sym c.index.ensures.index) c.requires) refl
     ∙ ap (λ n. is_marked c.args.judgements.now.items p || (n == p)) c.index.ensures.index

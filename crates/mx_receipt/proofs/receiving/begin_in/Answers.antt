@@ -1,4 +1,4 @@
-use Rattle.std.proofs.Common.{◌≡◌, ◌<◌, ◌++◌, ◌∷◌, List, [], None, false, length, refl, sym, ap, subst, ◌∙◌}
+use Rattle.std.proofs.Common.{◌≡◌, ◌<◌, ◌++◌, ◌∷◌, List, [], None, false, length, refl, sym, ap, subst, ◌∙◌, arith}
 use Rattle.mx_graph.specs.Adding.{add_error}
 use Rattle.mx_graph.specs.Graph.{IsSound}
 use Rattle.mx_graph.specs.Record.{Row}
@@ -29,7 +29,7 @@ add-requires-clause-right c =
 pub returns-clause-held : goal.returns-clause-held
 returns-clause-held c =
     let row : Row = record { id = c.args.id; event = c.args.event; rejected = false } in
-    let j : Judgement = record { verdict = Accepted; before = c.in_ok-before.before; after = c.in_ok-after.after; covered = false } in
+    let j : Judgement = record { verdict = Accepted; before = c.in_ok-before.before; after = c.in_ok-after.after; current = c.in_ok-before.before; covered = false } in
     let mid : List State = c.state_after.new.states in
     let rows : c.add.new.graph ≡ row ∷ [] = c.in_ok-prepared.ensures.rows ∙ ap (λ (rs : List Row). rs ++ row ∷ []) c.requires.rows in
     let judgements : c.add.new.judgements.items ≡ j ∷ [] = c.in_ok-prepared.ensures.judgements ∙ ap (λ (js : List Judgement). js ++ j ∷ []) c.requires.judgements in
@@ -52,7 +52,7 @@ returns-clause-held c =
     c.add.new.states (subst (λ (rs : List Row). AreAdded (rs ++ row ∷ []) mid c.add.new.states) c.requires.rows c.in_ok-prepared.ensures.added)
     c.in_ok-prepared.prepared.current c.in_ok-prepared.ensures.below_current
     (c.in_ok-prepared.ensures.current ∙ λ i. resolve_in (rows i) (states_at (afters (judged_in mid (judgements i))) (pushed i)))
-    (none-past (row ∷ []) (Accepted ∷ []) (0 ∷ []) (is_marked (j ∷ [])) (marked-push [] j refl)) in
+    (none-past (row ∷ []) (Accepted ∷ []) (0 ∷ []) (is_marked (j ∷ [])) (marked-push [] j refl)) first (λ l. absurd (omega arith)) in
     subst (λ rs. IsHeld rs c.add.new.states c.add.new.judgements.items c.in_ok-prepared.prepared.extremities.items c.in_ok-prepared.prepared.current) (sym rows)
     (subst (λ (js : List Judgement). IsHeld (row ∷ []) c.add.new.states js c.in_ok-prepared.prepared.extremities.items c.in_ok-prepared.prepared.current) (sym judgements)
     (subst (λ es. IsHeld (row ∷ []) c.add.new.states (j ∷ []) es c.in_ok-prepared.prepared.current) (sym (c.in_ok-prepared.ensures.extremities ∙ pushed)) base))

@@ -81,6 +81,8 @@ returns-clause-added c =
     (same-verdicts c.args.states.now c.deref.result.now ∙ verdicts) (c.in_ok-judged.ensures.judged c.args.taken.id).are_next)
     (subst (λ (is : List Judgement). AreCovered c.args.graph.now is (prev_events c.args.graph.now c.args.taken.event) c.in_ok-judged.judged.judgement.verdict c.in_ok-judged.judged.covered.items) c.deref.ensures.value c.in_ok-judged.ensures.covered)
     (λ p e. in-all (λ q. q < length c.args.graph.now) (prev_events c.args.graph.now c.args.taken.event) p (subst (All (λ q. q < length c.args.graph.now)) c.in_ok-cited.ensures.prev c.in_ok-cited.ensures.known_prev) e) in
+    let is_verdict : c.in_ok-judged.judged.judgement.verdict ≡ verdict (kept_of c.args.graph.now (judged_in c.args.states.now js)) c.args.taken.event =
+    c.in_ok-judged.ensures.verdict ∙ ap (λ (is : List Judgement). verdict (kept_of c.args.graph.now (judged_in c.args.states.now is)) c.args.taken.event) c.deref.ensures.value in
     let base : IsHeld (c.args.graph.now ++ row ∷ []) c.add.new.states (c.args.judgements.now.items ++ c.in_ok-judged.judged.judgement ∷ []) c.in_ok-judged.judged.extremities.items c.in_ok-prepared.prepared.current =
     held-push c.args.graph.now c.args.states.now c.args.judgements.now.items c.args.latest.now.extremities.now c.args.latest.now.current c.requires.held
     (record { id = c.args.taken.id; event = c.args.taken.event; rejected = c.is_rejected.result }) c.in_ok-judged.judged.judgement c.in_ok-judged.judged.extremities.items c.judged_event.new.states
@@ -93,11 +95,12 @@ returns-clause-added c =
     (c.in_ok-prepared.ensures.current ∙ λ i. resolve_in (rows i) (states_at (afters (judged_in c.judged_event.new.states (judgements i))) c.in_ok-judged.judged.extremities.items))
     (past-fewer (c.args.graph.now ++ row ∷ []) (verdicts_in (c.args.judgements.now.items ++ c.in_ok-judged.judged.judgement ∷ [])) c.in_ok-judged.judged.extremities.items
     (λ p. is_marked (c.args.judgements.now.items ++ c.in_ok-judged.judged.judgement ∷ []) p || is_in c.in_ok-judged.judged.covered.items p) (is_marked (c.args.judgements.now.items ++ c.in_ok-judged.judged.judgement ∷ []))
-    (λ p e. or_left (is_marked (c.args.judgements.now.items ++ c.in_ok-judged.judged.judgement ∷ []) p) (is_in c.in_ok-judged.judged.covered.items p) e) past) in
+    (λ p e. or_left (is_marked (c.args.judgements.now.items ++ c.in_ok-judged.judged.judgement ∷ []) p) (is_in c.in_ok-judged.judged.covered.items p) e) past)
+    c.in_ok-judged.ensures.current (λ l. is_verdict) in
     record {
       judgement = c.in_ok-judged.judged.judgement;
       more = more.more;
-      is_verdict = c.in_ok-judged.ensures.verdict ∙ ap (λ (js : List Judgement). verdict (kept_of c.args.graph.now (judged_in c.args.states.now js)) c.args.taken.event) c.deref.ensures.value;
+      is_verdict = is_verdict;
       are_rows = rows ∙ ap (λ b. c.args.graph.now ++ record { id = c.args.taken.id; event = c.args.taken.event; rejected = b } ∷ []) c.is_rejected.ensures;
       are_states = more.are;
       are_judgements = judgements;

@@ -6,5 +6,5 @@ use Rattle.mx_audit.proofs.auth_checks.StateOfEvents.place_at.Goals as goal
 
 pub returns-clause-number : goal.returns-clause-number
 returns-clause-number c =
-    c.first_at.ensures.first ∙ sym (entry-state_of (rows_of c.self.inside.timeline.now.kept) c.self.inside.events.now (c.args.kind.now, c.args.key.now))
+    c.first_at.ensures.first ∙ sym (entry-state_of (rows_of c.self.inside.earlier.now) c.self.inside.events.now (c.args.kind.now, c.args.key.now))
     ∙ ap (λ s. entry (state_of (rows_of s.0) s.1) (c.args.kind.now, c.args.key.now)) c.self.view_is

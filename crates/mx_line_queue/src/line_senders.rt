@@ -1,0 +1,135 @@
+// What hands lines to who writes them.
+
+use crate::line_queues::LineQueue;
+use std::alloc::{AllocError, Global};
+use std::sync::{Arc, Condvar, Mutex, Wait};
+use std::time::{Clock, Duration};
+
+/// What is to be written next.
+#[derive(Drop)]
+pub(crate) enum NextLine {
+    // A line, with its end.
+    Line(Vec<u8>),
+    // That so many lines were dropped.
+    Dropped(u64),
+}
+
+// The lines that wait, whether more will come, and whether one is being written.
+#[derive(Drop)]
+struct LineState {
+    lines: LineQueue,
+    is_closed: bool,
+    is_writing: bool,
+}
+
+impl LineState {
+    // What is written next; none where nothing waits.
+    fn next(&mut self) -> Option<NextLine> {
+        if let Some(line) = self.lines.next_line() {
+            return Some(NextLine::Line(line));
+        }
+        match self.lines.take_dropped() {
+            0 => None,
+            count => Some(NextLine::Dropped(count)),
+        }
+    }
+
+    // Whether all that came is written.
+    fn is_written(&self) -> bool {
+        self.lines.is_empty() && !self.is_writing
+    }
+}
+
+#[derive(Drop)]
+struct SharedLines {
+    state: Mutex<LineState>,
+    changed: Condvar,
+}
+
+/// Hands lines to who writes them, from any thread. It never waits for a write.
+#[derive(Drop)]
+pub struct LineSender {
+    shared: Arc<SharedLines>,
+}
+
+impl LineSender {
+    /// No line was handed over yet, and so many may wait.
+    pub fn new(alloc: Global, most: usize) -> Result<LineSender, AllocError> {
+        let lines = LineQueue::new(alloc, most)?;
+        let state = LineState {
+            lines,
+            is_closed: false,
+            is_writing: false,
+        };
+        let shared = SharedLines {
+            state: Mutex::new(state),
+            changed: Condvar::new(),
+        };
+        Ok(LineSender {
+            shared: Arc::new(alloc, shared)?,
+        })
+    }
+
+    /// The same, for another thread.
+    pub fn another(&self) -> Result<LineSender, AllocError> {
+        Ok(LineSender {
+            shared: Arc::try_clone(&self.shared)?,
+        })
+    }
+
+    /// Hands a line over, with its end. Where there is no room for it, it is counted.
+    pub fn send<R: Wait>(&self, rt: &R, line: Vec<u8>) {
+        self.shared.state.lock(rt).lines.add(line);
+        self.shared.changed.notify_all();
+    }
+
+    /// Counts a line that could not be made, since no memory was left.
+    pub fn send_dropped<R: Wait>(&self, rt: &R) {
+        self.shared.state.lock(rt).lines.add_dropped();
+        self.shared.changed.notify_all();
+    }
+
+    /// Hands over a text as a line. Where no memory is left for it, it is counted.
+    pub fn send_text<R: Wait>(&self, rt: &R, text: Result<String, AllocError>) {
+        match ended(text) {
+            Ok(line) => self.send(rt, line),
+            Err(_refused) => self.send_dropped(rt),
+        }
+    }
+
+    /// No line comes any more. It waits until all are written, or for so long.
+    pub fn close<R: Wait + Clock>(&self, rt: &R, longest: Duration) {
+        let mut state = self.shared.state.lock(rt);
+        state.is_closed = true;
+        self.shared.changed.notify_all();
+        let _ = self
+            .shared
+            .changed
+            .wait_timeout_while(rt, state, longest, |state| !state.is_written());
+    }
+
+    /// What is to be written next, for which it waits. None once no line comes any more, and all are written.
+    pub(crate) fn next<R: Wait>(&self, rt: &R) -> Option<NextLine> {
+        let mut state = self.shared.state.lock(rt);
+        for _ in rt.forever() {
+            let next = state.next();
+            state.is_writing = next.is_some();
+            if next.is_some() {
+                return next;
+            }
+            self.shared.changed.notify_all();
+            if state.is_closed {
+                return None;
+            }
+            state = self.shared.changed.wait(rt, state);
+        }
+        unreachable!()
+    }
+}
+
+// A text with the end of its line.
+fn ended(text: Result<String, AllocError>) -> Result<Vec<u8>, AllocError> {
+    let mut line = text?;
+    line.push('\n')?;
+    Ok(line.into_bytes())
+}

@@ -1,0 +1,97 @@
+// What requests ask for, and which shards they go to.
+use crate::sending::sent_plainly;
+use mx_http::{AskedCall, Claim, HttpReply, HttpRequest, ReadRequest};
+use mx_keeper::ShardCount;
+use mx_pdu::PresenceVerifier;
+use mx_room::Query;
+use mx_wire::{
+    CallShards, RequestReply, WireCall, WireRequest, WireServer, read_call, refuse_request,
+    shards_of,
+};
+use std::alloc::Global;
+
+// How many bytes a body has that is read in a moment.
+const SHORT_BODY: usize = 1024;
+// The status where the request has another method than its target.
+const METHOD_NOT_ALLOWED: u16 = 405;
+
+/// Reads requests: the server that they are to, and how many shards it has.
+#[derive(Drop)]
+pub struct RequestReader {
+    pub server: WireServer,
+    pub shards: ShardCount,
+}
+
+impl RequestReader {
+    /// Whether a request is read in a moment: one with a short body, or with another method than its path has.
+    pub fn is_short(&self, request: &HttpRequest) -> bool {
+        request.body.len() <= SHORT_BODY || !self.has_its_method(request)
+    }
+
+    fn has_its_method(&self, request: &HttpRequest) -> bool {
+        match self.server.method_at(&request.target) {
+            Some(method) => request.method.as_str() == method,
+            None => false,
+        }
+    }
+
+    /// What a request asks for, or the reply that tells its fault.
+    pub fn read(&self, alloc: Global, request: HttpRequest) -> ReadRequest<WireCall> {
+        let request = asked(request);
+        match read_call(alloc, &self.server, &PresenceVerifier, &request) {
+            Ok(call) => ReadRequest::Asking(AskedCall {
+                claim: claim_of(shards_of(&call, self.shards)),
+                is_quick: is_quick(&call),
+                call,
+            }),
+            Err(fault) => {
+                let RequestReply { reply, .. } = refuse_request(alloc, fault);
+                let mut refusal = sent_plainly(reply);
+                self.tell_method(alloc, &request, &mut refusal);
+                ReadRequest::Refused(refusal)
+            }
+        }
+    }
+
+    // Where the target of a request has another method, that is told. Where no memory is left for it, it is not.
+    fn tell_method(&self, alloc: Global, request: &WireRequest, refusal: &mut HttpReply) {
+        if refusal.status == METHOD_NOT_ALLOWED {
+            if let Some(method) = self.server.method_at(&request.target) {
+                refusal.allowed = String::from_str(alloc, method).ok();
+            }
+        }
+    }
+}
+
+fn asked(request: HttpRequest) -> WireRequest {
+    let HttpRequest {
+        method,
+        target,
+        authorization,
+        body,
+    } = request;
+    WireRequest {
+        method,
+        target,
+        authorization,
+        body,
+    }
+}
+
+// What a call claims that goes to these shards.
+fn claim_of(shards: CallShards) -> Claim {
+    match shards {
+        CallShards::Nowhere => Claim::Nothing,
+        CallShards::Asks(shard) => Claim::Asks(shard),
+        CallShards::Changes(shard) => Claim::Changes(shard),
+        CallShards::Several => Claim::Several,
+    }
+}
+
+// Whether a call is answered in a moment where nobody else is at its shards: an event by its id.
+fn is_quick(call: &WireCall) -> bool {
+    match call {
+        WireCall::Asks { query, .. } => matches!(query, Query::Event(_)),
+        WireCall::Sends { .. } | WireCall::Joins { .. } => false,
+    }
+}
