@@ -123,10 +123,10 @@ def getting(origin: str, path: str) -> Request:
     return "GET", FEDERATION + path, header(origin)
 
 
-def base_room(folder: Path, *words: object) -> tuple[Server, Base]:
+def base_room(folder: Path, *words: object, **how: Any) -> tuple[Server, Base]:
     """A server over new files that hosts the room of the rows, and the events of that room."""
     base = Base(Log())
-    server = Server(folder / "base", *words, hosts=[host_line(base.create)])
+    server = Server(folder / "base", *words, hosts=[host_line(base.create)], **how)
     events = [base.join_a, base.levels, base.rules, base.join_b, base.join_c]
     status, _ = server.ask(*sending("a.example", "base", events))
     assert status == 200

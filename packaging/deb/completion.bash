@@ -7,8 +7,16 @@ _mx_federd() {
         mapfile -t COMPREPLY < <(compgen -d -- "$word")
         return
         ;;
-    --host | --rooms)
+    --host | --rooms | --log)
         mapfile -t COMPREPLY < <(compgen -f -- "$word")
+        return
+        ;;
+    --log-level)
+        mapfile -t COMPREPLY < <(compgen -W "info warn error" -- "$word")
+        return
+        ;;
+    --log-format)
+        mapfile -t COMPREPLY < <(compgen -W "text json" -- "$word")
         return
         ;;
     esac

@@ -8,8 +8,9 @@ use mx_ident::{EventId, IdError, RoomId, ServerName};
 use mx_keeper::ShardCount;
 use mx_options::{
     AskedOf, AuditOptions, AuditQuestion, AuditSource, CheckOptions, EventQuestion, LogOptions,
-    MigrateOptions, ReplayOptions, SeatCount, ServeOptions,
+    MigrateOptions, ReplayOptions, SeatCount, ServeOptions, ServerLog,
 };
+use mx_records::{LevelFilter, RecordForm};
 use std::alloc::{AllocError, Global};
 
 /// What the program is asked to do, and the file that is read in place of standard input, if one is named.
@@ -141,6 +142,9 @@ fn serve_of(alloc: Global, given: &ArgMatches) -> Result<Command, CommandLineErr
     };
     if given.get_str("data") == Some("") {
         return misused(alloc, "--data takes a directory, whose name is not empty\n");
+    }
+    if given.get_str("log") == Some("") {
+        return misused(alloc, "--log takes a file, whose name is not empty, or -\n");
     }
     match options_of(alloc, given, name)? {
         Some(options) => Ok(Command::Serve(options)),
@@ -333,6 +337,29 @@ fn options_of(
         rooms,
         stop_on_storage: given.get_flag("stop-on-storage"),
         accept_loss: given.get_flag("accept-loss"),
+        log: server_log_of(alloc, given)?,
+        admin: given.get_one::<u16>("admin"),
+    }))
+}
+
+// The log of a server, where one is asked for.
+fn server_log_of(alloc: Global, given: &ArgMatches) -> Result<Option<ServerLog>, AllocError> {
+    let Some(file) = text_of(alloc, given, "log")? else {
+        return Ok(None);
+    };
+    let level = match given.get_str("log-level") {
+        Some("error") => LevelFilter::Error,
+        Some("warn") => LevelFilter::Warn,
+        _ => LevelFilter::Info,
+    };
+    let form = match given.get_str("log-format") {
+        Some("json") => RecordForm::Json,
+        _ => RecordForm::Text,
+    };
+    Ok(Some(ServerLog {
+        file: if file.as_str() == "-" { None } else { Some(file) },
+        form,
+        level,
     }))
 }
 

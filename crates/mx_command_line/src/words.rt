@@ -97,6 +97,21 @@ pub(crate) fn serve_words<'a>(alloc: Global) -> Result<clap::Command<'a>, AllocE
     let accept = flag_word(alloc, "accept-loss").help(
         "Start although answered rows are lost: events in no file, fewer rows than there were, a damaged write-ahead log; standard error tells which",
     );
+    let log = text_word(alloc, "log", "FILE").help(
+        "A file to whose end a line is written for each request that was answered and for what happened; - is standard error",
+    );
+    let level = choice_word(alloc, "log-level", "info", &LOG_LEVELS).help(
+        "The least that a line of the log has to matter",
+    );
+    let form = choice_word(alloc, "log-format", "text", &LOG_FORMS).help(
+        "As what a line of the log is written",
+    );
+    let admin = Arg::new(alloc, "admin")
+        .long("admin")
+        .value_name("PORT")
+        .action(ArgAction::Set)
+        .value_parser(ValueParser::unsigned(1, 65_535))
+        .help("A port on 127.0.0.1 that tells how the server is, at /health and /metrics");
     clap::Command::new(alloc, "serve")
         .about("Answers other servers' requests on 127.0.0.1")
         .after_help(
@@ -111,7 +126,23 @@ pub(crate) fn serve_words<'a>(alloc: Global) -> Result<clap::Command<'a>, AllocE
         .arg(memory)?
         .arg(rooms)?
         .arg(stop)?
-        .arg(accept)
+        .arg(accept)?
+        .arg(log)?
+        .arg(level)?
+        .arg(form)?
+        .arg(admin)
+}
+
+// How much a line of a log may have to matter, and as what it may be written.
+const LOG_LEVELS: [&str; 3] = ["info", "warn", "error"];
+const LOG_FORMS: [&str; 2] = ["text", "json"];
+
+fn choice_word<'a>(alloc: Global, name: &'a str, usual: &'a str, names: &'a [&'a str]) -> Arg<'a> {
+    Arg::new(alloc, name)
+        .long(name)
+        .default_value(usual)
+        .action(ArgAction::Set)
+        .value_parser(ValueParser::Names(names))
 }
 
 fn text_word<'a>(alloc: Global, name: &'a str, value: &'a str) -> Arg<'a> {

@@ -10,6 +10,7 @@ ghost use Rattle.std.specs.Prelude.{◌≡◌, OnErr, OnOk};
 
 mod counted_input;
 mod noted_output;
+mod server_lines;
 
 use counted_input::CountedInput;
 use mx_command_line::{Command, CommandLineError, Invocation};
@@ -17,11 +18,12 @@ use mx_commands::{
     Failure, FailureAbout, MISUSED, REFUSED, SUCCESS, audit, check, log, replay, report,
     report_about, report_server,
 };
-use mx_directory::{ProgressLine, ServerError, StartError, migrate};
-use mx_line_queue::{LineOutput, LineSender, start_writer};
+use mx_directory::{ProgressLine, StartError, migrate};
+use mx_line_queue::LineOutput;
 use mx_options::{AuditOptions, MigrateOptions, ServeOptions};
 use mx_server::serve;
 use noted_output::NotedOutput;
+use server_lines::ServerLines;
 use std::alloc::{AllocError, AllocGlobal, Global};
 use std::env;
 use std::fs::File;
@@ -31,13 +33,7 @@ use std::process::ExitCode;
 use std::random::RandomSource;
 use std::sync::Wait;
 use std::thread::Threads;
-use std::time::{Clock, Duration};
-
-// How many lines for standard error may wait to be written.
-const MOST_WAITING_LINES: usize = 1024;
-
-// How long the program waits at its end for lines to be written.
-const SECONDS_FOR_LAST_LINES: u64 = 1;
+use std::time::Clock;
 
 /// What the words of the command line leave to do.
 #[derive(Debug, Drop)]
@@ -114,8 +110,7 @@ fn status_of<E: Write>(ran: Result<(), FailureAbout>, is_closed: bool, err: &mut
     }
 }
 
-// Serves, and gives the exit status. What is said on standard error is written by a thread of its own, which nothing waits
-// for but the end of the program, for a second.
+// Serves, and gives the exit status.
 fn served<R, W: Write, E: Write>(
     rt: &R,
     host: &HostRuntime,
@@ -136,34 +131,41 @@ where
         + Sync
         + 'static,
 {
-    let lines = match lines_to(rt, host.stderr()) {
+    let lines = match ServerLines::open(rt, host, &options.log) {
         Ok(lines) => lines,
-        Err(error) => return report_server(StartError::from(error), err),
+        Err(error) => return report_server(error, err),
     };
-    let status = match serve(rt, host, options, out, &lines) {
+    let status = match served_by(rt, host, options, out, &lines) {
         Ok(()) => SUCCESS,
-        Err(error) => report_server(error, &mut LineOutput::new(rt, rt.alloc(), &lines)),
+        Err(error) => report_server(error, &mut LineOutput::new(rt, rt.alloc(), &lines.lines)),
     };
-    lines.close(rt, Duration::from_secs(SECONDS_FOR_LAST_LINES));
+    lines.close(rt);
     status
 }
 
-// What hands lines to a thread that writes them. The error is want of memory, or that the thread can't be started.
-fn lines_to<R, W>(rt: &R, out: W) -> Result<LineSender, ServerError>
+// Serves, and says what happens through these lines.
+fn served_by<R, W: Write>(
+    rt: &R,
+    host: &HostRuntime,
+    options: ServeOptions,
+    out: &mut W,
+    lines: &ServerLines,
+) -> Result<(), StartError>
 where
-    R: Threads + Wait + AllocGlobal + Copy + Send + Drop + 'static,
-    W: Write + Send + Drop + 'static,
+    R: Threads
+        + Wait
+        + Clock
+        + Net<Listener = TcpListener, Stream = TcpStream>
+        + RandomSource
+        + AllocGlobal
+        + Copy
+        + Drop
+        + Send
+        + Sync
+        + 'static,
 {
-    let Ok(lines) = LineSender::new(rt.alloc(), MOST_WAITING_LINES) else {
-        return Err(ServerError::Memory);
-    };
-    let Ok(another) = lines.another() else {
-        return Err(ServerError::Memory);
-    };
-    match start_writer(rt, another, out) {
-        Ok(()) => Ok(lines),
-        Err(_error) => Err(ServerError::Thread),
-    }
+    let told = lines.told()?;
+    serve(rt, host, options, out, told)
 }
 
 // Audits a room, and gives the exit status.

@@ -14,11 +14,12 @@ pub(crate) enum NextLine {
     Dropped(u64),
 }
 
-// The lines that wait, whether more will come, and whether one is being written.
+// The lines that wait, whether more will come, and whether who writes them waits for one, or writes.
 #[derive(Drop)]
 struct LineState {
     lines: LineQueue,
     is_closed: bool,
+    is_awaited: bool,
     is_writing: bool,
 }
 
@@ -59,6 +60,7 @@ impl LineSender {
         let state = LineState {
             lines,
             is_closed: false,
+            is_awaited: false,
             is_writing: false,
         };
         let shared = SharedLines {
@@ -79,14 +81,24 @@ impl LineSender {
 
     /// Hands a line over, with its end. Where there is no room for it, it is counted.
     pub fn send<R: Wait>(&self, rt: &R, line: Vec<u8>) {
-        self.shared.state.lock(rt).lines.add(line);
-        self.shared.changed.notify_all();
+        let mut state = self.shared.state.lock(rt);
+        state.lines.add(line);
+        self.wake(&mut state);
     }
 
     /// Counts a line that could not be made, since no memory was left.
     pub fn send_dropped<R: Wait>(&self, rt: &R) {
-        self.shared.state.lock(rt).lines.add_dropped();
-        self.shared.changed.notify_all();
+        let mut state = self.shared.state.lock(rt);
+        state.lines.add_dropped();
+        self.wake(&mut state);
+    }
+
+    // Wakes who writes lines, if a line is waited for.
+    fn wake(&self, state: &mut LineState) {
+        if state.is_awaited {
+            state.is_awaited = false;
+            self.shared.changed.notify_all();
+        }
     }
 
     /// Hands over a text as a line. Where no memory is left for it, it is counted.
@@ -108,22 +120,28 @@ impl LineSender {
             .wait_timeout_while(rt, state, longest, |state| !state.is_written());
     }
 
-    /// What is to be written next, for which it waits. None once no line comes any more, and all are written.
-    pub(crate) fn next<R: Wait>(&self, rt: &R) -> Option<NextLine> {
+    /// Waits for a line, now that all that were taken are written. False once no line comes any more.
+    pub(crate) fn wait<R: Wait>(&self, rt: &R) -> bool {
         let mut state = self.shared.state.lock(rt);
+        state.is_writing = false;
+        self.shared.changed.notify_all();
         for _ in rt.forever() {
-            let next = state.next();
-            state.is_writing = next.is_some();
-            if next.is_some() {
-                return next;
+            if !state.lines.is_empty() {
+                state.is_writing = true;
+                return true;
             }
-            self.shared.changed.notify_all();
             if state.is_closed {
-                return None;
+                return false;
             }
+            state.is_awaited = true;
             state = self.shared.changed.wait(rt, state);
         }
         unreachable!()
+    }
+
+    /// What is to be written next of what waits; none where nothing does.
+    pub(crate) fn next<R: Wait>(&self, rt: &R) -> Option<NextLine> {
+        self.shared.state.lock(rt).next()
     }
 }
 

@@ -13,4 +13,4 @@ pub use checking::CheckOptions;
 pub use logging::LogOptions;
 pub use migrating::MigrateOptions;
 pub use replaying::ReplayOptions;
-pub use serving::{SeatCount, ServeOptions};
+pub use serving::{SeatCount, ServeOptions, ServerLog};

@@ -3,6 +3,7 @@ ghost use Rattle.std.specs.Prelude.{◌≡◌, ◌≤◌, ◌<◌, ◌⊎◌, If
 
 use mx_ident::ServerName;
 use mx_keeper::ShardCount;
+use mx_records::{LevelFilter, RecordForm};
 use std::marker::Model;
 
 /// What a server is to serve, and how.
@@ -25,6 +26,19 @@ pub struct ServeOptions {
     pub stop_on_storage: bool,
     // Whether it starts though its replies call events kept that are in none of its files.
     pub accept_loss: bool,
+    // The log of what it answers; none where it keeps none.
+    pub log: Option<ServerLog>,
+    // The port on loopback that shows an operator how it is; none where it has none.
+    pub admin: Option<u16>,
+}
+
+/// The log of a server: as what its lines are written, and how much they have to matter.
+#[derive(Debug, Drop)]
+pub struct ServerLog {
+    // Its file; none where it goes to standard error.
+    pub file: Option<String>,
+    pub form: RecordForm,
+    pub level: LevelFilter,
 }
 
 /// How many workers a server has: 1 to 64.

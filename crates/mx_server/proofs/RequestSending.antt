@@ -21,7 +21,9 @@ use Rattle.matchit.specs.contracts.router.Router as router
 use Rattle.matchit.specs.contracts.router.Router.TheInside as router_inside
 use Rattle.matchit.proofs.route.Route.TheSendSync as matched
 use Rattle.matchit.proofs.tree.Node.TheLaws.TheKnot.{send-Node, sync-Node}
+use Rattle.mx_answer_records.proofs.abouts.RequestAbout.TheSendSync as request_about
 use Rattle.mx_server.specs.contracts.reading.RequestReader as request_reader
+use Rattle.mx_server.specs.contracts.workers.NotedCall as noted_call
 
 -- ---- what reads requests
 node_send : IsSend node.the_row
@@ -52,5 +54,8 @@ reader_sync = declared_sync request_reader.the_type (declared_sync wire_server.t
 query_send : IsSend query.the_row
 query_send = variants_send query.enum (search (room_id.the_send, event_id.the_send, user_id.the_send, id_list.the_send, versions.the_send, crosses, sendable) depth 40)
 
-pub call_send : IsSend wire_call.the_row
+call_send : IsSend wire_call.the_row
 call_send = variants_send wire_call.enum (search (server_name.the_send, offered_send, query_send, crosses, sendable) depth 20)
+
+pub noted_send : IsSend noted_call.the_row
+noted_send = declared_send noted_call.the_type (request_about.the_send, (call_send, tt))

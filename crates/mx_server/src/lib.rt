@@ -1,7 +1,9 @@
 //! The server on loopback: its rows in the files of a directory, its engine, and the connections that its workers answer.
 #![tactic(auto)]
 
+mod admin_view;
 mod crews;
+mod hosting;
 mod losses;
 mod reading;
 mod sending;
@@ -9,4 +11,4 @@ mod serving;
 mod watching;
 mod workers;
 
-pub use serving::serve;
+pub use serving::{ServerTold, serve};

@@ -1,11 +1,14 @@
 // `serve`: a server on loopback, over files.
-ghost use Rattle.std.specs.Prelude.{◌≡◌, ◌≤◌, ◌↔◌, IfOk, length};
+ghost use Rattle.std.specs.Prelude.{◌≡◌, ◌≤◌, IfOk, length};
 
+use crate::admin_view::{AdminView, start_admin};
 use crate::crews::Crew;
+use crate::hosting::{file_of_rooms, host_rooms, rooms_to_host};
 use crate::losses::check_losses;
 use crate::reading::RequestReader;
 use crate::watching::{FileWatch, start_watch};
 use crate::workers::{Handler, ServerEngine, Shared, Worker, workers_of};
+use mx_admin::{Desk, DeskThread, Failures, RecordLog};
 use mx_directory::{
     RowFile, RowFiles, ServerError, ServerFiles, StartError, WatchedKeeper, open_directory,
 };
@@ -18,24 +21,29 @@ use mx_name_grammar::is_in_grammar;
 use mx_options::{SeatCount, ServeOptions};
 use mx_pdu::PresenceVerifier;
 use mx_room::Moment;
-use mx_wire::{
-    HostLineOutcome, InputError, LARGEST_BODY, WireCall, WireServer, first_line, host_by_line,
-    read_all,
-};
+use mx_wire::{LARGEST_BODY, WireCall, WireServer};
 use mx_world::World;
 use sqlite::Alter;
 use std::alloc::{AllocError, AllocGlobal, Global};
-use std::fs;
 use std::io::{self, Write};
 use std::net::{Ipv4Addr, TcpListener};
 use std::sync::{Arc, Wait};
 use std::time::Duration;
 
+/// Where a server tells who runs it what happens: through lines, through a log, where it keeps one, and the files that failed.
+#[derive(Drop)]
+pub struct ServerTold {
+    pub lines: LineSender,
+    pub log: Option<RecordLog>,
+    pub failures: Failures,
+}
+
 /// Opens the server's directory, hosts the rooms of its file of rooms, binds its port, starts its threads, says so in a line
 /// on `out`, and then on `lines` where its files are, and answers requests: for good, or until what keeps rows has failed or
 /// a file of rows is lost, where it is to end then. Where a room is not hosted, `lines` are told what its line is answered,
 /// where a loss is accepted, what is lost, and where no server can have its name, that. A thread of its own looks after the
-/// files, each second. Who reads the lines holds nothing of this up.
+/// files, each second, and where it is asked for, another one shows at a port of its own how the server is. Who reads the lines
+/// holds nothing of this up.
 ///
 /// `Storage` where the directory was made for another name or number of shards, where a file of rows can't be opened or does
 /// not read, where one is missing or empty beside one with rows, where there are more than are asked for, where SQLite's log
@@ -48,9 +56,14 @@ pub fn serve<R: ServerRuntime + 'static, W: Write>(
     host: &HostRuntime,
     options: ServeOptions,
     out: &mut W,
-    lines: &LineSender,
+    told: ServerTold,
 ) -> Result<(), StartError> {
-    let mut err = LineOutput::new(rt, rt.alloc(), lines);
+    let ServerTold {
+        lines,
+        log,
+        failures,
+    } = told;
+    let mut err = LineOutput::new(rt, rt.alloc(), &lines);
     warn_of_name(&options.name, &mut err);
     let ServerFiles {
         shards,
@@ -63,12 +76,18 @@ pub fn serve<R: ServerRuntime + 'static, W: Write>(
     if is_moved {
         let _ = writeln!(err, "{}: brought to the second layout", options.data);
     }
-    let watch = watch_of(rt, host, &options, files, lines)?;
+    let watch = watch_of(rt, host, &options, files, &lines)?;
+    let seats = Crew::of(options.threads).seats();
+    let oversight = Oversight {
+        watch,
+        desk: Desk::new(rt.alloc(), seats, lines.another()?, log)?,
+        failures,
+    };
     let rooms = rooms_to_host(host, &options)?;
     let rows = StoredRows {
         shards,
         books,
-        watch,
+        oversight,
     };
     serve_rows(rt, rows, &rooms, options, out, &mut err)
 }
@@ -127,48 +146,20 @@ fn files_of<R: ServerRuntime>(
     open_directory(rt, host, &options.data, name, options.shards, is_accepted)
 }
 
-// The bytes of the file of rooms.
-fn rooms_to_host(host: &HostRuntime, options: &ServeOptions) -> Result<Vec<u8>, StartError> {
-    match &options.rooms {
-        Some(path) => lines_of(host, path),
-        None => Ok(Vec::new(host.alloc())),
-    }
+// Who looks after the files of a server, and where its threads tell what they do.
+#[derive(Drop)]
+struct Oversight {
+    watch: Arc<FileWatch>,
+    desk: Desk,
+    failures: Failures,
 }
 
-// The bytes of a file.
-fn lines_of(host: &HostRuntime, path: &str) -> Result<Vec<u8>, StartError> {
-    let alloc = host.alloc();
-    match fs::open(host, path) {
-        Ok(file) => {
-            let mut file = file;
-            match read_all(alloc, &mut file) {
-                Ok(lines) => Ok(lines),
-                Err(error) => {
-                    let kind = of_input(error);
-                    Err(StartError::about(alloc, kind, path, &"it can't be read"))
-                }
-            }
-        }
-        Err(error) => Err(StartError::of_io(alloc, path, &error)),
-    }
-}
-
-// Why an input was not read.
-fn of_input(error: InputError) -> ServerError
-    ensures { (result ≡ ServerError.Memory) ↔ (error ≡ InputError.Memory) }
-{
-    match error {
-        InputError::Memory => ServerError::Memory,
-        InputError::Read => ServerError::ReadOrWrite,
-    }
-}
-
-// The rows of a server, and who looks after the files that they are in. For a store that is not known the proofs are found.
+// The rows of a server, and who looks after it. For a store that is not known the proofs are found.
 #[derive(Drop)]
 struct StoredRows<S: Alter + Drop + Send> {
     shards: Vec<WatchedKeeper<S, ShardRow>>,
     books: Vec<WatchedKeeper<S, BookRow>>,
-    watch: Arc<FileWatch>,
+    oversight: Oversight,
 }
 
 // Serves over rows, once the rooms of these lines are hosted.
@@ -182,7 +173,7 @@ fn serve_rows<S, R, W: Write, E: Write>(
 ) -> Result<(), StartError>
 where
     S: Alter + Drop + Send,
-    R: ServerRuntime,
+    R: ServerRuntime + 'static,
     requires some_shard { 1 ≤ length rows.shards.items }
     requires few_shards { length rows.shards.items ≤ MOST_PLACES }
     requires some_book { 1 ≤ length rows.books.items }
@@ -191,7 +182,7 @@ where
     let StoredRows {
         shards,
         books,
-        watch,
+        oversight,
     } = rows;
     let alloc = rt.alloc();
     let count = books.len();
@@ -201,9 +192,9 @@ where
     };
     let is_accepted = options.accept_loss;
     check_losses(alloc, &server, count, &options.data, is_accepted, err)?;
-    watch.check_counts(rt, is_accepted, err)?;
+    oversight.watch.check_counts(rt, is_accepted, err)?;
     host_rooms(alloc, &mut server, rooms, file_of_rooms(&options), err)?;
-    listen(rt, server, watch, options, out, err)
+    listen(rt, server, oversight, options, out, err)
 }
 
 // Rows that are no server's, or for which no memory is left.
@@ -214,55 +205,6 @@ fn not_reopened(alloc: Global, data: &str, error: CallError) -> StartError {
             let cause = "no server with so many shards has these rows";
             StartError::about(alloc, ServerError::Storage, data, &cause)
         }
-    }
-}
-
-// What the file of rooms is called.
-fn file_of_rooms(options: &ServeOptions) -> &str {
-    match &options.rooms {
-        Some(path) => path,
-        None => "",
-    }
-}
-
-// Hosts the room of each line that is not blank. `NotHosted` where one is not hosted.
-fn host_rooms<K: Keeper<Row = ShardRow>, L: Keeper<Row = BookRow>, E: Write>(
-    alloc: Global,
-    server: &mut World<K, L>,
-    lines: &[u8],
-    path: &str,
-    err: &mut E,
-) -> Result<(), StartError> {
-    let mut rest = lines;
-    let mut number = 1u64;
-    while !rest.is_empty() {
-        let (line, after) = first_line(rest);
-        if !is_blank(line) && !is_hosted_by(alloc, server, line, err) {
-            let place = format!(in alloc; "line {number}")?;
-            return Err(StartError::about(alloc, ServerError::NotHosted, path, &place));
-        }
-        rest = after;
-        number = number.saturating_add(1);
-    }
-    Ok(())
-}
-
-// Whether a line has nothing but white space.
-fn is_blank(line: &[u8]) -> bool {
-    line.iter().all(|byte| byte.is_ascii_whitespace())
-}
-
-// Whether a line hosts a room, or its room is hosted; else `err` is told what the line is answered.
-fn is_hosted_by<K: Keeper<Row = ShardRow>, L: Keeper<Row = BookRow>, E: Write>(
-    alloc: Global,
-    server: &mut World<K, L>,
-    line: &[u8],
-    err: &mut E,
-) -> bool {
-    match host_by_line(alloc, &PresenceVerifier, server, line, err) {
-        Ok(HostLineOutcome::Hosted) => true,
-        Ok(HostLineOutcome::NotHosted | HostLineOutcome::Refused(_)) => false,
-        Err(_error) => false,
     }
 }
 
@@ -301,7 +243,7 @@ impl<'a, W: Write, E: Write> Announcer for Opening<'a, W, E> {
 fn listen<K, L, R, W: Write, E: Write>(
     rt: &R,
     server: World<K, L>,
-    watch: Arc<FileWatch>,
+    oversight: Oversight,
     options: ServeOptions,
     out: &mut W,
     err: &mut E,
@@ -309,17 +251,23 @@ fn listen<K, L, R, W: Write, E: Write>(
 where
     K: Keeper<Row = ShardRow> + Send,
     L: Keeper<Row = BookRow> + Send,
-    R: ServerRuntime,
+    R: ServerRuntime + 'static,
 {
     let alloc = rt.alloc();
     let listener = listener_at(rt, options.port)?;
     let port = port_of(alloc, &listener)?;
     let limits = limits_of(&options);
+    let Oversight {
+        watch,
+        desk,
+        failures,
+    } = oversight;
     let ServeOptions {
         name,
         data,
         shards,
         threads,
+        admin,
         ..
     } = options;
     let reader = RequestReader {
@@ -329,11 +277,16 @@ where
     let reader = Arc::new(alloc, reader)?;
     let files = watch.files()?;
     let crew = Crew::of(threads);
+    let workers = workers(rt, server, crew, name, files)?;
     let answerers = Answerers {
         reader,
-        workers: workers(rt, server, crew, name, files)?,
+        desks: desks_of(alloc, &desk, workers.len())?,
+        workers,
         crew,
     };
+    if let Some(port) = admin {
+        show(rt, port, desk, failures)?;
+    }
     let mut opening = Opening {
         out,
         err,
@@ -348,10 +301,40 @@ where
     }
 }
 
-// What answers requests: who reads them, and a worker for each event loop and for each thread beside them.
+// A desk for each of so many threads.
+fn desks_of(alloc: Global, desk: &Desk, threads: usize) -> Result<Vec<DeskThread>, AllocError> {
+    let mut desks = Vec::new(alloc);
+    for number in 0..threads {
+        desks.push(desk.thread(number)?)?;
+    }
+    Ok(desks)
+}
+
+// Shows an operator at a port how the server is.
+fn show<R: ServerRuntime + 'static>(
+    rt: &R,
+    port: u16,
+    desk: Desk,
+    failures: Failures,
+) -> Result<(), StartError> {
+    let listener = listener_at(rt, port)?;
+    let started = match rt.since_1970() {
+        Ok(time) => time.as_secs(),
+        Err(_error) => 0,
+    };
+    let view = AdminView {
+        desk,
+        failures,
+        started,
+    };
+    start_admin(rt, listener, view)
+}
+
+// What answers requests: who reads them, and a worker with its desk for each event loop and for each thread beside them.
 #[derive(Drop)]
 struct Answerers<K: Keeper<Row = ShardRow>, L: Keeper<Row = BookRow>> {
     reader: Arc<RequestReader>,
+    desks: Vec<DeskThread>,
     workers: Vec<Worker<K, L>>,
     crew: Crew,
 }
@@ -371,18 +354,19 @@ where
 {
     let Answerers {
         reader,
+        desks,
         workers,
         crew,
     } = answerers;
     let runtime = *rt;
     let mut loops = Vec::new(rt.alloc());
     let mut threads = Vec::new(rt.alloc());
-    for worker in workers {
+    for (worker, desk) in workers.into_iter().zip(desks) {
         let mut worker = worker;
         let answer = move |alloc: Global, now: Moment, call: WireCall| {
             worker.answer(&runtime, alloc, now, call)
         };
-        let handler = Handler::new(Arc::try_clone(&reader)?, answer);
+        let handler = Handler::new(Arc::try_clone(&reader)?, desk, runtime, answer);
         if loops.len() < crew.loops() {
             loops.push(handler).map_err(AllocError::from)?;
         } else {

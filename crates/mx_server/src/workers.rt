@@ -5,9 +5,11 @@ ghost use Rattle.mx_engine.specs.Seats.{IsSeatOf, seat_number};
 use crate::reading::RequestReader;
 use crate::sending::sent_plainly;
 use bytes::Bytes;
+use mx_admin::DeskThread;
+use mx_answer_records::{Answered, CallAbout, RequestAbout, note_answer};
 use mx_directory::RowFiles;
 use mx_engine::{Engine, OpenGate, Seat};
-use mx_http::{HttpReply, HttpRequest, ReadRequest, Responder};
+use mx_http::{AskedCall, HttpReply, HttpRequest, ReadRequest, Responder};
 use mx_ident::ServerName;
 use mx_keeper::{BookRow, CallError, Keeper, ShardRow};
 use mx_pdu::PresenceVerifier;
@@ -104,29 +106,79 @@ fn answered_request<K: Keeper<Row = ShardRow>, L: Keeper<Row = BookRow>, R: Wait
     }
 }
 
-/// Reads the requests of connections, and answers them by a call, as of a worker.
+/// What a request asks for, and what is noted of it.
 #[derive(Drop)]
-pub struct Handler<F: Drop> {
+pub struct NotedCall {
+    about: RequestAbout,
+    call: WireCall,
+}
+
+/// Reads the requests of connections, and answers them by a call, as of a worker. It notes each reply at its desk.
+#[derive(Drop)]
+pub struct Handler<F: Drop, C: Drop> {
     reader: Arc<RequestReader>,
+    desk: DeskThread,
+    // The clock of what is noted.
+    clock: C,
     answer: F,
     // Whether it wants no more requests.
     is_done: bool,
 }
 
-impl<F: Drop> Handler<F> {
-    pub fn new(reader: Arc<RequestReader>, answer: F) -> Handler<F>
+impl<F: Drop, C: Wait + Clock + Drop> Handler<F, C> {
+    pub fn new(reader: Arc<RequestReader>, desk: DeskThread, clock: C, answer: F) -> Handler<F, C>
         ensures { result.answer ≡ answer }
     {
         Handler {
             reader,
+            desk,
+            clock,
             answer,
             is_done: false,
         }
     }
+
+    // Notes the reply to a request, and gives it.
+    fn noted(
+        &self,
+        alloc: Global,
+        about: RequestAbout,
+        call: Option<CallAbout>,
+        reply: HttpReply,
+    ) -> HttpReply {
+        let answered = Answered {
+            request: about,
+            call,
+            status: reply.status,
+            body: reply.body.as_slice(),
+        };
+        note_answer(&self.clock, alloc, &self.desk, answered);
+        reply
+    }
+
+    // Notes the reply to a request whose body was not read.
+    fn noted_unread(&self, alloc: Global, reply: HttpReply) -> HttpReply {
+        self.noted(alloc, RequestAbout::unknown(&self.clock), None, reply)
+    }
+
+    // What a call is, where it offers events or a log tells of it. Where no memory is left for that, it is not noted.
+    fn about_call(&self, alloc: Global, call: &WireCall) -> Option<CallAbout> {
+        if !self.desk.has_log() && matches!(call, WireCall::Asks { .. }) {
+            return None;
+        }
+        match CallAbout::of(alloc, call) {
+            Ok(about) => Some(about),
+            Err(_refused) => {
+                self.desk.tell_dropped(&self.clock);
+                None
+            }
+        }
+    }
 }
 
-impl<F: FnMut(Global, Moment, WireCall) -> AnsweredRequest + Drop> Responder for Handler<F> {
-    type Call = WireCall;
+impl<F: FnMut(Global, Moment, WireCall) -> AnsweredRequest + Drop, C: Wait + Clock + Drop> Responder
+    for Handler<F, C> {
+    type Call = NotedCall;
 
     ghost can_respond = { (answer : F) → F.IsAlwaysCallable answer };
 
@@ -138,16 +190,34 @@ impl<F: FnMut(Global, Moment, WireCall) -> AnsweredRequest + Drop> Responder for
         self.reader.is_short(request)
     }
 
-    fn read(&self, alloc: Global, request: HttpRequest) -> ReadRequest<WireCall> {
-        self.reader.read(alloc, request)
+    fn read(&self, alloc: Global, request: HttpRequest) -> ReadRequest<NotedCall> {
+        let about = RequestAbout::of(&self.clock, request.method.as_str(), &request.target);
+        match self.reader.read(alloc, request) {
+            ReadRequest::Refused(reply) => {
+                ReadRequest::Refused(self.noted(alloc, about, None, reply))
+            }
+            ReadRequest::Asking(asked) => ReadRequest::Asking(AskedCall {
+                claim: asked.claim,
+                is_quick: asked.is_quick,
+                call: NotedCall {
+                    about,
+                    call: asked.call,
+                },
+            }),
+        }
     }
 
-    fn respond<R: Wait + Clock>(&mut self, rt: &R, alloc: Global, call: WireCall) -> HttpReply {
+    fn respond<R: Wait + Clock>(&mut self, rt: &R, alloc: Global, call: NotedCall) -> HttpReply {
+        let NotedCall { about, call } = call;
+        let asked = self.about_call(alloc, &call);
+        self.desk
+            .set_in_transaction(matches!(call, WireCall::Sends { .. }));
         let now = moment(rt);
         let answered = (self.answer)(alloc, now, call);
         let AnsweredRequest { reply, is_last } = answered;
         self.is_done |= is_last;
-        reply
+        self.desk.set_in_transaction(false);
+        self.noted(alloc, about, asked, reply)
     }
 
     fn is_done(&self) -> bool {
@@ -155,24 +225,27 @@ impl<F: FnMut(Global, Moment, WireCall) -> AnsweredRequest + Drop> Responder for
     }
 
     fn refuse_body(&self, alloc: Global) -> HttpReply {
-        match fault_reply(alloc, Fault::TooLarge) {
+        let reply = match fault_reply(alloc, Fault::TooLarge) {
             Ok(reply) => sent_plainly(reply),
             Err(_refused) => sent_plainly(memory_reply()),
-        }
+        };
+        self.noted_unread(alloc, reply)
     }
 
-    fn refuse_coding(&self, _alloc: Global) -> HttpReply {
-        refusal(
+    fn refuse_coding(&self, alloc: Global) -> HttpReply {
+        let reply = refusal(
             NOT_IMPLEMENTED,
             b"{\"errcode\":\"M_UNRECOGNIZED\",\"error\":\"unknown transfer coding\"}",
-        )
+        );
+        self.noted_unread(alloc, reply)
     }
 
-    fn refuse_framing(&self, _alloc: Global) -> HttpReply {
-        refusal(
+    fn refuse_framing(&self, alloc: Global) -> HttpReply {
+        let reply = refusal(
             BAD_REQUEST,
             b"{\"errcode\":\"M_UNRECOGNIZED\",\"error\":\"malformed body\"}",
-        )
+        );
+        self.noted_unread(alloc, reply)
     }
 }
 

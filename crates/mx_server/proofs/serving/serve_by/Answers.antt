@@ -12,7 +12,8 @@ use Rattle.std.proofs.Crossing.{Arc-send}
 use Rattle.mx_server.specs.contracts.serving.serve_by as contract
 use Rattle.mx_server.specs.contracts.workers.Handler as handler
 use Rattle.mx_server.specs.contracts.workers.Worker as worker
-use Rattle.mx_server.proofs.RequestSending.{call_send, reader_send, reader_sync}
+use Rattle.mx_admin.proofs.desks.DeskThread.TheSendSync as desk_thread
+use Rattle.mx_server.proofs.RequestSending.{noted_send, reader_send, reader_sync}
 use Rattle.mx_server.proofs.WorkerSending.{worker_send}
 use Rattle.mx_server.proofs.serving.serve_by.Goals as goal
 
@@ -23,8 +24,11 @@ captured ν A B = row (type_at ν (A ∷ B ∷ []))
 captured_send : (ν : Sym) (A B : RattleType) → IsSend A → IsSend B → IsSend (captured ν A B)
 captured_send ν A B a b = declared_send (type_at ν (A ∷ B ∷ [])) (as_row_send (row_field A) a, (as_row_send (row_field B) b, tt))
 
-handler_send : (F : RattleType) → IsSend F → IsSend (handler.the_row F)
-handler_send F f = declared_send (handler.the_type F) (Arc-send _ reader_send reader_sync, (as_row_send (row_field F) f, (search sendable depth 20, tt)))
+handler_send : (F C : RattleType) → IsSend F → IsSend C → IsSend (handler.the_row F C)
+handler_send F C f c = declared_send (handler.the_type F C) (
+  Arc-send _ reader_send reader_sync,
+  (desk_thread.the_send, (as_row_send (row_field C) c, (as_row_send (row_field F) f, (search sendable depth 20, tt)))),
+)
 
 abbrev closure : Sym
 closure = codes "mx_server::serving::fn::serve_by::answer+Self"
@@ -32,8 +36,9 @@ closure = codes "mx_server::serving::fn::serve_by::answer+Self"
 pub serve_on-requires-send-A : goal.serve_on-requires-send-A
 serve_on-requires-send-A g c κs within = param_send 1 _ (arg_send _ no _
     (handler_send (captured closure (worker.the_row (contract.K-row g.row.K g.row.L g.row.R g.row.T) (contract.L-row g.row.K g.row.L g.row.R g.row.T) g.K.Keeper g.L.Keeper) (contract.R-row g.row.K g.row.L g.row.R g.row.T))
+    (contract.R-row g.row.K g.row.L g.row.R g.row.T)
     (captured_send closure (worker.the_row (contract.K-row g.row.K g.row.L g.row.R g.row.T) (contract.L-row g.row.K g.row.L g.row.R g.row.T) g.K.Keeper g.L.Keeper) (contract.R-row g.row.K g.row.L g.row.R g.row.T)
-    (worker_send (contract.K-row g.row.K g.row.L g.row.R g.row.T) (contract.L-row g.row.K g.row.L g.row.R g.row.T) g.K.Keeper g.L.Keeper c.type_bounds.send-K c.type_bounds.send-L) c.type_bounds.send-R)))
+    (worker_send (contract.K-row g.row.K g.row.L g.row.R g.row.T) (contract.L-row g.row.K g.row.L g.row.R g.row.T) g.K.Keeper g.L.Keeper c.type_bounds.send-K c.type_bounds.send-L) c.type_bounds.send-R) c.type_bounds.send-R))
 
 pub serve_on-requires-send-A-Call : goal.serve_on-requires-send-A-Call
-serve_on-requires-send-A-Call g c κs within = param_send 3 _ (arg_send _ no _ call_send)
+serve_on-requires-send-A-Call g c κs within = param_send 3 _ (arg_send _ no _ noted_send)

@@ -1,5 +1,5 @@
 use Rattle.std.proofs.Common.{length}
-use Rattle.mx_server.proofs.serving.host_rooms.Given as goal
+use Rattle.mx_server.proofs.hosting.host_rooms.Given as goal
 
 -- the bytes that are left
 abbrev pub decreases-loop-rest : goal.decreases-loop-rest

@@ -1,0 +1,4 @@
+pub mod Counts
+pub mod Labels
+pub mod Latencies
+pub mod Samples

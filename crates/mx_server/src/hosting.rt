@@ -1,0 +1,100 @@
+// The rooms that a server hosts from its start.
+ghost use Rattle.std.specs.Prelude.{◌≡◌, ◌↔◌};
+
+use mx_directory::{ServerError, StartError};
+use mx_keeper::{BookRow, Keeper, ShardRow};
+use mx_options::ServeOptions;
+use mx_pdu::PresenceVerifier;
+use mx_wire::{HostLineOutcome, InputError, first_line, host_by_line, read_all};
+use mx_world::World;
+use std::alloc::Global;
+use std::fs;
+use std::io::Write;
+
+/// The bytes of the file of rooms; none where there is no such file.
+pub(crate) fn rooms_to_host(
+    host: &HostRuntime,
+    options: &ServeOptions,
+) -> Result<Vec<u8>, StartError> {
+    match &options.rooms {
+        Some(path) => lines_of(host, path),
+        None => Ok(Vec::new(host.alloc())),
+    }
+}
+
+// The bytes of a file.
+fn lines_of(host: &HostRuntime, path: &str) -> Result<Vec<u8>, StartError> {
+    let alloc = host.alloc();
+    match fs::open(host, path) {
+        Ok(file) => {
+            let mut file = file;
+            match read_all(alloc, &mut file) {
+                Ok(lines) => Ok(lines),
+                Err(error) => {
+                    let kind = of_input(error);
+                    Err(StartError::about(alloc, kind, path, &"it can't be read"))
+                }
+            }
+        }
+        Err(error) => Err(StartError::of_io(alloc, path, &error)),
+    }
+}
+
+// Why an input was not read.
+fn of_input(error: InputError) -> ServerError
+    ensures { (result ≡ ServerError.Memory) ↔ (error ≡ InputError.Memory) }
+{
+    match error {
+        InputError::Memory => ServerError::Memory,
+        InputError::Read => ServerError::ReadOrWrite,
+    }
+}
+
+/// What the file of rooms is called.
+pub(crate) fn file_of_rooms(options: &ServeOptions) -> &str {
+    match &options.rooms {
+        Some(path) => path,
+        None => "",
+    }
+}
+
+/// Hosts the room of each line that is not blank. `NotHosted` where one is not hosted: then `err` is told what the line is answered.
+pub(crate) fn host_rooms<K: Keeper<Row = ShardRow>, L: Keeper<Row = BookRow>, E: Write>(
+    alloc: Global,
+    server: &mut World<K, L>,
+    lines: &[u8],
+    path: &str,
+    err: &mut E,
+) -> Result<(), StartError> {
+    let mut rest = lines;
+    let mut number = 1u64;
+    while !rest.is_empty() {
+        let (line, after) = first_line(rest);
+        if !is_blank(line) && !is_hosted_by(alloc, server, line, err) {
+            let place = format!(in alloc; "line {number}")?;
+            return Err(StartError::about(alloc, ServerError::NotHosted, path, &place));
+        }
+        rest = after;
+        number = number.saturating_add(1);
+    }
+    Ok(())
+}
+
+// Whether a line has nothing but white space.
+fn is_blank(line: &[u8]) -> bool {
+    line.iter().all(|byte| byte.is_ascii_whitespace())
+}
+
+// Whether a line hosts a room, or its room is hosted; else `err` is told what the line is answered.
+fn is_hosted_by<K: Keeper<Row = ShardRow>, L: Keeper<Row = BookRow>, E: Write>(
+    alloc: Global,
+    server: &mut World<K, L>,
+    line: &[u8],
+    err: &mut E,
+) -> bool {
+    match host_by_line(alloc, &PresenceVerifier, server, line, err) {
+        Ok(HostLineOutcome::Hosted) => true,
+        Ok(HostLineOutcome::NotHosted | HostLineOutcome::Refused(_)) => false,
+        Err(_error) => false,
+    }
+}
