@@ -357,7 +357,11 @@ fn server_log_of(alloc: Global, given: &ArgMatches) -> Result<Option<ServerLog>,
         _ => RecordForm::Text,
     };
     Ok(Some(ServerLog {
-        file: if file.as_str() == "-" { None } else { Some(file) },
+        file: if file.as_str() == "-" {
+            None
+        } else {
+            Some(file)
+        },
         form,
         level,
     }))

@@ -97,6 +97,29 @@ pub(crate) fn serve_words<'a>(alloc: Global) -> Result<clap::Command<'a>, AllocE
     let accept = flag_word(alloc, "accept-loss").help(
         "Start although answered rows are lost: events in no file, fewer rows than there were, a damaged write-ahead log; standard error tells which",
     );
+    let command = clap::Command::new(alloc, "serve")
+        .about("Answers other servers' requests on 127.0.0.1")
+        .after_help(
+            "Example: mx_federd serve --name hub.example --data /var/lib/mx_federd --rooms rooms.jsonl\nPage: docs/OPERATION.md",
+        )
+        .arg(name_word(alloc))?
+        .arg(data)?
+        .arg(port)?
+        .arg(threads)?
+        .arg(shards_word(alloc))?
+        .arg(connections)?
+        .arg(memory)?
+        .arg(rooms)?
+        .arg(stop)?
+        .arg(accept)?;
+    with_watching_words(alloc, command)
+}
+
+// The words by which an operator sees what a server does: its log, and the port that tells how it is.
+fn with_watching_words<'a>(
+    alloc: Global,
+    command: clap::Command<'a>,
+) -> Result<clap::Command<'a>, AllocError> {
     let log = text_word(alloc, "log", "FILE").help(
         "A file to whose end a line is written for each request that was answered and for what happened; - is standard error",
     );
@@ -112,29 +135,12 @@ pub(crate) fn serve_words<'a>(alloc: Global) -> Result<clap::Command<'a>, AllocE
         .action(ArgAction::Set)
         .value_parser(ValueParser::unsigned(1, 65_535))
         .help("A port on 127.0.0.1 that tells how the server is, at /health and /metrics");
-    clap::Command::new(alloc, "serve")
-        .about("Answers other servers' requests on 127.0.0.1")
-        .after_help(
-            "Example: mx_federd serve --name hub.example --data /var/lib/mx_federd --rooms rooms.jsonl\nPage: docs/OPERATION.md",
-        )
-        .arg(name_word(alloc))?
-        .arg(data)?
-        .arg(port)?
-        .arg(threads)?
-        .arg(shards_word(alloc))?
-        .arg(connections)?
-        .arg(memory)?
-        .arg(rooms)?
-        .arg(stop)?
-        .arg(accept)?
-        .arg(log)?
-        .arg(level)?
-        .arg(form)?
-        .arg(admin)
+    command.arg(log)?.arg(level)?.arg(form)?.arg(admin)
 }
 
 // How much a line of a log may have to matter, and as what it may be written.
 const LOG_LEVELS: [&str; 3] = ["info", "warn", "error"];
+
 const LOG_FORMS: [&str; 2] = ["text", "json"];
 
 fn choice_word<'a>(alloc: Global, name: &'a str, usual: &'a str, names: &'a [&'a str]) -> Arg<'a> {
