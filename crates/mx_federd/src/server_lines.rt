@@ -5,7 +5,7 @@ use mx_line_queue::{LineSender, start_writer};
 use mx_options::ServerLog;
 use mx_server::ServerTold;
 use std::alloc::{AllocError, AllocGlobal};
-use std::io::Write;
+use std::io::{ErrorKind, Write};
 use std::sync::Wait;
 use std::thread::Threads;
 use std::time::{Clock, Duration};
@@ -140,6 +140,7 @@ where
     };
     match start_writer(rt, another, out) {
         Ok(()) => Ok(lines),
+        Err(error) if error.kind() == ErrorKind::OutOfMemory => Err(ServerError::Memory),
         Err(_error) => Err(ServerError::Thread),
     }
 }
