@@ -199,7 +199,8 @@ def lines_of_text(folder: Path) -> None:
         assert server.ask("GET", FEDERATION + "v1/event/$a%0A%22b%22%20c=1", hostile)[0] in (400, 404)
         lines = written(log, lambda lines: sum(" request " in line for line in lines) >= 2)
     assert all(TEXT_LINE.fullmatch(line) for line in lines), lines
-    assert lines[-1].split(" ", 3)[3].startswith('origin="b.example" method="GET" route="event" status='), lines
+    last = [line for line in lines if " request " in line][-1]
+    assert last.split(" ", 3)[3].startswith('origin="b.example" method="GET" route="event" status='), lines
 
 
 def levels(folder: Path) -> None:
@@ -225,7 +226,7 @@ def on_standard_error(folder: Path) -> None:
     time.sleep(1)
     server.process.terminate()
     lines = [json.loads(line) for line in server.process.stderr.read().splitlines()]
-    assert [it["kind"] for it in lines] == ["started", "request", "request"], lines
+    assert Counter(it["kind"] for it in lines) == {"started": 1, "request": 2}, lines
     server.stop()
 
 
