@@ -302,8 +302,10 @@ def a_gap_that_lasts(folder: Path) -> None:
     kept = server.ask(*sending("b.example", "kept", [said]))
     assert kept == (200, canonical({"pdus": {id_of(said): {}}})), kept
     assert figures(shown(port, "/metrics")[1])["mx_federd_lasting_gaps"] == 0
+    told = server.said(b"warning: ")
     server.process.terminate()
-    assert server.process.stderr.read().decode().splitlines()[1:] == [warning]
+    told += server.process.stderr.read()
+    assert told.decode().splitlines()[1:] == [warning], told
     server.stop()
 
 
@@ -399,8 +401,7 @@ def a_failed_file(folder: Path) -> None:
     assert status == 503 and text.startswith("storage: %s/shard-0.db: " % (folder / "base")) and text.count("\n") == 1, text
     found = figures(shown(port, "/metrics")[1])
     assert found["mx_federd_failed_files"] == 1 and found["mx_federd_requests_total|route=send|status=503"] == 1, found
-    server.process.terminate()
-    assert server.process.stderr.read().decode().splitlines(True)[1] == text
+    assert server.said(b"storage: ").decode().splitlines(True)[1] == text
     server.stop()
 
 

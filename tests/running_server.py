@@ -6,6 +6,7 @@ import json
 import socket
 import sqlite3
 import subprocess
+import threading
 from collections.abc import Iterator, Sequence
 from pathlib import Path
 from typing import Any
@@ -47,6 +48,17 @@ class Server:
             raise Refused(status, self.process.stderr.read() if self.process.stderr else b"")
         assert told.startswith(b"listening 127.0.0.1:"), told
         self.port = int(told.rpartition(b":")[2])
+
+    def said(self, beginning: bytes) -> bytes:
+        """What it says on standard error up to a line that begins so: a thread of its own writes it within a moment."""
+        killer = threading.Timer(SECONDS, self.process.kill)
+        killer.start()
+        lines = [self.process.stderr.readline()]
+        while lines[-1] and not lines[-1].startswith(beginning):
+            lines.append(self.process.stderr.readline())
+        killer.cancel()
+        assert lines[-1], lines
+        return b"".join(lines)
 
     def stop(self) -> None:
         """Ends the server, and waits for its end."""

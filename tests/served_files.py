@@ -454,8 +454,9 @@ def full_disk(folder: Path) -> None:
             said = server.process.stderr.read()
         else:
             assert server.ask(*getting("a.example", state_path("state_ids", base.join_b))) == storage
+            said = server.said(b"storage: ")
             server.process.terminate()
-            said = server.process.stderr.read()
+            said += server.process.stderr.read()
         server.stop()
         # Told once, and why.
         file = bytes(folder / "full/shard-0.db")
