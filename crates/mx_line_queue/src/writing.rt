@@ -11,8 +11,8 @@ use std::time::{Clock, Duration};
 const GATHERED_FOR: u64 = 10;
 
 /// Starts a thread that writes the lines of a sender, in the order in which they came, until no line comes any more and all
-/// are written. A line is written within some ten milliseconds, together with those that came meanwhile; where it can't be
-/// written, it is lost.
+/// are written. A line is written within some ten milliseconds, together with those that came meanwhile. Where `out` takes
+/// nothing, some eight kilobytes of lines are kept for it, and further ones are lost.
 ///
 /// The error is the system's, where no thread can be started, or that no memory is left.
 pub fn start_writer<R, W>(rt: &R, lines: LineSender, out: W) -> io::Result<()>
