@@ -10,7 +10,7 @@ use Rattle.mx_graph.specs.Edges.{IsAllFrom}
 use Rattle.mx_graph.specs.Graph.{CitesDown, IsSound, reached}
 use Rattle.mx_graph.specs.Record.{Row, event, is_in, prev_events}
 use Rattle.mx_graph.proofs.Closure.{is_in-from, one_answer, or_cases, or_left, or_right, reached-is_least, same_tests}
-use Rattle.mx_orders.specs.StateMap.{State}
+use Rattle.mx_graph.specs.StateMap.{State}
 use Rattle.mx_state_res.proofs.SetLemmas.{is_in-filter}
 use Rattle.mx_receipt.specs.Receipt.{is_accepted}
 use Rattle.mx_receipt.specs.Judgements.{AreAfter, AreBelow, AreCovered, AreNext, ArePast, IsCovered, Judged, currents, is_marked, judged_in, leads_further, leads_on, unmarked, verdicts_in}

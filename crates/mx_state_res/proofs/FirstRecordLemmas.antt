@@ -3,20 +3,21 @@ use Rattle.std.proofs.Common.{◌≡◌, ◌<◌, ℕ, true, List, [], ◌∷◌
 use Rattle.std.specs.List.{All}
 use Rattle.std.specs.Prelude.{is_some}
 use Rattle.std.proofs.lemmas.List.Elements.{All-cons, All-nil}
-use Rattle.mx_auth.specs.Rules.{Key}
+use Rattle.mx_pdu.specs.StateKeys.{Key}
 use Rattle.mx_auth.specs.declared.versions.RoomVersion.{RoomVersion}
 use Rattle.mx_graph.specs.Record.{Row, is_in}
 use Rattle.mx_graph.proofs.Closure.{is_in-from, is_in-to}
 use Rattle.mx_graph.proofs.Members.{In}
-use Rattle.mx_orders.specs.StateMap.{State, entry}
+use Rattle.mx_graph.specs.StateMap.{State, entry}
 use Rattle.mx_orders.specs.Mainline.{mainline, mainline_order, power_key}
-use Rattle.mx_state_res.specs.Numbered.{AreKnown, IsDiffering, state_at, without}
+use Rattle.mx_state_res.specs.Numbered.{AreKnown}
+use Rattle.mx_states.specs.Numbered.{IsDiffering, state_at, without}
 use Rattle.mx_state_res.specs.Resolution.{full_conflicted, power_events, resolve, unconflicted}
 use Rattle.mx_state_res.specs.LaterResolution.{agreed_line, checking_order}
 use Rattle.mx_state_res.specs.KeptResolutions.{AreChecked, AreSettled, DifferAtKeys, IsKept, events_checked, is_settled, states_of}
 use Rattle.mx_state_res.specs.declared.kept_resolutions.KeptResolution.{KeptResolution}
 use Rattle.mx_state_res.specs.declared.kept_resolutions.checked_events.CheckedEvent.{CheckedEvent}
-use Rattle.mx_state_res.proofs.KeyLemmas.{Sorted}
+use Rattle.mx_states.proofs.KeyLemmas.{Sorted}
 use Rattle.mx_state_res.proofs.KeptGrowthLemmas.{each-known}
 use Rattle.mx_state_res.proofs.LaterOrderLemmas.{distinct-full, order-members}
 use Rattle.mx_state_res.proofs.NumberedConflictLemmas.{at-sorted, unconflicted-is}

@@ -7,22 +7,25 @@ use Rattle.std.proofs.lemmas.List.{get_or_append_left, length-append, map-append
 use Rattle.std.proofs.lemmas.List.Elements.{All-append, All-cons, All-get_or, All-map, All-nil, All-tail}
 use Rattle.mx_redact.specs.Fields.{is_some_and}
 use Rattle.mx_pdu.specs.Event.{is_state}
-use Rattle.mx_auth.specs.Rules.{Key, key_of, rules}
+use Rattle.mx_pdu.specs.StateKeys.{Key}
+use Rattle.mx_auth.specs.Rules.{key_of, rules}
 use Rattle.mx_auth.specs.declared.versions.RoomVersion.{RoomVersion}
 use Rattle.mx_graph.specs.Record.{Row, event}
 use Rattle.mx_graph.specs.Graph.{IsSound}
 use Rattle.mx_graph.proofs.LongerRecordLemmas.{IsLonger, event-longer}
-use Rattle.mx_orders.specs.StateMap.{State, entry, key_cmp}
+use Rattle.mx_graph.specs.StateMap.{State, entry, key_cmp}
 use Rattle.mx_orders.specs.Mainline.{mainline_cmp, mainline_order, power_key, put_in_order}
 use Rattle.mx_orders.proofs.LongerRecordLemmas.{mainline-longer, mainline_order-longer}
-use Rattle.mx_state_res.specs.Numbered.{AreKnown, state_at}
-use Rattle.mx_state_res.specs.Resolution.{after_check, full_conflicted, has_entry, is_allowed, iterative_auth_checks, power_events, resolve, unconflicted}
+use Rattle.mx_state_res.specs.Numbered.{AreKnown}
+use Rattle.mx_states.specs.Numbered.{state_at}
+use Rattle.mx_state_res.specs.Resolution.{after_check, full_conflicted, is_allowed, iterative_auth_checks, power_events, resolve, unconflicted}
+use Rattle.mx_states.specs.Entries.{has_entry}
 use Rattle.mx_state_res.specs.LaterResolution.{IsOneMore, agreed_line, checking_order, is_put}
 use Rattle.mx_state_res.specs.KeptResolutions.{AreChecked, DifferAtKeys, IsKept, IsOutcome, events_checked, first_of, is_put_by, made_by, states_of}
 use Rattle.mx_state_res.specs.declared.kept_resolutions.KeptResolution.{KeptResolution}
 use Rattle.mx_state_res.specs.declared.kept_resolutions.checked_events.CheckedEvent.{CheckedEvent}
 use Rattle.mx_state_res.specs.declared.kept_resolutions.outcomes.Outcome.{Outcome}
-use Rattle.mx_state_res.proofs.KnownLemmas.{find-known}
+use Rattle.mx_states.proofs.KnownLemmas.{find-known}
 use Rattle.mx_state_res.proofs.LongerRecordLemmas.{IsKnown, after_check-known, after_check-longer, full-events, full-longer, judged_in-longer, power_events-longer, resolve-in_longer, unconflicted-known}
 use Rattle.mx_state_res.proofs.OneMoreLemmas.{checked-more, differ-more, resolved-more}
 

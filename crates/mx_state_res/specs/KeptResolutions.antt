@@ -4,14 +4,17 @@ use Rattle.std.specs.declared.cmp.Ordering.{Ordering}
 use Rattle.std.specs.Ordering.{is_gt}
 use Rattle.std.specs.FinMap.Entries.{put}
 use Rattle.mx_redact.specs.Fields.{is_some_and}
-use Rattle.mx_auth.specs.Rules.{Key, key_of}
+use Rattle.mx_pdu.specs.StateKeys.{Key}
+use Rattle.mx_auth.specs.Rules.{key_of}
 use Rattle.mx_auth.specs.declared.versions.RoomVersion.{RoomVersion}
 use Rattle.mx_graph.specs.Record.{Row, event, is_in}
-use Rattle.mx_orders.specs.StateMap.{State, entry, key_cmp}
+use Rattle.mx_graph.specs.StateMap.{State, entry, key_cmp}
 use Rattle.mx_state_res.specs.ChainDifference.{cites}
 use Rattle.mx_state_res.specs.LaterResolution.{IsOneMore, checking_order, is_put, is_reached, stays}
-use Rattle.mx_state_res.specs.Numbered.{AllAlike, AreKnown, state_at, without}
-use Rattle.mx_state_res.specs.Resolution.{after_check, full_conflicted, has_entry, power_events, resolve, unconflicted}
+use Rattle.mx_states.specs.Numbered.{AllAlike, state_at, without}
+use Rattle.mx_state_res.specs.Numbered.{AreKnown}
+use Rattle.mx_state_res.specs.Resolution.{after_check, full_conflicted, power_events, resolve, unconflicted}
+use Rattle.mx_states.specs.Entries.{has_entry}
 use Rattle.mx_state_res.specs.declared.kept_resolutions.KeptResolution.{KeptResolution}
 use Rattle.mx_state_res.specs.declared.kept_resolutions.checked_events.CheckedEvent.{CheckedEvent}
 use Rattle.mx_state_res.specs.declared.kept_resolutions.outcomes.Outcome.{Outcome}

@@ -1,17 +1,9 @@
 pub mod Resolution
-pub mod Places
 pub mod StateCode
 pub mod Agreed
 pub mod Masks
 pub mod ChainDifference
 pub mod Numbered
-pub mod SnapshotEntries
-pub mod KeyTrees
-pub mod StoredSnapshots
-pub mod MemberKeys
-pub mod MemberLists
-pub mod KeyNumbers
 pub mod RowSets
 pub mod LaterResolution
 pub mod KeptResolutions
-pub mod ChangedKeys

@@ -1,18 +1,17 @@
 // The resolution of states to which one is added, from the one before.
 ghost use Rattle.std.specs.Prelude.{◌≡◌, ◌<◌, ℕ, All, IfOk, IfSome, None, length, map};
 ghost use Rattle.mx_state_res.specs.KeptResolutions.{IsKept};
-ghost use Rattle.mx_state_res.specs.Numbered.{AreAdded, AreKnown, state_at};
+ghost use Rattle.mx_state_res.specs.Numbered.{AreAdded, AreKnown};
+ghost use Rattle.mx_states.specs.Numbered.{state_at};
 ghost use Rattle.mx_state_res.specs.Resolution as definition;
 
 use crate::kept_resolutions::checked_events::CheckedEvent;
 use crate::kept_resolutions::first_records::kept_resolution;
 use crate::kept_resolutions::one_more::resolve_one_more;
 use crate::numbered_resolution::resolve_numbered;
-use crate::state_maps::StateMap;
-use crate::states::States;
-use crate::states::state_numbers::StateNo;
 use mx_auth::RoomVersion;
 use mx_graph::Graph;
+use mx_states::{StateMap, StateNo, States};
 use std::alloc::{AllocError, Global};
 
 pub(crate) mod added_events;

@@ -1,23 +1,22 @@
 // What is kept of a resolution that was worked out from nothing.
 ghost use Rattle.std.specs.Prelude.{◌≡◌, ◌<◌, All, IfOk, IfSome, IsTrue, length, map, true};
 ghost use Rattle.mx_orders.specs.Mainline.{mainline, mainline_order as ordered, power_key};
-ghost use Rattle.mx_orders.specs.StateMap.{entry as entry_at};
+ghost use Rattle.mx_graph.specs.StateMap.{entry as entry_at};
 ghost use Rattle.mx_state_res.specs.KeptResolutions.{AreChecked, IsKept, events_checked, is_settled};
-ghost use Rattle.mx_state_res.specs.Numbered.{AreKnown, state_at, without};
+ghost use Rattle.mx_state_res.specs.Numbered.{AreKnown};
+ghost use Rattle.mx_states.specs.Numbered.{state_at, without};
 ghost use Rattle.mx_state_res.specs.Resolution as definition;
-ghost use Rattle.mx_state_res.specs.Resolution.{has_entry};
+ghost use Rattle.mx_states.specs.Entries.{has_entry};
 
 use crate::checks::powers::power_events;
 use crate::checks::working_states::WorkingState;
 use crate::conflicts::numbered_conflicts::{all_are_sorted, full_conflicted_at};
 use crate::kept_resolutions::KeptResolution;
 use crate::kept_resolutions::checked_events::{CheckedEvent, checked_each};
-use crate::state_maps::StateMap;
-use crate::states::States;
-use crate::states::state_numbers::StateNo;
 use mx_auth::RoomVersion;
 use mx_graph::{EventNo, Graph};
 use mx_orders::mainline_order;
+use mx_states::{StateMap, StateNo, States};
 use std::alloc::{AllocError, Global};
 
 /// What is kept of a resolution, where the events in conflict are no power events.

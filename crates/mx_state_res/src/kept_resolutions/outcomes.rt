@@ -1,14 +1,16 @@
 // What becomes of an event among others that are checked.
 ghost use Rattle.std.specs.Prelude.{◌≡◌, ◌≤◌, ◌<◌, ◌++◌, ◌∷◌, IfOk, IfSome, Some, T, [], All, drop, false, length, take};
 ghost use Rattle.std.specs.FinMap.Entries.{is_sorted};
-ghost use Rattle.mx_auth.specs.Rules.{Key, key_of};
+ghost use Rattle.mx_pdu.specs.StateKeys.{Key};
+ghost use Rattle.mx_auth.specs.Rules.{key_of};
 ghost use Rattle.mx_graph.specs.Record as record_of;
 ghost use Rattle.mx_graph.specs.Record.{is_in};
 ghost use Rattle.mx_orders.specs.Mainline.{mainline_cmp, put_in_order};
-ghost use Rattle.mx_orders.specs.StateMap.{key_cmp};
+ghost use Rattle.mx_graph.specs.StateMap.{key_cmp};
 ghost use Rattle.mx_state_res.specs.KeptResolutions.{AreChecked, IsKept, IsOutcome, events_checked, states_of};
 ghost use Rattle.mx_state_res.specs.LaterResolution.{agreed_line};
-ghost use Rattle.mx_state_res.specs.Numbered.{AreKnown, shown_by, state_at};
+ghost use Rattle.mx_state_res.specs.Numbered.{AreKnown, shown_by};
+ghost use Rattle.mx_states.specs.Numbered.{state_at};
 ghost use Rattle.mx_state_res.specs.Resolution.{iterative_auth_checks, unconflicted};
 
 use crate::checks::working_states::WorkingState;
@@ -17,10 +19,9 @@ use crate::kept_resolutions::added_places::place_of;
 use crate::kept_resolutions::checked_events::{
     CheckedEvent, is_put, put_each, stays, stays_unneeded,
 };
-use crate::state_maps::StateMap;
-use crate::states::States;
 use mx_auth::RoomVersion;
 use mx_graph::{EventNo, Graph, graph_is_sound};
+use mx_states::{StateMap, States};
 use std::alloc::{AllocError, Global};
 
 /// What becomes of an event among others that are checked.

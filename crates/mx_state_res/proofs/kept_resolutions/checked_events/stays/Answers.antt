@@ -2,7 +2,8 @@ use Rattle.std.proofs.Common.{◌≡◌, ◌+◌, ◌&&◌, ◌∷◌, true, ap,
 use Rattle.std.specs.Prelude.{if◌then◌else◌}
 use Rattle.std.proofs.lemmas.List.{drop_all, drop_more}
 use Rattle.mx_redact.specs.Fields.{is_some_and}
-use Rattle.mx_auth.specs.Rules.{Key, key_of, same_key}
+use Rattle.mx_pdu.specs.StateKeys.{Key}
+use Rattle.mx_auth.specs.Rules.{key_of, same_key}
 use Rattle.mx_graph.specs.Record.{event}
 use Rattle.mx_orders.specs.StateMap.{with_event}
 use Rattle.mx_state_res.specs.KeptResolutions.{events_checked}

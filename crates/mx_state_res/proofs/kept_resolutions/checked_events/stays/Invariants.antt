@@ -1,11 +1,11 @@
 use Rattle.std.proofs.Common.{◌≡◌, ◌<◌, ℕ, drop, length}
 use Rattle.std.specs.List.{All}
 use Rattle.std.specs.FinMap.Entries.{put}
-use Rattle.mx_orders.specs.StateMap.{State, key_cmp}
+use Rattle.mx_graph.specs.StateMap.{State, key_cmp}
 use Rattle.mx_state_res.specs.KeptResolutions.{AreChecked, events_checked}
 use Rattle.mx_state_res.specs.LaterResolution.{stays}
 use Rattle.mx_state_res.specs.Numbered.{shown_by}
-use Rattle.mx_state_res.proofs.KeyLemmas.{Sorted}
+use Rattle.mx_states.proofs.KeyLemmas.{Sorted}
 use Rattle.mx_state_res.proofs.kept_resolutions.checked_events.stays.Given as goal
 
 -- the state is one in which the events that are left were checked, with the event, and what becomes of it is told by them

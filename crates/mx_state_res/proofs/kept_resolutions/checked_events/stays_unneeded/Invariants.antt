@@ -1,8 +1,8 @@
 use Rattle.std.proofs.Common.{◌≡◌, ℕ, drop}
-use Rattle.mx_orders.specs.StateMap.{State}
+use Rattle.mx_graph.specs.StateMap.{State}
 use Rattle.mx_state_res.specs.KeptResolutions.{AreChecked, events_checked}
 use Rattle.mx_state_res.specs.LaterResolution.{stays}
-use Rattle.mx_state_res.proofs.KeyLemmas.{Sorted}
+use Rattle.mx_states.proofs.KeyLemmas.{Sorted}
 use Rattle.mx_state_res.proofs.kept_resolutions.checked_events.stays_unneeded.Given as goal
 
 -- what becomes of the event is told by the events that are left

@@ -2,9 +2,9 @@ use Rattle.std.proofs.Common.{true, ◌≡◌, [], ℕ, refl, ap, subst, sym, �
 use Rattle.std.specs.Prelude.{is_some, option_copied, slice_get}
 use Rattle.std.specs.List.{All}
 use Rattle.mx_orders.specs.Mainline.{mainline, mainline_order, power_key}
-use Rattle.mx_orders.specs.StateMap.{entry}
+use Rattle.mx_graph.specs.StateMap.{entry}
 use Rattle.mx_state_res.specs.KeptResolutions.{is_settled}
-use Rattle.mx_state_res.specs.Numbered.{state_at, without}
+use Rattle.mx_states.specs.Numbered.{state_at, without}
 use Rattle.mx_state_res.specs.Resolution.{power_events}
 use Rattle.mx_state_res.proofs.FirstRecordLemmas.{first-record}
 use Rattle.mx_state_res.proofs.KeptResolutionLemmas.{has-first, none-left}

@@ -2,8 +2,9 @@ use Rattle.std.proofs.Common.{◌<◌, ℕ, length, sym, ap, subst, ◌∙◌}
 use Rattle.std.specs.List.{All}
 use Rattle.mx_orders.specs.Mainline.{mainline}
 use Rattle.mx_orders.proofs.LongerRecordLemmas.{mainline_order-events}
-use Rattle.mx_state_res.specs.Numbered.{shown_by, state_at, without}
-use Rattle.mx_state_res.proofs.ChangeLemmas.{without-known}
+use Rattle.mx_state_res.specs.Numbered.{shown_by}
+use Rattle.mx_states.specs.Numbered.{state_at, without}
+use Rattle.mx_state_res.proofs.ResolvingLemmas.{without-known}
 use Rattle.mx_state_res.proofs.NumberedConflictLemmas.{known-one}
 use Rattle.mx_state_res.proofs.SetLemmas.{all-at, all-of}
 use Rattle.mx_state_res.proofs.kept_resolutions.first_records.order_checked.Goals as goal

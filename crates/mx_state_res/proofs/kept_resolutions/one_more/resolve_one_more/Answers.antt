@@ -1,14 +1,15 @@
 use Rattle.std.proofs.Common.{◌≡◌, ◌<◌, ◌++◌, ◌∷◌, [], ℕ, drop, inl, length, refl, Some, take, ap, subst, sym, ◌∙◌}
 use Rattle.std.specs.Prelude.{IfSome, is_some, true}
 use Rattle.std.specs.FinMap.Entries.{put}
-use Rattle.mx_auth.specs.Rules.{Key, key_of}
+use Rattle.mx_pdu.specs.StateKeys.{Key}
+use Rattle.mx_auth.specs.Rules.{key_of}
 use Rattle.mx_graph.specs.Record.{Row, event}
 use Rattle.mx_graph.proofs.Members.{In}
 use Rattle.mx_orders.specs.Mainline.{mainline_cmp, put_in_order}
-use Rattle.mx_orders.specs.StateMap.{State, entry, key_cmp}
+use Rattle.mx_graph.specs.StateMap.{State, entry, key_cmp}
 use Rattle.mx_state_res.specs.KeptResolutions.{IsAdded, IsOutcome, events_checked, states_of}
 use Rattle.mx_state_res.specs.LaterResolution.{agreed_line}
-use Rattle.mx_state_res.specs.Numbered.{state_at}
+use Rattle.mx_states.specs.Numbered.{state_at}
 use Rattle.mx_state_res.specs.Resolution.{iterative_auth_checks, unconflicted}
 use Rattle.mx_state_res.specs.declared.kept_resolutions.outcomes.Outcome.{Outcome}
 use Rattle.mx_state_res.proofs.KeptGrowthLemmas.{kept-one-more}

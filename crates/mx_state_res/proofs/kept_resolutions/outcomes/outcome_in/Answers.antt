@@ -1,14 +1,15 @@
 use Rattle.std.proofs.Common.{◌≡◌, ◌<◌, Some, true, false, length, sym, subst, ap, ◌∙◌}
 use Rattle.std.specs.Prelude.{IfSome}
 use Rattle.std.specs.List.{All}
-use Rattle.mx_auth.specs.Rules.{Key, key_of}
+use Rattle.mx_pdu.specs.StateKeys.{Key}
+use Rattle.mx_auth.specs.Rules.{key_of}
 use Rattle.mx_graph.specs.Record.{Row, event}
-use Rattle.mx_orders.specs.StateMap.{State, key_cmp}
+use Rattle.mx_graph.specs.StateMap.{State, key_cmp}
 use Rattle.mx_state_res.specs.LaterResolution as later
 use Rattle.mx_state_res.specs.KeptResolutions.{IsOutcome, events_checked}
 use Rattle.mx_state_res.specs.Numbered.{shown_by}
 use Rattle.mx_state_res.proofs.KeptResolutionLemmas.{row-key}
-use Rattle.mx_state_res.proofs.KnownLemmas.{put-known}
+use Rattle.mx_states.proofs.KnownLemmas.{put-known}
 use Rattle.mx_state_res.proofs.NeedLemmas.{outcome-put}
 use Rattle.mx_state_res.proofs.kept_resolutions.outcomes.outcome_in.Goals as goal
 

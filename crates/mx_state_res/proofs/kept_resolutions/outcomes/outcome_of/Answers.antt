@@ -2,15 +2,16 @@ use Rattle.std.proofs.Common.{[], ◌≡◌, ◌<◌, ◌++◌, ◌∷◌, drop,
 use Rattle.std.specs.Prelude.{IfSome, is_none, option_copied, slice_get}
 use Rattle.std.specs.List.{All}
 use Rattle.std.proofs.lemmas.List.{drop-map, drop_all, length-map, take-map, take_all}
-use Rattle.mx_orders.specs.StateMap.{entry}
+use Rattle.mx_graph.specs.StateMap.{entry}
 use Rattle.mx_orders.specs.Mainline.{mainline, mainline_cmp, power_key, put_in_order}
 use Rattle.mx_state_res.specs.KeptResolutions.{AreChecked, IsInOrder, IsOutcome, events_checked, first_of, states_of}
 use Rattle.mx_state_res.specs.LaterResolution.{agreed_line, checking_order}
-use Rattle.mx_state_res.specs.Numbered.{shown_by, state_at, without}
+use Rattle.mx_state_res.specs.Numbered.{shown_by}
+use Rattle.mx_states.specs.Numbered.{state_at, without}
 use Rattle.mx_state_res.specs.Resolution.{full_conflicted, iterative_auth_checks, unconflicted}
 use Rattle.mx_state_res.specs.declared.kept_resolutions.checked_events.CheckedEvent.{CheckedEvent}
-use Rattle.mx_state_res.proofs.ChangeLemmas.{without-known}
-use Rattle.mx_state_res.proofs.KeyLemmas.{Sorted, sorted-filter}
+use Rattle.mx_state_res.proofs.ResolvingLemmas.{without-known}
+use Rattle.mx_states.proofs.KeyLemmas.{Sorted, sorted-filter}
 use Rattle.mx_state_res.proofs.KeptResolutionLemmas.{first-below, first-is}
 use Rattle.mx_state_res.proofs.KeptStateLemmas.{resolved-is}
 use Rattle.mx_state_res.proofs.LaterCheckLemmas.{sorted-checks}
