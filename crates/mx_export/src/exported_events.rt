@@ -12,7 +12,7 @@ ghost use Rattle.mx_export.specs.ExportedEvents.{event_of, IsSound};
 ghost use Rattle.mx_export.specs.RoomEvents.{is_create as is_create_event};
 
 use crate::create_events::{is_create, version_in};
-use crate::event_fields::{event_ids_at, id_of, object_of, room_id_in, sender_in, text_of};
+use crate::event_fields::{event_ids_at, id_of, object_of, room_id_in, sender_in};
 use mx_ident::{EventId, RoomId, UserId};
 use mx_pdu::{Pdu, PduError};
 use serde_json::{Map, Value};
@@ -68,17 +68,18 @@ impl ExportedEvent {
         ensures refused { (cause : Cause)
             → (IsErrOf result (PduError.NotAnEvent cause) ↔ (format_error (view value.now) ≡ Some cause)) }
     {
-        Pdu::check(value)?;
-        let event = ExportedEvent::of_checked(alloc, value)?;
+        let text = Pdu::text_of_value(alloc, value)?;
+        let event = ExportedEvent::of_checked(alloc, value, text)?;
         Ok(event)
     }
 
-    // Of a value that is well formed.
-    fn of_checked(alloc: Global, value: &Value) -> Result<ExportedEvent, AllocError>
-        requires { IsTrue (is_well_formed (view value.now)) }
+    // Of a value that is well formed, and its canonical text.
+    fn of_checked(alloc: Global, value: &Value, text: Vec<u8>) -> Result<ExportedEvent, AllocError>
+        requires well_formed { IsTrue (is_well_formed (view value.now)) }
+        requires text { text.items ≡ canonical_text (view value.now) }
+        requires reads { read text.items ≡ Some (view value.now) }
         ensures { IfOk result (λ event. event ≡ view value.now) }
     {
-        let text = text_of(alloc, value)?;
         let whole = EventParts::of(alloc, object_of(value), text)?;
         let parts = Arc::new(alloc, whole)?;
         Ok(ExportedEvent { parts })

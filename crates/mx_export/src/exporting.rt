@@ -66,10 +66,12 @@ fn event_of(
     members: Map<String, Value>,
 ) -> Result<ExportedEvent, PduError> {
     let mut members = members;
-    if members.remove("unsigned").is_some() {
+    let mut additions = additions_in(alloc, &members)?;
+    if let Some(place) = additions.iter().position(|key| key.as_str() == "unsigned") {
+        drop(additions.remove(place));
+        drop(members.remove("unsigned"));
         count(alloc, let_go, "unsigned")?;
     }
-    let additions = additions_in(alloc, &members)?;
     if additions.is_empty() {
         return ExportedEvent::from_value(alloc, &Value::Object(members));
     }
