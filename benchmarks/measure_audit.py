@@ -4,7 +4,7 @@
     measure_audit.py [--program PATH] [--shapes linear,joins,..] [--events 10000] [--runs 5]
 
 The program is the one that `rt run` or the gate has built. Of the events of each log of make_log.py an export is made:
-one event a line in canonical form, and one array as Python writes it, with an `event_id` in each event. `log` reads
+one event a line in canonical form, and one array as Python writes it, with its `event_id` in each event. `log` reads
 both; `replay` and `audit` read what it writes. `audit` is also asked for the page, and for the states before one event and
 before 50. The runs of all are interleaved, and of each the least seconds of a processor are told, with the most memory, and
 how many times `replay`'s seconds they are."""
@@ -21,6 +21,10 @@ subprocess.run(sys.argv[1:], stdout=subprocess.DEVNULL, stderr=subprocess.DEVNUL
 used = resource.getrusage(resource.RUSAGE_CHILDREN)
 print(used.ru_utime + used.ru_stime, used.ru_maxrss)"""
 HERE = Path(__file__).resolve().parent
+sys.path.insert(0, str(HERE.parent / "tests"))
+sys.dont_write_bytecode = True
+from matrix_events import id_of  # noqa: E402
+
 PROGRAM = HERE.parent / "crates/mx_federd/out/mx_federd"
 ROOM = "!room:s0.example"
 SERVER = ["--name", "hub.example", "--shards", "64"]
@@ -47,7 +51,7 @@ def canonical(event):
 def write_exports(folder, events):
     lines = [canonical({key: event[key] for key in event if key != "unsigned"}) for event in events]
     (folder / "lines").write_text("\n".join(lines) + "\n", encoding="utf-8")
-    array = [{**event, "event_id": "$event"} for event in events]
+    array = [{**event, "event_id": id_of(event)} for event in events]
     (folder / "array").write_text(json.dumps(array), encoding="utf-8")
 
 

@@ -6,6 +6,7 @@
     measure_serve.py shards [--program PATH] [--folder DIR] [--events 10000] [--slow-sync MICROSECONDS]
     measure_serve.py files [--folder DIR]
     measure_serve.py senders [--program PATH] [--folder DIR] [--events 1000]
+    measure_serve.py noting [--program PATH] [--folder DIR] [--seconds 5]
 
 `rows`: a transaction of 50 messages, beside sqlite3's own command line, which inserts the same rows in 50 transactions
 with a write-ahead log and synchronous FULL; and how long the server takes to open its files again, beside `replay` of the
@@ -15,8 +16,10 @@ one answer (benchmarks/constant_server.txt). `shards`: a transaction of 50 messa
 same, and whose shards are four; with `--slow-sync` a sleep follows each sync of a file, as if the disk were slower. `files`:
 rows by sqlite3 alone, each in a transaction of its own, in one file by one process, and in four by four at once: what the
 disk gains by four files. `senders`: messages to one room by one sender and by eight at once, one event to a
-transaction: events a second, and the server's processor time for each. It wants Debian's packages sqlite3 and wrk,
-`shards` and `senders` neither, `files` sqlite3; `--slow-sync` wants gcc."""
+transaction: events a second, and the server's processor time for each. `noting`: queries for an event, to a server with
+`--log` and `--admin` and to one with neither, five times by turns, on one thread: the middle of the requests a second and of
+the processor's time for each. It wants Debian's packages sqlite3 and wrk, `shards` and `senders` neither, `files` sqlite3,
+`noting` wrk; `--slow-sync` wants gcc."""
 
 import argparse
 import http.client
@@ -37,6 +40,7 @@ PROGRAM = TOP / "crates/mx_federd/out/mx_federd"
 sys.path.insert(0, str(TOP / "tests"))
 sys.dont_write_bytecode = True
 from event_logs import FEDERATION, header, quoted  # noqa: E402
+from running_server import free_port  # noqa: E402
 
 SETTINGS = "PRAGMA journal_mode=WAL; PRAGMA synchronous=FULL;\n"
 COLUMNS = "place INTEGER PRIMARY KEY, room TEXT NOT NULL, version TEXT NOT NULL, event TEXT NOT NULL, caller INTEGER NOT NULL"
@@ -287,6 +291,34 @@ def sending(options, folder, threads):
     told(threads, f"sends of one event to {folder.parent}", rate)
 
 
+def room_with_members(options, folder, *words):
+    """A server of one thread that hosts a room of 500 members, the target of a query for its newest event, and who asks."""
+    hosts, sends = parts_of(log_of(1_000, members=500))
+    server = Server(options.program, folder, "--threads", "1", "--connections", "256", *words, hosts=hosts)
+    for send in sends:
+        server.send(*send)
+    server.connection.close()
+    event = json.loads(sends[-1][2])["pdus"][-1]
+    return server, FEDERATION + "v1/event/" + quoted(event["prev_events"][0]), sends[-1][0]
+
+
+def noting(options, folder):
+    servers = {"neither": room_with_members(options, folder / "plain"),
+               "--log and --admin": room_with_members(options, folder / "noting", "--log", folder / "log", "--admin", str(free_port()))}
+    for connections in (1, MANY):
+        rates, times = {name: [] for name in servers}, {name: [] for name in servers}
+        for _ in range(5):
+            for name, (server, target, origin) in servers.items():
+                before = processor_seconds(server.process)
+                rate = wrk(server.port, target, 1, options.seconds, origin, connections=connections)
+                rates[name].append(rate)
+                times[name].append((processor_seconds(server.process) - before) / (rate * options.seconds))
+        for name in servers:
+            told(1, f"{connections} connections, {name}, {statistics.median(times[name]) * 1e6:.1f} microseconds each", statistics.median(rates[name]))
+    for server, _, _ in servers.values():
+        server.stop()
+
+
 def constant(options, threads):
     process = subprocess.Popen([str(options.constant), str(threads)], stdout=subprocess.PIPE)
     port = int(process.stdout.readline().rpartition(b":")[2])
@@ -306,7 +338,7 @@ def requests(options, folder):
 
 def main():
     parser = argparse.ArgumentParser(description=__doc__, formatter_class=argparse.RawDescriptionHelpFormatter)
-    parser.add_argument("what", choices=("rows", "requests", "shards", "files", "senders"))
+    parser.add_argument("what", choices=("rows", "requests", "shards", "files", "senders", "noting"))
     parser.add_argument("--program", type=Path, default=PROGRAM)
     parser.add_argument("--folder", type=Path)
     parser.add_argument("--events", type=int, default=10_000)
@@ -315,7 +347,7 @@ def main():
     parser.add_argument("--slow-sync", type=int)
     options = parser.parse_args()
     with tempfile.TemporaryDirectory(dir=options.folder) as folder:
-        measures = {"rows": rows, "requests": requests, "shards": shards, "files": files, "senders": senders}
+        measures = {"rows": rows, "requests": requests, "shards": shards, "files": files, "senders": senders, "noting": noting}
         measures[options.what](options, Path(folder))
 
 

@@ -22,8 +22,8 @@ from typing import Any
 
 from suite import LeftOut, program, run_tests
 from event_logs import FEDERATION, NAME, Base, header, state_path
-from matrix_events import A, Event, canonical, id_of, message
-from running_server import SECONDS, Refused, Server, base_room, getting, sending
+from matrix_events import A, Event, canonical, create, id_of, message
+from running_server import SECONDS, Refused, Server, asked, base_room, free_port, getting, host_line, sending, serving
 
 STORAGE = 503, b'{"errcode":"M_UNKNOWN","error":"storage"}'
 UNKNOWN = "GET", "/_matrix/federation/v1/unknown"
@@ -38,17 +38,11 @@ LABEL = re.compile(r"([a-z]+)=\"([^\"]*)\"")
 
 # ---- what is asked
 
-def free_port() -> int:
-    """A port that nobody listens at."""
-    with socket.create_server(("127.0.0.1", 0)) as listener:
-        return listener.getsockname()[1]
-
-
-def shown(port: int, target: str, method: str = "GET") -> tuple[int, str]:
+def shown(port: int, target: str, method: str = "GET", body: bytes | None = None, **headers: str) -> tuple[int, str]:
     """The reply of the admin port: its status and its text."""
     connection = http.client.HTTPConnection("127.0.0.1", port, timeout=SECONDS_TO_ANSWER)
     try:
-        connection.request(method, target)
+        connection.request(method, target, body, headers)
         reply = connection.getresponse()
         return reply.status, reply.read().decode()
     finally:
@@ -79,6 +73,14 @@ def figures(text: str) -> dict[str, float]:
         assert name not in found, line
         found[name] = float(matched[3])
     return found
+
+
+def figure(port: int, name: str, wanted: float) -> None:
+    """Waits until a figure of the metrics is so: rooms are counted every two seconds."""
+    until = time.monotonic() + SECONDS_TO_ANSWER
+    while (found := figures(shown(port, "/metrics")[1])).get(name) != wanted:
+        assert time.monotonic() < until, (name, wanted, found)
+        time.sleep(0.1)
 
 
 @contextlib.contextmanager
@@ -331,7 +333,108 @@ def each_figure(folder: Path) -> None:
     assert len(buckets) == 12 and buckets == sorted(buckets) and buckets[-1] == count, buckets
     assert found["mx_federd_request_seconds_count"] == count and 0 < found["mx_federd_request_seconds_sum"] < 60 * count, found
     assert found["mx_federd_open_transactions"] == found["mx_federd_failed_files"] == found["mx_federd_lasting_gaps"] == 0, found
+    assert found["mx_federd_dropped_log_lines_total"] == found["mx_federd_held_bytes"] == 0, found
+    transactions = sum(count for (route, status), count in done.replies.items() if (route, status) == ("send", 200))
+    assert found["mx_federd_kept_transactions"] == transactions, found
     assert since <= found["mx_federd_start_time_seconds"] <= time.time(), found
+
+
+def each_connection(folder: Path) -> None:
+    """The metrics tell how many connections are idle, how many wait for their clients within a request, how many are answered, and
+    how many bytes are held of what has come."""
+    port = free_port()
+    with room(folder, "--admin", port, "--threads", "1") as (server, _):
+        name = "mx_federd_connections|state="
+        head = b"PUT /_matrix/federation/v1/send/x HTTP/1.1\r\nHost: hub.example\r\nContent-Length: 1000000\r\n\r\n"
+        silent, begun = [server.socket() for _ in range(3)], [server.socket() for _ in range(2)]
+        for client in begun:
+            client.sendall(head + b"x" * 500_000)
+        before = figures(shown(port, "/metrics")[1])
+        for state, wanted in (("idle", 3), ("slow", 2), ("busy", 0)):
+            # the connection that made the room may be open
+            if before.get(name + state) != wanted:
+                figure(port, name + state, wanted + (state == "idle") * (before[name + "idle"] > 3))
+        found = figures(shown(port, "/metrics")[1])["mx_federd_held_bytes"]
+        assert 900_000 <= found <= 3_000_000, found
+        for client in silent + begun:
+            client.close()
+        figure(port, name + "slow", 0)
+        figure(port, "mx_federd_held_bytes", 0)
+
+
+def rooms(port: int) -> list[dict[str, Any]]:
+    """The rooms that the port lists."""
+    status, text = shown(port, "/rooms")
+    assert status == 200 and (not text or text.endswith("\n")), (status, text)
+    return [json.loads(line) for line in text.splitlines()]
+
+
+def in_all_shards(port: int, name: str) -> float:
+    """The sum of a figure over all shards."""
+    return sum(value for key, value in figures(shown(port, "/metrics")[1]).items() if key.startswith(name + "|shard="))
+
+
+def each_room(folder: Path) -> None:
+    """The port lists the rooms, and hosts further ones as lines of a log do; what it hosted is there at the next start."""
+    port, second = free_port(), create("!second:a.example", room_version="7")
+    not_a_create = message(A, [], [], room="!third:a.example")
+    answers = ((host_line(second), 200, {"hosted": id_of(second)}), (host_line(second) + b"\n", 200, {"already": id_of(second)}),
+               (host_line({}), 400, {"refused": "malformed"}), (host_line(not_a_create), 400, {"refused": "not a create event"}),
+               (b"", 400, {"error": "bad line"}), (b"x", 400, {"error": "bad line"}))
+    listed = [{"events": 1, "extremities": 1, "joined_servers": 0, "most_events": 50_000, "room": "!second:a.example", "version": "7"}]
+    with serving(folder / "data", "--admin", port, "--shards", "3"):
+        assert not rooms(port)
+        for line, status, answer in answers:
+            assert shown(port, "/rooms", "POST", line) == (status, canonical(answer).decode() + "\n"), (line, status)
+        assert rooms(port) == listed, rooms(port)
+        until = time.monotonic() + SECONDS_TO_ANSWER
+        while in_all_shards(port, "mx_federd_rooms") != 1:
+            assert time.monotonic() < until
+            time.sleep(0.1)
+        assert in_all_shards(port, "mx_federd_room_events") == 1
+    with serving(folder / "data", "--admin", port, "--shards", "3"):
+        assert rooms(port) == listed, rooms(port)
+
+
+def rooms_counted(folder: Path) -> None:
+    """A room's line and the metrics count its events, its forward extremities, and the servers that are in it."""
+    port = free_port()
+    with room(folder, "--admin", port) as (server, base):
+        for number in range(4):
+            said = message(A, [base.join_b], base.of_a, "m%d" % number)
+            assert server.ask(*sending("b.example", "t%d" % number, [said]))[0] == 200
+        figure(port, "mx_federd_room_events|shard=0", 10)
+        figure(port, "mx_federd_rooms|shard=0", 1)
+        listed, = rooms(port)
+        servers = {it["sender"].partition(":")[2] for it in (base.join_a, base.join_b, base.join_c)}
+        assert (listed["room"], listed["events"], listed["joined_servers"]) == (base.create["room_id"], 10, len(servers)), listed
+        figure(port, "mx_federd_most_extremities|shard=0", listed["extremities"])
+        assert listed["extremities"] == 5, listed
+
+
+def nearly_full(folder: Path) -> None:
+    """Once a room has 45,000 of the 50,000 events that it may have, standard error and the log warn, once."""
+    port, log = free_port(), folder / "log"
+    with room(folder, "--admin", port, "--log", log, "--log-format", "json", "--log-level", "warn") as (server, base):
+        connection = server.connect()
+        cited, left = base.join_c, 45_000 - 6
+        for number in range(0, left, 50):
+            sent = []
+            for _ in range(min(50, left - number)):
+                cited = message(A, [cited], base.of_a)
+                sent.append(cited)
+            if number + 50 >= left:
+                figure(port, "mx_federd_room_events|shard=0", 6 + number)
+                assert not log.read_text()
+            assert asked(connection, *sending("a.example", "t%d" % number, sent))[0] == 200
+        connection.close()
+        figure(port, "mx_federd_room_events|shard=0", 45_000)
+        lines = [json.loads(line) for line in written(log, lambda lines: lines)]
+        warning = "warning: %s: 45,000 of the 50,000 events that a room may have are there" % base.create["room_id"]
+        assert [without_times(it) for it in lines] == [{"kind": "warning", "level": "WARN", "text": warning}], lines
+        time.sleep(3)
+        assert len(log.read_text().splitlines()) == 1
+        assert server.said(b"warning: ").decode().splitlines()[-1] == warning
 
 
 def by_promtool(folder: Path) -> None:
@@ -347,11 +450,14 @@ def by_promtool(folder: Path) -> None:
 
 
 def other_requests(folder: Path) -> None:
-    """The port answers GET for its two paths alone, one request a connection, and no client keeps it from the next one."""
+    """The port answers at its three paths alone, to no page of a browser, one request a connection, and no client keeps it from the
+    next one."""
     port = free_port()
     with room(folder, "--admin", port):
         assert shown(port, "/") == (404, "unknown path\n")
-        assert shown(port, "/rooms") == (404, "unknown path\n")
+        assert shown(port, "/rooms", "PUT") == (405, "unknown method\n")
+        assert shown(port, "/rooms", "POST", b"x", Origin="http://a.example")[0] == 403
+        assert shown(port, "/rooms", "POST", b"x" * 200_000)[0] == 400
         assert shown(port, "/health", "POST") == (405, "unknown method\n")
         for said in (b"x\r\n\r\n", b"GET /health\r\n\r\n", b"\0" * 100_000, b"GET /health HTTP/1.1\r\n" + b"a: b\r\n" * 100 + b"\r\n"):
             with socket.create_connection(("127.0.0.1", port), SECONDS_TO_ANSWER) as client:
@@ -415,8 +521,8 @@ def a_port_that_is_taken(folder: Path) -> None:
     assert ran.stderr.decode() == "failed read or write\n127.0.0.1:%d: Address already in use (os error 98)\n" % port, ran
 
 
-TESTS = [each_line, lines_of_text, levels, on_standard_error, moved_away, log_that_fails, a_gap_that_lasts, each_figure, by_promtool,
-         other_requests, all_places_taken, a_failed_file, a_port_that_is_taken]
+TESTS = [each_line, lines_of_text, levels, on_standard_error, moved_away, log_that_fails, a_gap_that_lasts, each_figure, each_connection,
+         each_room, rooms_counted, nearly_full, by_promtool, other_requests, all_places_taken, a_failed_file, a_port_that_is_taken]
 
 if __name__ == "__main__":
     sys.exit(run_tests(TESTS, "what an operator is told"))

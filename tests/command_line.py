@@ -325,6 +325,16 @@ def progress_on_a_terminal() -> None:
         assert told and all(line in ("3 bytes read", "6 bytes read", "9 bytes read") for line in told), (words, told)
 
 
+def all_of(terminal: int) -> bytes:
+    """All that was written to a terminal which no program has open any more; it is closed then."""
+    told = b""
+    with contextlib.suppress(OSError):  # at its end the terminal fails
+        while piece := os.read(terminal, 65_536):
+            told += piece
+    os.close(terminal)
+    return told
+
+
 def shares_told(log: Path, *words: str) -> tuple[list[int], str]:
     """The shares of a log that a replay of it tells on a terminal, on one line, and what it tells behind them."""
     ours, theirs = os.openpty()
@@ -334,8 +344,7 @@ def shares_told(log: Path, *words: str) -> tuple[list[int], str]:
     time.sleep(2.2)  # the pipe is full, and the program waits
     process.stdout.read()
     process.wait()
-    told = os.read(ours, 65_536).decode()
-    os.close(ours)
+    told = all_of(ours).decode()
     size = log.stat().st_size
     found = re.fullmatch(r"((?:\r[0-9]{1,3} %% of %d bytes read)+)\r\n(.*)" % size, told, re.DOTALL)
     assert found, told

@@ -135,6 +135,12 @@ def getting(origin: str, path: str) -> Request:
     return "GET", FEDERATION + path, header(origin)
 
 
+def free_port() -> int:
+    """A port that nobody listens at."""
+    with socket.create_server(("127.0.0.1", 0)) as listener:
+        return listener.getsockname()[1]
+
+
 def base_room(folder: Path, *words: object, **how: Any) -> tuple[Server, Base]:
     """A server over new files that hosts the room of the rows, and the events of that room."""
     base = Base(Log())

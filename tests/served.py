@@ -223,6 +223,18 @@ def bodies_over_the_limit(folder: Path) -> None:
     server.stop()
 
 
+def bodies_that_are_no_json(folder: Path) -> None:
+    """A body with a byte that is no UTF-8 is no JSON, nor one that is nested 128 deep; one that is nested 127 deep is read."""
+    server, _ = base_room(folder)
+    put = "PUT", FEDERATION + "v1/send/t1", header("a.example")
+    for body in (b"\xff", b'{"pdus":[],"x":"\xff"}', b"[" * 128 + b"]" * 128, b"[" * 100_000 + b"]" * 100_000):
+        assert server.ask(*put, body) == NOT_JSON, body[:100]
+    assert server.ask(*put, b"[" * 127 + b"]" * 127) == (400, b'{"errcode":"M_BAD_JSON","error":"body has a wrong form"}')
+    assert server.ask(*put, b'{"pdus":' + b"[" * 127 + b"]" * 127 + b"}") == NOT_JSON
+    assert server.ask(*put, b'{"pdus":' + b"[" * 126 + b"]" * 126 + b"}") == (200, b'{"pdus":{}}')
+    server.stop()
+
+
 def bad_clients(folder: Path) -> None:
     """Malformed heads, and clients that stop in the middle of a request: the next client is answered, and no call was made."""
     server, base = base_room(folder)
@@ -366,7 +378,7 @@ def transactions_in_two_rooms(folder: Path) -> None:
 
 TESTS = [
     every_route, two_connections, one_reply_to_a_transaction, seen_later, four_clients, bodies_over_the_limit,
-    bad_clients, connections_past_the_limit, many_requests, walk_of_the_readme, refused_tries, unheard,
+    bodies_that_are_no_json, bad_clients, connections_past_the_limit, many_requests, walk_of_the_readme, refused_tries, unheard,
     transactions_in_two_rooms,
 ]
 

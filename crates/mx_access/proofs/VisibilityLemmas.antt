@@ -5,7 +5,8 @@ use Rattle.std.specs.FinMap.Entries.{put}
 use Rattle.std.proofs.lemmas.Bool.{true≢false, or_from}
 use Rattle.mx_redact.specs.Fields.{Event, kind}
 use Rattle.mx_pdu.specs.Event.{state_key_of, is_state}
-use Rattle.mx_orders.specs.StateMap.{State, key_cmp, with_event}
+use Rattle.mx_graph.specs.StateMap.{State, key_cmp}
+use Rattle.mx_orders.specs.StateMap.{with_event}
 use Rattle.mx_receipt.specs.Receipt.{Kept, kept_at, is_rejected, state_before, state_after}
 use Rattle.mx_access.specs.Access.{visible_under, visible}
 

@@ -9,7 +9,8 @@ use Rattle.mx_levels.specs.Level.{redact_level}
 use Rattle.mx_auth.specs.StateView.{StateView, power_of, level_of}
 use Rattle.mx_auth.specs.Rules.{same_server}
 use Rattle.mx_graph.specs.Record.{Row, event, events_where}
-use Rattle.mx_orders.specs.StateMap.{State, view}
+use Rattle.mx_graph.specs.StateMap.{State}
+use Rattle.mx_orders.specs.StateMap.{view}
 use Rattle.mx_receipt.specs.Receipt.{Kept, rows_of, kept_at, is_accepted, is_rejected, state_before, state_after, current_state}
 use Rattle.mx_access.specs.declared.visibilities.Visibility.{Visibility}
 use Rattle.mx_access.specs.declared.visibilities.Visibility.TheVariants.{WorldReadable, Shared, Invited, Joined}

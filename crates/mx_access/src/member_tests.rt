@@ -7,7 +7,7 @@ use mx_graph::EventNo;
 use mx_pdu::Pdu;
 use mx_receipt::Timeline;
 use mx_redact::is_text;
-use mx_state_res::EventTest;
+use mx_states::EventTest;
 
 /// Whether an event has this membership.
 #[derive(Debug, Drop)]

@@ -9,7 +9,7 @@ use mx_ident::EventId;
 use mx_levels::Levels;
 use mx_pdu::Pdu;
 use mx_receipt::{Timeline, timeline_is_sound};
-use mx_state_res::StateRef;
+use mx_states::StateRef;
 use std::marker::Model;
 
 /// A state of a room, with the timeline that has its events. Nothing here takes memory.
@@ -23,7 +23,7 @@ pub struct StateInRoom<'t> {
 
 impl<'t> Model for StateInRoom<'t> {
     ghost use Rattle.std.specs.Prelude.{List, ◌<◌, All, length};
-    ghost use Rattle.mx_orders.specs.StateMap.{State};
+    ghost use Rattle.mx_graph.specs.StateMap.{State};
     ghost use Rattle.mx_receipt.specs.Receipt.{Kept};
     ghost use Rattle.mx_access.specs.StateCode.{state_in_room_code};
 
@@ -40,7 +40,8 @@ impl<'t> StateInRoom<'t> {
     ghost use Rattle.std.specs.Prelude.{IfSome};
     ghost use Rattle.std.specs.Option.{option_copied};
     ghost use Rattle.mx_auth.specs.StateView.{create_of, power_of};
-    ghost use Rattle.mx_orders.specs.StateMap.{entry as entry_at, view};
+    ghost use Rattle.mx_graph.specs.StateMap.{entry as entry_at};
+    ghost use Rattle.mx_orders.specs.StateMap.{view};
     ghost use Rattle.mx_receipt.specs.Receipt.{rows_of};
     ghost use Rattle.mx_access.specs.Access.{has_member as has_member_in};
 

@@ -4,15 +4,16 @@ ghost use Rattle.mx_admin.specs.Calls as definition;
 
 /// What a request at the admin port asks.
 ///
-/// `Health`: whether the server is well. `Metrics`: what it counts. `UnknownMethod`: one of these by another method than GET.
-/// `UnknownPath`: another path. `Malformed`: no request, or one whose head is too long or comes too slowly.
+/// `Health`: whether the server is well. `Metrics`: what it counts. `Rooms`: which rooms it hosts. `HostRoom`: that it hosts one
+/// more. `UnknownMethod`: one of these by another method. `UnknownPath`: another path.
 #[derive(Clone, Copy, Debug, PartialEq, Eq)]
 pub enum AdminCall {
     Health,
     Metrics,
+    Rooms,
+    HostRoom,
     UnknownMethod,
     UnknownPath,
-    Malformed,
 }
 
 impl AdminCall {
@@ -24,6 +25,8 @@ impl AdminCall {
             by_get(method, AdminCall::Health)
         } else if path == b"/metrics".as_slice() {
             by_get(method, AdminCall::Metrics)
+        } else if path == b"/rooms".as_slice() {
+            of_rooms(method)
         } else {
             AdminCall::UnknownPath
         }
@@ -38,5 +41,16 @@ fn by_get(method: &[u8], call: AdminCall) -> AdminCall
         call
     } else {
         AdminCall::UnknownMethod
+    }
+}
+
+// What is asked of the rooms by this method.
+fn of_rooms(method: &[u8]) -> AdminCall
+    ensures { result ≡ definition.of_rooms method.now }
+{
+    if method == b"POST".as_slice() {
+        AdminCall::HostRoom
+    } else {
+        by_get(method, AdminCall::Rooms)
     }
 }

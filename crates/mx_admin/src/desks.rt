@@ -88,6 +88,14 @@ impl Desk {
         count
     }
 
+    /// How many lines of the log were dropped: none where there is no log.
+    pub fn dropped_log_lines<R: Wait>(&self, rt: &R) -> u64 {
+        match &self.shared.log {
+            Some(log) => log.records.dropped(rt),
+            None => 0,
+        }
+    }
+
     /// Of how many servers 100 events or more in a row were refused since events that they cite are missing, and none was kept
     /// since.
     pub fn lasting_gaps<R: Wait>(&self, rt: &R) -> u64 {
@@ -157,16 +165,16 @@ impl DeskThread {
     }
 
     /// Hands a record to the log, where there is one.
-    pub fn tell<R: Wait + Clock>(&self, rt: &R, alloc: Global, subject: Subject) {
+    pub fn tell<R: Wait + Clock>(&self, rt: &R, subject: Subject) {
         if let Some(log) = &self.shared.log {
-            log.tell(rt, alloc, subject);
+            log.tell(rt, subject);
         }
     }
 
     /// A record can't be had: where there is a log, a line of it counts as dropped.
     pub fn tell_dropped<R: Wait>(&self, rt: &R) {
         if let Some(log) = &self.shared.log {
-            log.lines.send_dropped(rt);
+            log.tell_dropped(rt);
         }
     }
 }

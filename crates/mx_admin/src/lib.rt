@@ -11,6 +11,8 @@ mod log_files;
 mod notices;
 mod record_logs;
 mod replies;
+mod requests;
+mod rooms;
 mod serving;
 
 pub use calls::AdminCall;
@@ -18,6 +20,7 @@ pub use desks::{Desk, DeskThread};
 pub use failures::Failures;
 pub use log_files::LogFile;
 pub use notices::{NoticeOutput, NoticePaths};
-pub use record_logs::RecordLog;
-pub use replies::{AdminReply, reply_bytes};
+pub use record_logs::{LogRecord, RecordLog};
+pub use replies::{AdminReply, JSON_LINES, PLAIN_TEXT, reply_bytes};
+pub use rooms::{NumberedOrder, RoomDesk, RoomOrder, RoomsReply};
 pub use serving::{AdminSource, answer_one, serve_admin};

@@ -79,7 +79,7 @@ impl NoticePaths {
         }
         if let Some(log) = &self.log {
             let _end = text.pop();
-            log.tell(rt, alloc, Subject::Notice(Notice { kind, text }));
+            log.tell(rt, Subject::Notice(Notice { kind, text }));
         }
         Ok(())
     }
@@ -89,7 +89,7 @@ impl NoticePaths {
             lines.send_dropped(rt);
         }
         if let Some(log) = &self.log {
-            log.lines.send_dropped(rt);
+            log.tell_dropped(rt);
         }
     }
 }

@@ -1,33 +1,33 @@
 // The admin port: one request at a time, one request a connection.
 use crate::calls::AdminCall;
-use crate::replies::{AdminReply, reply_bytes};
-use httparse::Status;
-use httparse::spans::{HeaderSpan, parse_request};
+use crate::replies::{AdminReply, JSON_LINES, PLAIN_TEXT, reply_bytes};
+use crate::requests::{AdminRequest, read_request};
+use crate::rooms::RoomsReply;
 use std::alloc::{AllocError, AllocGlobal, Global};
-use std::io::{ErrorKind, Read, Write};
+use std::io::{Read, Write};
 use std::net::{TcpListener, TcpStream};
 use std::sync::Wait;
 use std::thread;
 use std::time::{Clock, Duration};
 
-// How many reads a request's head may take, of 1,024 bytes at most.
-const MOST_READS: u32 = 64;
-// The most headers of a request.
-const MOST_HEADERS: usize = 32;
-// For how long a client may say nothing, and how long its request may take, in milliseconds.
+// For how long a client may say nothing, in milliseconds.
 const LONGEST_SILENCE: u64 = 500;
-
-const LONGEST_REQUEST: u64 = 1_000;
 // How many milliseconds it waits where a connection can't be taken in.
 const PAUSE: u64 = 50;
 
-/// What the admin port shows.
+/// What the admin port shows, and what may be done there.
 pub trait AdminSource {
     /// What failed, a line each; no text where the server is well.
     fn failures<R: Wait>(&self, rt: &R) -> Result<String, AllocError>;
 
     /// What the server counts, in the text form of Prometheus.
     fn metrics<R: Wait>(&self, rt: &R, alloc: Global) -> Result<String, AllocError>;
+
+    /// The rooms, a line of JSON each; none where that takes too long.
+    fn rooms<R: Wait + Clock>(&self, rt: &R) -> Option<RoomsReply>;
+
+    /// Hosts the room of a line, as of a file of rooms, and gives what the line is answered; none where that takes too long.
+    fn host_room<R: Wait + Clock>(&self, rt: &R, line: Vec<u8>) -> Option<RoomsReply>;
 }
 
 /// Answers the requests that come to a listener, one after another, for good. A client has a second for its request.
@@ -65,87 +65,40 @@ pub fn answer_one<R: Wait + Clock, S: AdminSource, T: Read + Write>(
     stream: &mut T,
     source: &S,
 ) -> Result<(), AllocError> {
-    let call = read_call(rt, alloc, stream)?;
-    let reply = reply_to(rt, alloc, call, source)?;
+    let reply = match read_request(rt, alloc, stream)? {
+        AdminRequest::Asking(call, body) => reply_to(rt, alloc, call, body, source)?,
+        AdminRequest::FromPage => plain(alloc, 403, "a page of a browser may not ask\n")?,
+        AdminRequest::Malformed => plain(alloc, 400, "malformed request\n")?,
+    };
     let text = reply_bytes(alloc, &reply)?;
     let _ = stream.write_all(text.as_bytes());
     let _ = stream.flush();
     Ok(())
 }
 
-// What the request of a connection asks.
-fn read_call<C: Clock, T: Read>(
-    clock: &C,
-    alloc: Global,
-    stream: &mut T,
-) -> Result<AdminCall, AllocError> {
-    let mut head = Vec::new(alloc);
-    let begun = clock.monotonic().ok();
-    for _read in 0..MOST_READS {
-        if !has_more(stream, &mut head)? || is_late(clock, begun) {
-            return Ok(AdminCall::Malformed);
-        }
-        if let Some(call) = call_in(&head) {
-            return Ok(call);
-        }
-    }
-    Ok(AdminCall::Malformed)
-}
-
-// Takes what one read gives behind the head so far; false at the end, and where a read fails.
-fn has_more<T: Read>(stream: &mut T, head: &mut Vec<u8>) -> Result<bool, AllocError> {
-    let mut chunk = [0u8; 1024];
-    match stream.read(&mut chunk) {
-        Ok(0) => Ok(false),
-        Ok(count) => {
-            head.extend_from_slice(&chunk[..count])?;
-            Ok(true)
-        }
-        Err(error) => Ok(error.kind() == ErrorKind::Interrupted),
-    }
-}
-
-fn is_late<C: Clock>(clock: &C, begun: Option<Duration>) -> bool {
-    match (begun, clock.monotonic()) {
-        (Some(begun), Ok(now)) => {
-            now.saturating_sub(begun) > Duration::from_millis(LONGEST_REQUEST)
-        }
-        _ => true,
-    }
-}
-
-// What a head asks; none where more of it is to come.
-fn call_in(head: &[u8]) -> Option<AdminCall> {
-    let mut headers = [HeaderSpan::default(); MOST_HEADERS];
-    match parse_request(head, &mut headers) {
-        Ok(Status::Complete(parsed)) => {
-            Some(AdminCall::of(parsed.method.of(head), parsed.path.of(head)))
-        }
-        Ok(Status::Partial) => None,
-        Err(_error) => Some(AdminCall::Malformed),
-    }
-}
-
-// The reply to what is asked.
-fn reply_to<R: Wait, S: AdminSource>(
+// The reply to what is asked, with this body.
+fn reply_to<R: Wait + Clock, S: AdminSource>(
     rt: &R,
     alloc: Global,
     call: AdminCall,
+    body: Vec<u8>,
     source: &S,
 ) -> Result<AdminReply, AllocError> {
     match call {
         AdminCall::Health => health(rt, alloc, source),
-        AdminCall::Metrics => {
-            let body = source.metrics(rt, alloc)?;
-            Ok(AdminReply {
-                status: 200,
-                reason: "OK",
-                body,
-            })
-        }
-        AdminCall::UnknownMethod => plain(alloc, 405, "Method Not Allowed", "unknown method\n"),
-        AdminCall::UnknownPath => plain(alloc, 404, "Not Found", "unknown path\n"),
-        AdminCall::Malformed => plain(alloc, 400, "Bad Request", "malformed request\n"),
+        AdminCall::Metrics => Ok(reply(200, PLAIN_TEXT, source.metrics(rt, alloc)?)),
+        AdminCall::Rooms => of_rooms(alloc, source.rooms(rt)),
+        AdminCall::HostRoom => of_rooms(alloc, source.host_room(rt, body)),
+        AdminCall::UnknownMethod => plain(alloc, 405, "unknown method\n"),
+        AdminCall::UnknownPath => plain(alloc, 404, "unknown path\n"),
+    }
+}
+
+// The reply of who has the rooms.
+fn of_rooms(alloc: Global, answered: Option<RoomsReply>) -> Result<AdminReply, AllocError> {
+    match answered {
+        Some(RoomsReply { status, text }) => Ok(reply(status, JSON_LINES, text)),
+        None => plain(alloc, 503, "busy\n"),
     }
 }
 
@@ -156,25 +109,32 @@ fn health<R: Wait, S: AdminSource>(
 ) -> Result<AdminReply, AllocError> {
     let failures = source.failures(rt)?;
     if failures.is_empty() {
-        return plain(alloc, 200, "OK", "ok\n");
+        return plain(alloc, 200, "ok\n");
     }
-    Ok(AdminReply {
-        status: 503,
-        reason: "Service Unavailable",
-        body: failures,
-    })
+    Ok(reply(503, PLAIN_TEXT, failures))
 }
 
-fn plain(
-    alloc: Global,
-    status: u16,
-    reason: &'static str,
-    body: &str,
-) -> Result<AdminReply, AllocError> {
-    let body = String::from_str(alloc, body)?;
-    Ok(AdminReply {
+fn plain(alloc: Global, status: u16, body: &str) -> Result<AdminReply, AllocError> {
+    Ok(reply(status, PLAIN_TEXT, String::from_str(alloc, body)?))
+}
+
+fn reply(status: u16, media: &'static str, body: String) -> AdminReply {
+    AdminReply {
         status,
-        reason,
+        reason: reason_of(status),
+        media,
         body,
-    })
+    }
+}
+
+// The name of a status of HTTP. Source: RFC 9110, section 15.
+fn reason_of(status: u16) -> &'static str {
+    match status {
+        200 => "OK",
+        403 => "Forbidden",
+        404 => "Not Found",
+        405 => "Method Not Allowed",
+        503 => "Service Unavailable",
+        _ => "Bad Request",
+    }
 }

@@ -56,7 +56,7 @@ pub fn note_answer<R: Wait + Clock>(
         milliseconds: microseconds / 1_000,
         bytes: body.len() as u64,
     });
-    desk.tell(rt, alloc, subject);
+    desk.tell(rt, subject);
 }
 
 // Counts what became of each event that was offered, and tells of those that were refused or rejected.
@@ -107,7 +107,7 @@ fn note_event<R: Wait + Clock>(
                     _ => NotTaken::Refused,
                 };
                 let subject = not_taken(alloc, how, &call.origin, event, cause)?;
-                desk.tell(rt, alloc, subject);
+                desk.tell(rt, subject);
             }
         }
     }

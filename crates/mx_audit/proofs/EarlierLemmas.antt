@@ -6,7 +6,7 @@ use Rattle.std.proofs.lemmas.List.{get_or-take, length-map, length-take-le, take
 use Rattle.std.specs.List.{position_or_len, prefix_len}
 use Rattle.std.specs.Prelude.{bytes_eq, nat_lt, position}
 use Rattle.mx_graph.specs.Record.{Row, no_row, place_of, row}
-use Rattle.mx_orders.specs.StateMap.{State}
+use Rattle.mx_graph.specs.StateMap.{State}
 use Rattle.mx_receipt.specs.Receipt.{Kept, before_event, is_rejected, kept_at, rows_of, state_before, state_before_next, states_after, version_in, with_kept}
 
 -- ---- the first that passes a test, among the first ones

@@ -7,7 +7,7 @@ use Rattle.std.specs.List.{All}
 use Rattle.mx_graph.specs.Edges.{Rises}
 use Rattle.mx_graph.specs.Record.{Row, event, events_where, is_in, prev_events}
 use Rattle.mx_graph.proofs.Closure.{all-in, in-all}
-use Rattle.mx_orders.specs.StateMap.{State}
+use Rattle.mx_graph.specs.StateMap.{State}
 use Rattle.mx_receipt.specs.Receipt.{Kept, rows_of, state_after}
 use Rattle.mx_state_res.proofs.SetLemmas.{rising-is}
 use Rattle.mx_audit.specs.Resolutions.{states_before}

@@ -2,8 +2,9 @@
 use Rattle.std.proofs.Common.{◌≡◌, ℕ, List, [], ◌∷◌, Bor, filter, map, not, refl, ap, ◌∙◌}
 use Rattle.mx_auth.specs.declared.versions.RoomVersion.{RoomVersion}
 use Rattle.mx_graph.specs.Record.{Row}
-use Rattle.mx_orders.specs.StateMap.{State}
-use Rattle.mx_state_res.specs.Resolution.{has_entry, unconflicted, is_allowed, after_check, iterative_auth_checks, overwritten, resolve}
+use Rattle.mx_graph.specs.StateMap.{State}
+use Rattle.mx_states.specs.Entries.{has_entry, overwritten}
+use Rattle.mx_state_res.specs.Resolution.{unconflicted, is_allowed, after_check, iterative_auth_checks, resolve}
 use Rattle.mx_state_res.proofs.SetLemmas.{map-map, shown}
 use Rattle.mx_audit.specs.Steps.{refusal_at, check_steps, with_step, with_steps, power_list, partial_state, other_list, conflicted_entries, power_steps, other_steps, state_by_steps}
 

@@ -3,7 +3,7 @@ use Rattle.std.proofs.Common.{◌≡◌, ◌↔◌, ◌<◌, ◌≤◌, ◌⊎�
 use Rattle.std.proofs.lemmas.Option.{slice_get_past, slice_get-get_or}
 use Rattle.std.specs.Prelude.{IsErrAnd, IsErrOf, Result, Ok, Err, option_copied, option_map}
 use Rattle.mx_redact.specs.Fields.{Event}
-use Rattle.mx_auth.specs.Rules.{Key}
+use Rattle.mx_pdu.specs.StateKeys.{Key}
 use Rattle.mx_receipt.specs.Receipt.{AreJudged, Kept, auth_failure, kept_at, rows_of}
 use Rattle.mx_receipt.specs.declared.verdicts.Verdict.{Verdict}
 use Rattle.mx_receipt.specs.declared.refusals.NotReceived.{NotReceived}

@@ -5,11 +5,12 @@ use Rattle.serde_json.specs.Find.{of_integer}
 use Rattle.mx_redact.specs.Fields.{Event, kind, is_some_and}
 use Rattle.mx_redact.specs.Hashes.{hash_holds}
 use Rattle.mx_pdu.specs.Event.{auth_ids, content_of, depth_of, is_state, prev_ids, sender_of, state_key_of, timestamp_of}
-use Rattle.mx_auth.specs.Rules.{Key, label_text, same_key}
+use Rattle.mx_pdu.specs.StateKeys.{Key}
+use Rattle.mx_auth.specs.Rules.{label_text, same_key}
 use Rattle.mx_auth.specs.Versions.{version_text}
 use Rattle.mx_auth.specs.declared.versions.RoomVersion.{RoomVersion}
 use Rattle.mx_graph.specs.Record.{event, events_where, is_in, names_in_redaction, row}
-use Rattle.mx_orders.specs.StateMap.{State, entry}
+use Rattle.mx_graph.specs.StateMap.{State, entry}
 use Rattle.mx_receipt.specs.Receipt.{Kept, current_state, forward_extremities, is_accepted, kept_at, rows_of, version_in}
 use Rattle.mx_receipt.specs.declared.verdicts.Verdict.{Verdict}
 use Rattle.mx_lines.specs.Contents.{content_members, hash_text}

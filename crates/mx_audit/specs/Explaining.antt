@@ -2,10 +2,12 @@
 -- Server-Server API, checks performed on receipt of a PDU).
 use Rattle.std.specs.Prelude.{ℕ, List, map, Option, None, Some}
 use Rattle.mx_redact.specs.Fields.{Event}
-use Rattle.mx_auth.specs.Rules.{Key, rules, needed_keys}
+use Rattle.mx_pdu.specs.StateKeys.{Key}
+use Rattle.mx_auth.specs.Rules.{rules, needed_keys}
 use Rattle.mx_auth.specs.declared.refusals.Rule.{Rule}
 use Rattle.mx_graph.specs.Record.{auth_events}
-use Rattle.mx_orders.specs.StateMap.{State, entry, state_of, view}
+use Rattle.mx_graph.specs.StateMap.{State, entry}
+use Rattle.mx_orders.specs.StateMap.{state_of, view}
 use Rattle.mx_receipt.specs.Receipt.{Kept, rows_of, version_in, state_before_next, current_state, auth_failure}
 use Rattle.mx_receipt.specs.declared.verdicts.Verdict.{Verdict}
 use Rattle.mx_receipt.specs.declared.verdicts.Verdict.TheVariants.{Accepted, SoftFailed, Rejected}

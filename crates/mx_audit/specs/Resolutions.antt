@@ -1,7 +1,7 @@
 -- Which states the state before an event was resolved of (Matrix specification, Server-Server API, PDUs).
 use Rattle.std.specs.Prelude.{ℕ, List, map}
 use Rattle.mx_graph.specs.Record.{event, events_where, is_in, prev_events}
-use Rattle.mx_orders.specs.StateMap.{State}
+use Rattle.mx_graph.specs.StateMap.{State}
 use Rattle.mx_receipt.specs.Receipt.{Kept, rows_of, state_after}
 
 -- the states after its prev events, each once

@@ -5,10 +5,12 @@ use Rattle.mx_auth.specs.Rules.{rules}
 use Rattle.mx_auth.specs.declared.refusals.Rule.{Rule}
 use Rattle.mx_auth.specs.declared.versions.RoomVersion.{RoomVersion}
 use Rattle.mx_graph.specs.Record.{Row, event, is_in}
-use Rattle.mx_orders.specs.StateMap.{State, entry, with_event}
+use Rattle.mx_graph.specs.StateMap.{State, entry}
+use Rattle.mx_orders.specs.StateMap.{with_event}
 use Rattle.mx_orders.specs.PowerOrder.{power_order}
 use Rattle.mx_orders.specs.Mainline.{power_key, mainline, mainline_order}
-use Rattle.mx_state_res.specs.Resolution.{has_entry, unconflicted, full_conflicted, judged_in, after_check, iterative_auth_checks, power_events, overwritten}
+use Rattle.mx_states.specs.Entries.{has_entry, overwritten}
+use Rattle.mx_state_res.specs.Resolution.{unconflicted, full_conflicted, judged_in, after_check, iterative_auth_checks, power_events}
 use Rattle.mx_audit.specs.declared.steps.ResolutionStep.{ResolutionStep}
 
 -- the line that does not allow an event in the state so far

@@ -1,6 +1,6 @@
 -- What is told of the events of a room (Matrix specification, Server-Server API, checks performed on receipt of a PDU).
 use Rattle.std.specs.Prelude.{ℕ, zero, suc, List, take, slice_get, Option, None, option_map}
-use Rattle.mx_auth.specs.Rules.{Key}
+use Rattle.mx_pdu.specs.StateKeys.{Key}
 use Rattle.mx_receipt.specs.Receipt.{Kept, kept_at}
 use Rattle.mx_audit.specs.Explaining.{deciding_check, entries_asked}
 use Rattle.mx_audit.specs.declared.checks.FailedCheck.{FailedCheck}

@@ -5,7 +5,7 @@ use Rattle.serde_json.specs.Data.{Data, string}
 use Rattle.mx_canon.specs.Canonical.{value_text}
 use Rattle.mx_redact.specs.Fields.{Event}
 use Rattle.mx_pdu.specs.Event.{auth_ids}
-use Rattle.mx_auth.specs.Rules.{Key}
+use Rattle.mx_pdu.specs.StateKeys.{Key}
 use Rattle.mx_lines.specs.Lines.{text_array}
 use Rattle.mx_lines.specs.Written.{opened, with_members}
 use Rattle.mx_audit.specs.EventLines.{head_members}

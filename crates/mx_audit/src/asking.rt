@@ -5,7 +5,7 @@ ghost use Rattle.mx_audit.specs.Explaining.{entries_at};
 
 use mx_auth::{NeededKeys, StateKey};
 use mx_graph::EventNo;
-use mx_state_res::StateRef;
+use mx_states::StateRef;
 use std::alloc::{AllocError, Global};
 use std::marker::Model;
 
@@ -68,7 +68,7 @@ impl AskedEntry {
 
 /// A state, as it is asked for the event at a key.
 pub(crate) trait StateLookup {
-    ghost use Rattle.mx_orders.specs.StateMap.{State, entry};
+    ghost use Rattle.mx_graph.specs.StateMap.{State, entry};
 
     ghost state: { Self → State };
 

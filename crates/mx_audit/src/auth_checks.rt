@@ -41,7 +41,8 @@ impl<'a> Model for StateOfEvents<'a> {
 impl<'a> StateOfEvents<'a> {
     ghost use Rattle.std.specs.Prelude.{◌≡◌, ◌<◌, All, IfSome, length};
     ghost use Rattle.mx_receipt.specs.Receipt.{rows_of};
-    ghost use Rattle.mx_orders.specs.StateMap.{entry as entry_at, state_of};
+    ghost use Rattle.mx_graph.specs.StateMap.{entry as entry_at};
+    ghost use Rattle.mx_orders.specs.StateMap.{state_of};
 
     /// The state that these events make.
     pub(crate) fn of(earlier: &'a EarlierEvents<'a>, events: &'a [EventNo]) -> StateOfEvents<'a>

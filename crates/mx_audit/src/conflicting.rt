@@ -1,10 +1,10 @@
 // What is in conflict between states.
 ghost use Rattle.std.specs.Prelude.{◌≡◌, IfOk, filter, map, not};
 ghost use Rattle.mx_graph.specs.Record.{is_in};
-ghost use Rattle.mx_state_res.specs.Resolution as definition;
+ghost use Rattle.mx_states.specs.Entries as definition;
 
 use mx_graph::EventNo;
-use mx_state_res::{StateEntry, StateMap};
+use mx_states::{StateEntry, StateMap};
 use std::alloc::{AllocError, Global};
 
 /// Of each state, the entries that are not in the unconflicted state.

@@ -13,7 +13,7 @@ use mx_ident::EventId;
 use mx_lines::{open_line, put_comma, write_id};
 use mx_reasons::{JudgedEvent, write_facts};
 use mx_receipt::Timeline;
-use mx_state_res::{StateEntry, StateRef};
+use mx_states::{StateEntry, StateRef};
 use std::alloc::{AllocError, Global};
 
 /// A state of a room, a line for each of its entries in the order of their keys, with the id of the event that stands

@@ -28,7 +28,7 @@ use mx_lines::{
 };
 use mx_pdu::Pdu;
 use mx_receipt::Timeline;
-use mx_state_res::StateRef;
+use mx_states::StateRef;
 use std::alloc::{AllocError, Global};
 
 // How many bytes a line has room for before it takes more memory.

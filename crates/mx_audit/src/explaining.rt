@@ -15,7 +15,7 @@ use mx_auth::{Rule, needed_keys};
 use mx_graph::EventNo;
 use mx_pdu::Pdu;
 use mx_receipt::{Timeline, Verdict, timeline_is_judged};
-use mx_state_res::StateRef;
+use mx_states::StateRef;
 use std::alloc::{AllocError, Global};
 
 /// Why an event was received as it was: its number, the check that it failed, if any, and what stood at the keys that the

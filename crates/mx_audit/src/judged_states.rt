@@ -6,7 +6,8 @@ use mx_auth::{RoomState, RoomVersion, Rule, judge};
 use mx_graph::{EventNo, Graph};
 use mx_ident::EventId;
 use mx_pdu::Pdu;
-use mx_state_res::{StateMap, usable_auth_event};
+use mx_state_res::usable_auth_event;
+use mx_states::StateMap;
 use std::marker::Model;
 
 // A state, in which what it lacks is taken from the auth events of an event.
@@ -22,7 +23,7 @@ impl<'a> Model for JudgedState<'a> {
     ghost use Rattle.std.specs.Prelude.{List, ℕ, ◌<◌, All, length};
     ghost use Rattle.mx_auth.specs.declared.versions.RoomVersion.{RoomVersion};
     ghost use Rattle.mx_graph.specs.Record.{Row};
-    ghost use Rattle.mx_orders.specs.StateMap.{State};
+    ghost use Rattle.mx_graph.specs.StateMap.{State};
     ghost use Rattle.mx_state_res.specs.StateCode.{judged_code};
 
     ghost Value = { List Row × (State × (ℕ × RoomVersion)) };
@@ -39,7 +40,7 @@ impl<'a> JudgedState<'a> {
     ghost use Rattle.std.specs.Prelude.{◌≡◌, ◌<◌, IfSome, length};
     ghost use Rattle.std.specs.Option.{option_or};
     ghost use Rattle.mx_graph.specs.Record as record_of;
-    ghost use Rattle.mx_orders.specs.StateMap.{entry as entry_at};
+    ghost use Rattle.mx_graph.specs.StateMap.{entry as entry_at};
     ghost use Rattle.mx_state_res.specs.Resolution as definition;
 
     // The number of the event at a type and a state key.

@@ -4,7 +4,7 @@ ghost use Rattle.mx_redact.specs.Fields.{Event};
 ghost use Rattle.mx_receipt.specs.Receipt.{Kept, verdict};
 ghost use Rattle.mx_auth.specs.declared.versions.RoomVersion.{RoomVersion};
 ghost use Rattle.mx_graph.specs.Record.{Row};
-ghost use Rattle.mx_orders.specs.StateMap.{State};
+ghost use Rattle.mx_graph.specs.StateMap.{State};
 ghost use Rattle.mx_state_res.specs.Resolution.{resolve};
 ghost use Rattle.mx_audit.specs.Explaining.{deciding_check, verdict_by};
 ghost use Rattle.mx_audit.specs.Steps.{other_steps, power_steps, state_by_steps};

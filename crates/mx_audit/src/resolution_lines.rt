@@ -1,6 +1,6 @@
 // The lines that tell of a resolution.
 ghost use Rattle.std.specs.Prelude.{◌≡◌, ◌++◌, ℕ, IfOk, List, Some, flat_map};
-ghost use Rattle.mx_orders.specs.StateMap.{State};
+ghost use Rattle.mx_graph.specs.StateMap.{State};
 ghost use Rattle.mx_audit.specs.EventLines as definition;
 
 use crate::entry_lines::{id_at, write_rest};
@@ -9,7 +9,7 @@ use crate::steps::{ResolutionStep, ResolutionSteps};
 use mx_canon::{TextBuffer, TextSink, write_key, write_string};
 use mx_lines::{end_line, open_line, write_flag, write_id, write_number, write_text_if};
 use mx_receipt::Timeline;
-use mx_state_res::{StateEntry, StateMap};
+use mx_states::{StateEntry, StateMap};
 use std::alloc::{AllocError, Global};
 
 /// A resolution in lines: the entries in conflict of each state, by the state's place from 0, then the checks of the power

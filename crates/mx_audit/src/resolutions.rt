@@ -7,7 +7,7 @@ ghost use Rattle.mx_audit.specs.Resolutions.{states_before};
 use crate::steps::{ResolutionSteps, resolution_steps};
 use mx_graph::{EventNo, Graph, rising};
 use mx_receipt::{Timeline, timeline_is_sound};
-use mx_state_res::StateMap;
+use mx_states::StateMap;
 use std::alloc::{AllocError, Global};
 
 /// How the state before the event with this number was resolved: the states after its prev events, each once, rising. The

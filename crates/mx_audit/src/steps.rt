@@ -8,7 +8,8 @@ use crate::judged_states::refusal_in;
 use mx_auth::{RoomVersion, Rule};
 use mx_graph::{EventNo, Graph};
 use mx_orders::{mainline_order, power_order};
-use mx_state_res::{StateMap, full_conflicted, power_events, unconflicted};
+use mx_state_res::{full_conflicted, power_events, unconflicted};
+use mx_states::StateMap;
 use std::alloc::{AllocError, Global};
 
 /// An event of a conflict, and the line of the rules that does not allow it in the state so far; none where they allow it,

@@ -5,7 +5,8 @@ use Rattle.std.specs.List.{list_any}
 use Rattle.std.proofs.lemmas.List.{drop_more}
 use Rattle.mx_redact.specs.Fields.{Event}
 use Rattle.mx_pdu.specs.Event.{has_kind, auth_ids}
-use Rattle.mx_auth.specs.Rules.{Cited, Key, reject_if, first_line, auth_lines, auth_rules, key_of, same_key, has_repeat, is_selected, cited_keys}
+use Rattle.mx_auth.specs.Rules.{Cited, reject_if, first_line, auth_lines, auth_rules, key_of, same_key, has_repeat, is_selected, cited_keys}
+use Rattle.mx_pdu.specs.StateKeys.{Key}
 use Rattle.mx_auth.specs.Keys.{cited_shown, repeats_key, is_cited_again}
 use Rattle.mx_auth.specs.declared.citing.CitedEvent.{CitedEvent}
 use Rattle.mx_auth.specs.declared.versions.RoomVersion.{RoomVersion}

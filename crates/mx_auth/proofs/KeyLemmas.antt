@@ -2,7 +2,7 @@
 use Rattle.std.proofs.Common.{◌≡◌, ℕ, ◌+◌, ◌<◌, ◌≤◌, ap, ◌∙◌, arith, add-one, map, take, length, set, List, [], ◌∷◌, ◌++◌}
 use Rattle.std.proofs.Math.Seq.{take-suc-set}
 use Rattle.std.proofs.lemmas.List.{map-append, length-map, length-take-le}
-use Rattle.mx_auth.specs.Rules.{Key}
+use Rattle.mx_pdu.specs.StateKeys.{Key}
 use Rattle.mx_auth.specs.Keys.{key_shown}
 use Rattle.mx_auth.specs.declared.selecting.StateKey.{StateKey}
 

@@ -8,7 +8,8 @@ use Rattle.mx_redact.specs.Fields.{Event, is_some_and, kind}
 use Rattle.mx_pdu.specs.Event.{has_kind, sender_of, is_state, prev_ids, membership_of, has_membership}
 use Rattle.mx_levels.specs.Level.{required_level}
 use Rattle.mx_auth.specs.StateView.{StateView, create_of, power_of, is_joined, is_invited_or_joined, is_knocking, is_banned, join_rule_in}
-use Rattle.mx_auth.specs.Rules.{Line, allow, reject, pass, reject_if, where_so, first_line, is_kept_out, target_of, is_own, reaches, create_lines, join_lines, invite_lines, leave_lines, ban_lines, is_knock, knock_lines, member_lines, third_party_invite_lines, power_lines, other_lines, rules, Key, needed_keys, AgreeAt}
+use Rattle.mx_auth.specs.Rules.{Line, allow, reject, pass, reject_if, where_so, first_line, is_kept_out, target_of, is_own, reaches, create_lines, join_lines, invite_lines, leave_lines, ban_lines, is_knock, knock_lines, member_lines, third_party_invite_lines, power_lines, other_lines, rules, needed_keys, AgreeAt}
+use Rattle.mx_pdu.specs.StateKeys.{Key}
 use Rattle.mx_auth.specs.declared.versions.RoomVersion.{RoomVersion}
 use Rattle.mx_auth.specs.declared.refusals.Rule.{Rule}
 use Rattle.mx_auth.specs.declared.refusals.Rule.TheVariants.{CreateHasPrevEvents, CreateOfAnotherServer, CreateVersionUnknown, CreateWithoutCreator, StateWithoutCreate, RoomNotFederated, MemberIncomplete, MembershipUnknown, SenderNotJoined, SenderLevelTooLow, StateKeyOfAnotherUser}

@@ -2,7 +2,8 @@
 use Rattle.std.specs.Prelude.{Bool, List, map, take, filter_map}
 use Rattle.std.specs.List.{list_any}
 use Rattle.mx_redact.specs.Fields.{Event, is_some_and}
-use Rattle.mx_auth.specs.Rules.{Key, Cited, key_of, same_key, has_repeat}
+use Rattle.mx_pdu.specs.StateKeys.{Key}
+use Rattle.mx_auth.specs.Rules.{Cited, key_of, same_key, has_repeat}
 use Rattle.mx_auth.specs.declared.selecting.StateKey.{StateKey}
 use Rattle.mx_auth.specs.declared.selecting.NeededKeys.TheInside.{Inside}
 use Rattle.mx_auth.specs.declared.citing.CitedEvent.{CitedEvent}

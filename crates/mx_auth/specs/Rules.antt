@@ -8,6 +8,7 @@ use Rattle.serde_json.specs.Find.{as_bool}
 use Rattle.mx_ident.specs.Identifier.{begins_with, server_of, is_user_id}
 use Rattle.mx_redact.specs.Fields.{Event, field, text_field, value_at, is_object, object_keys, is_some_and, is_none_or, words, kind}
 use Rattle.mx_pdu.specs.Event.{has_kind, room_of, sender_of, state_key_of, is_state, content_of, prev_ids, auth_ids, membership_of, has_membership}
+use Rattle.mx_pdu.specs.StateKeys.{Key}
 use Rattle.mx_levels.specs.Level.{level_at, is_creator, required_level, ban_level, kick_level, invite_level}
 use Rattle.mx_auth.specs.StateView.{StateView, create_of, power_of, level_of, is_joined, is_invited_or_joined, is_knocking, is_banned, join_rule_in}
 use Rattle.mx_auth.specs.Versions.{version_of, has_knocks}
@@ -299,10 +300,6 @@ unfoldable pub rules : RoomVersion → Event → StateView → Option Rule
 rules v e s = first_line (rule_lines v e s)
 
 -- ---- Server-Server API, auth events selection; Room Version 6 and 7, authorization rules, 2
-
--- a type and a state key
-abbrev pub Key : Type 0
-Key = List ℕ × List ℕ
 
 abbrev pub same_key : Key → Key → Bool
 same_key a b = bytes_eq a.0 b.0 && bytes_eq a.1 b.1

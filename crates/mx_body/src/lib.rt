@@ -16,6 +16,7 @@ mod values;
 
 pub use errors::BodyError;
 pub use questions::{MissingQuestion, missing_question};
+pub use reading::MAX_DEPTH;
 pub use texts::event_text;
 pub use transactions::{MOST_EPHEMERAL_EVENTS, MOST_EVENTS, transaction_texts};
-pub use values::body_value;
+pub use values::{body_value, read_value};

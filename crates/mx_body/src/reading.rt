@@ -15,7 +15,7 @@ use json::{Reader, Token};
 use std::alloc::Global;
 
 /// How deep arrays and objects of a body may nest.
-pub(crate) const MAX_DEPTH: usize = 127;
+pub const MAX_DEPTH: usize = 127;
 
 /// The canonical text of the next value, where it has one that may fit. The rest of a value is read in any case.
 ///

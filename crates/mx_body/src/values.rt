@@ -45,9 +45,12 @@ fn read_whole(alloc: Global, scratch: &mut Scratch, text: &str) -> Result<Value,
     Ok(value)
 }
 
-// The next value. `NotJson` where none is next that nests at most so deep; `Memory`.
+/// The next value of a reader, as [`body_value`] reads it.
+///
+/// `NotJson` where none is next whose arrays and objects nest at most so deep; `Memory`. Source: the Matrix specification,
+/// Server-Server API, "API standards".
 #[cycle(read_value)]
-fn read_value(alloc: Global, reader: &mut Reader<'_>, depth: usize) -> Result<Value, BodyError>
+pub fn read_value(alloc: Global, reader: &mut Reader<'_>, depth: usize) -> Result<Value, BodyError>
     ensures ok { IfOk result (λ v.
         converted of_json (value depth reader.old) ≡ Some (view v, reader.new)) }
     ensures shorter { OnOk result (length reader.new < length reader.old) }

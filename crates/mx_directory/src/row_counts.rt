@@ -53,6 +53,17 @@ impl RowFiles {
         written
     }
 
+    /// How many replies to transactions are kept: the rows of the files that have them.
+    pub fn kept_transactions(&self) -> u64 {
+        let mut count = 0u64;
+        for file in &self.files {
+            if file.name().starts_with("book-") {
+                count = count.saturating_add(file.count());
+            }
+        }
+        count
+    }
+
     fn write_counts(&self, host: &HostRuntime, directory: &str) -> io::Result<()> {
         let alloc = host.alloc();
         let Some(line) = self.new_counts(alloc)? else {

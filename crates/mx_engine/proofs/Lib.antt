@@ -2,6 +2,7 @@ pub mod TurnLemmas
 pub mod AskingLemmas
 pub mod BerthLemmas
 pub mod MeetingLemmas
+pub mod ReadingLemmas
 pub mod SeatLemmas
 pub mod RowLemmas
 pub mod ClosingLemmas

@@ -18,8 +18,8 @@ use Rattle.mx_graph.proofs.redactions.RedactionIndex.TheSendSync as redactions
 use Rattle.mx_graph.specs.contracts.rows.GraphRow as graph_row
 use Rattle.mx_graph.specs.contracts.graphs.Graph as graph
 use Rattle.mx_graph.specs.contracts.graphs.Graph.TheInside as graph_inside
-use Rattle.mx_state_res.proofs.states.States.TheSendSync as states
-use Rattle.mx_state_res.proofs.states.state_numbers.StateNo.TheSendSync as state_no
+use Rattle.mx_states.proofs.states.States.TheSendSync as states
+use Rattle.mx_states.proofs.states.state_numbers.StateNo.TheSendSync as state_no
 use Rattle.mx_receipt.proofs.snapshots.Judgement.TheSendSync as judgement
 use Rattle.mx_receipt.proofs.timelines.Prepared.TheSendSync as prepared
 use Rattle.mx_receipt.proofs.resolution_cache.ResolutionCache.TheSendSync as resolutions

@@ -9,6 +9,8 @@ use Rattle.mx_keeper.specs.declared.refusals.CallError.{CallError}
 use Rattle.mx_keeper.specs.declared.refusals.CallError.TheVariants.{Memory, Storage}
 use Rattle.mx_shard.specs.LoneRoom.{Call, to_host, to_ask, sent_call}
 use Rattle.mx_shard.specs.Journal.{Entry, record_of, IsLegal}
+use Rattle.mx_shard.specs.Rooms.{AreRoomsOf}
+use Rattle.mx_room.specs.RoomView.{RoomView}
 use Rattle.mx_shard.specs.Shown.{IsAnswer, IsShown}
 use Rattle.mx_shard.specs.Told.{tells_shown}
 use Rattle.mx_shard.specs.declared.answers.Answer.{Answer}
@@ -83,3 +85,13 @@ pub record IsAskTurn (call : Call) (old new : BerthView Entry) (result : Result 
   pub seen : new ≡ after_turn old journal []
   pub shown : IfOk result (λ found. IsShown (record_of journal) call (told_by found))
   pub told : IfOk result (λ found. tells_shown (told_by found) ≡ is_some found)
+
+-- The rooms of a shard were read: a legal journal was found, which begins with what was seen, and nothing was added.
+pub record IsReadTurn {A : Type 0} (Gives : List RoomView → A → Type 0) (old new : BerthView Entry) (told : A) : Type 0 where
+  pub journal : List Entry
+  pub rooms : List RoomView
+  pub legal : IsLegal journal
+  pub later : IsPrefix old.seen journal
+  pub seen : new ≡ after_turn old journal []
+  pub are : AreRoomsOf journal rooms
+  pub gives : Gives rooms told

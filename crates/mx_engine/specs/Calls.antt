@@ -5,6 +5,8 @@ use Rattle.mx_keeper.specs.Places.{place_number}
 use Rattle.mx_room.specs.declared.queries.Denied.TheVariants.{NotFound}
 use Rattle.mx_shard.specs.LoneRoom.{Call, answer, added}
 use Rattle.mx_shard.specs.Journal.{Entry, entry_of, record_of, IsLegal}
+use Rattle.mx_shard.specs.Rooms.{AreRoomsOf}
+use Rattle.mx_room.specs.RoomView.{RoomView}
 use Rattle.mx_shard.specs.Shown.{IsShown}
 use Rattle.mx_shard.specs.declared.answers.Answer.{Answer}
 use Rattle.mx_shard.specs.declared.answers.Answer.TheVariants.{ToAsked}
@@ -45,3 +47,10 @@ pub record IsRefusedBySome (call : Call) (views : List (BerthView Entry)) : Type
 abbrev pub IsAsked : ℕ → Call → Option (List ℕ) → List (BerthView Entry) → List (BerthView Entry) → Answer → Type 0
 IsAsked caller call (Some room) old new told = IsAnswered caller call room old new told
 IsAsked caller call None old new told = IsShownBy call new told
+
+-- What the caller has now seen of the shard with this number is legal, and what was read is of the rooms that it makes.
+pub record IsRead {A : Type 0} (Gives : List RoomView → A → Type 0) (views : List (BerthView Entry)) (n : ℕ) (told : A) : Type 0 where
+  pub rooms : List RoomView
+  pub legal : IsLegal (view_at views n).seen
+  pub are : AreRoomsOf (view_at views n).seen rooms
+  pub gives : Gives rooms told

@@ -1,5 +1,6 @@
 // The server.
-ghost use Rattle.std.specs.Prelude.{◌≡◌, ◌+◌, ◌<◌, ◌≤◌, ◌⊎◌, ℕ, List, [], ◌∷◌, All, None, Err, IfOk, OnErr, IsTrue, length, get_or, map};
+ghost use Rattle.std.specs.Prelude.{◌≡◌, ◌+◌, ◌<◌, ◌≤◌, ◌⊎◌, ℕ, List, [], ◌∷◌, All, None, Err, IfOk, IfSome, OnErr, IsTrue, is_some, length, get_or, map, nat_lt};
+ghost use Rattle.std.specs.Fn.{FnOnceReturnsAt};
 ghost use Rattle.mx_dock.specs.Journal.{IsPrefix};
 ghost use Rattle.mx_pdu.specs.Event.{room_of};
 ghost use Rattle.mx_room.specs.Queries.{room_named};
@@ -10,7 +11,7 @@ ghost use Rattle.mx_world.specs.Worlds.{shard_journals, book_journals, none_open
 ghost use Rattle.mx_engine.specs.Places.{book_caller};
 ghost use Rattle.mx_engine.specs.Views.{view_at, AddsNothing, AreSameViews};
 ghost use Rattle.mx_world.specs.Offers.{offer_by};
-ghost use Rattle.mx_engine.specs.Calls.{IsAnswered, IsAsked, IsRefusedBySome};
+ghost use Rattle.mx_engine.specs.Calls.{IsAnswered, IsAsked, IsRead, IsRefusedBySome};
 ghost use Rattle.mx_engine.specs.Transactions.{IsReplied, IsRefused};
 ghost use Rattle.mx_engine.specs.Seats.{AreAllSeats, BeginsWithFirstSeat, HasFirstSeat, IsSeatOf, seat_number, seats_made, shard_views, book_views, verifier_of};
 ghost use Rattle.mx_engine.specs.Closing.{IsNew, IsWhole, known_at};
@@ -23,6 +24,7 @@ use crate::gates::Gate;
 use crate::meeting::meet_each;
 use crate::offers::offers_of;
 use crate::opening::{first_seat, open_docks, seats_with};
+use crate::reading::read_in;
 use crate::replies::TransactionReply;
 use crate::seats::Seat;
 use crate::transactions::{Docks, transact};
@@ -30,7 +32,7 @@ use mx_book::TransactionKey;
 use mx_ident::ServerName;
 use mx_keeper::{BookRow, CallError, Keeper, ShardRow};
 use mx_pdu::{Offered, Pdu, Verifier};
-use mx_room::{Moment, Query};
+use mx_room::{Moment, Query, Room};
 use mx_shard::{Answer, Sending};
 use mx_world::World;
 use std::alloc::{AllocError, Global};
@@ -239,6 +241,28 @@ impl<
                 &question,
             ),
         }
+    }
+
+    /// What is read of the rooms of the shard with this number, from 0; none where there is no such shard. Nothing is added.
+    ///
+    /// It waits until the shard is in its dock, and other callers of the shard wait until it is read.
+    pub fn read_rooms<R: Wait, A, F: FnOnce(&[Room]) -> A + Drop>(
+        &self,
+        rt: &R,
+        seat: &mut Seat<K, L>,
+        shard: usize,
+        read: F,
+    ) -> Option<A>
+        requires seat { IsSeatOf self.now seat.old }
+        requires callable { F.IsAlwaysCallable read }
+        ensures seat { IsSeatOf self.now seat.new }
+        ensures number { seat_number seat.new ≡ seat_number seat.old }
+        ensures nothing { AddsNothing (shard_views seat.old) (shard_views seat.new) }
+        ensures read { IfSome result (IsRead (FnOnceReturnsAt F.FnOnce read) (shard_views seat.new) shard) }
+        ensures there { is_some result ≡ nat_lt shard (length (shard_views seat.old)) }
+        ensures books { book_views seat.new ≡ book_views seat.old }
+    {
+        read_in(rt, &self.shards, &mut seat.shards, shard, read)
     }
 
     /// The first caller has then seen all that both had seen, of each shard and of each book. Nothing is added, and what

@@ -12,6 +12,7 @@ mod jobs;
 mod meeting;
 mod offers;
 mod opening;
+mod reading;
 mod replies;
 mod seats;
 mod transactions;

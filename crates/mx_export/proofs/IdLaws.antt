@@ -7,23 +7,24 @@ use Rattle.mx_redact.specs.Fields.{Event}
 use Rattle.mx_redact.specs.Hashes.{event_id}
 use Rattle.mx_export.specs.RoomEvents.{has_id, ids_differ, is_in_room, room_events, with_event}
 
+-- neither of two holds
+pub neither-left : (a b : Bool) → (a || b) ≡ false → a ≡ false
+neither-left true b k = absurd (cc k)
+neither-left false b k = refl
+
+pub neither-right : (a b : Bool) → (a || b) ≡ false → b ≡ false
+neither-right true b k = absurd (cc k)
+neither-right false b k = k
+
 -- one more with another id
 differ-push : (es : List Event) (e : Event) → has_id es (event_id e) ≡ false → ids_differ es ≡ true → ids_differ (es ++ e ∷ []) ≡ true
 differ-push [] e fresh h = refl
 differ-push (f ∷ fs) e fresh h =
-    let apart : bytes_eq (event_id e) (event_id f) ≡ false = first (bytes_eq (event_id e) (event_id f)) (has_id fs (event_id e)) fresh in
-    let others : has_id fs (event_id e) ≡ false = second (bytes_eq (event_id e) (event_id f)) (has_id fs (event_id e)) fresh in
+    let apart : bytes_eq (event_id e) (event_id f) ≡ false = neither-left (bytes_eq (event_id e) (event_id f)) (has_id fs (event_id e)) fresh in
+    let others : has_id fs (event_id e) ≡ false = neither-right (bytes_eq (event_id e) (event_id f)) (has_id fs (event_id e)) fresh in
     let own : has_id fs (event_id f) ≡ false = flipped (has_id fs (event_id f)) (both-left (not (has_id fs (event_id f))) (ids_differ fs) h) in
     ap (λ b. not b && ids_differ (fs ++ e ∷ [])) (has-push fs e (event_id f) own (other apart)) ∙ differ-push fs e others (both-right (not (has_id fs (event_id f))) (ids_differ fs) h)
   where
-    first : (a b : Bool) → (a || b) ≡ false → a ≡ false
-    first true b k = absurd (cc k)
-    first false b k = refl
-
-    second : (a b : Bool) → (a || b) ≡ false → b ≡ false
-    second true b k = absurd (cc k)
-    second false b k = k
-
     flipped : (b : Bool) → not b ≡ true → b ≡ false
     flipped true k = absurd (cc k)
     flipped false k = refl
@@ -46,7 +47,7 @@ differ-push (f ∷ fs) e fresh h =
     has-push : (es : List Event) (e : Event) (id : List ℕ) → has_id es id ≡ false → bytes_eq id (event_id e) ≡ false → has_id (es ++ e ∷ []) id ≡ false
     has-push [] e id fresh k = ap (λ b. b || false) k
     has-push (g ∷ gs) e id fresh k =
-        ap (λ b. b || has_id (gs ++ e ∷ []) id) (first (bytes_eq id (event_id g)) (has_id gs id) fresh) ∙ has-push gs e id (second (bytes_eq id (event_id g)) (has_id gs id) fresh) k
+        ap (λ b. b || has_id (gs ++ e ∷ []) id) (neither-left (bytes_eq id (event_id g)) (has_id gs id) fresh) ∙ has-push gs e id (neither-right (bytes_eq id (event_id g)) (has_id gs id) fresh) k
 
 differ-with : (es : List Event) (e : Event) → ids_differ es ≡ true → ids_differ (with_event es e) ≡ true
 differ-with es e h = by (has_id es (event_id e)) refl

@@ -1,13 +1,15 @@
 -- Ids that are cited and are not there.
-use Rattle.std.specs.Prelude.{filter}
-use Rattle.std.proofs.Common.{◌≡◌, ℕ, zero, suc, [], ◌∷◌, arith, ◌+◌, ◌<◌, Bool, true, false, cond, not, ◌&&◌, ◌||◌, List, ◌++◌, bytes_eq, length, take, get_or, refl, sym, ap, ◌∙◌}
+use Rattle.std.specs.Prelude.{filter, filter_map}
+use Rattle.std.proofs.Common.{◌≡◌, ℕ, zero, suc, [], ◌∷◌, arith, ◌+◌, ◌<◌, ◌≤◌, Bool, true, false, cond, not, Option, Some, None, is_some, ◌&&◌, ◌||◌, List, ◌++◌, bytes_eq, length, take, get_or, refl, sym, ap, ◌∙◌}
+use Rattle.std.proofs.Math.Bool.{and-false, or-false}
 use Rattle.std.proofs.lemmas.Map.Text.{is_eq-slice_cmp}
 use Rattle.std.proofs.lemmas.Slice.Eq.{bytes_eq-Decides}
 use Rattle.std.proofs.lemmas.List.Folds.{list_any-append, list_any_more}
 use Rattle.std.specs.Cmp.Lexicographic.{slice_cmp}
-use Rattle.std.specs.List.{list_any}
+use Rattle.std.specs.List.{cons_option, list_any}
 use Rattle.std.specs.Ordering.{nat_cmp, is_eq}
 use Rattle.mx_redact.specs.Redaction.{is_among}
+use Rattle.mx_export.proofs.IdLaws.{neither-left, neither-right}
 
 module _ (has : List ℕ → Bool) (id : List ℕ) where
   -- one that is there adds none
@@ -50,6 +52,46 @@ module _ (has : List ℕ → Bool) (id : List ℕ) where
           let fresh : has q ≡ false = ap has ((bytes_eq-Decides q id).0 k) ∙ missing in
           ap (λ b. cond b true (old q)) (turned true k) ∙ last (old q) ∙ sym (ap (λ b. old q || (b && not (has q))) k ∙ ap (λ b. old q || not b) fresh)
       by false k = ap (λ b. cond b true (old q)) (turned false k) ∙ none (old q) ∙ sym (ap (λ b. old q || (b && not (has q))) k)
+
+-- no more are found than are looked for
+found-few : (f : List ℕ → Option ℕ) (ids : List (List ℕ)) → length (filter_map f ids) ≤ length ids
+found-few f [] = omega arith
+found-few f (id ∷ ids) = by (f id) (found-few f ids)
+  where
+    by : (o : Option ℕ) → length (filter_map f ids) ≤ length ids → length (cons_option o (filter_map f ids)) ≤ suc (length ids)
+    by None l = omega (arith, l)
+    by (Some p) l = omega (arith, l)
+
+-- where as many are found as are looked for, none is missing
+pub none-missing : (has : List ℕ → Bool) (f : List ℕ → Option ℕ) → ((id : List ℕ) → is_some (f id) ≡ has id) → (ids : List (List ℕ))
+    → length (filter_map f ids) ≡ length ids → list_any (λ id. not (has id)) ids ≡ false
+none-missing has f found [] e = refl
+none-missing has f found (id ∷ ids) e = by (f id) refl (none-missing has f found ids)
+  where
+    by : (o : Option ℕ) → f id ≡ o → (length (filter_map f ids) ≡ length ids → list_any (λ i. not (has i)) ids ≡ false) → (not (has id) || list_any (λ i. not (has i)) ids) ≡ false
+    by None k later =
+        let more : length (filter_map f ids) ≡ suc (length ids) = sym (ap (λ o. length (cons_option o (filter_map f ids))) k) ∙ e in
+        let few = found-few f ids in
+        absurd (omega (arith, more, few))
+    by (Some p) k later =
+        let more : suc (length (filter_map f ids)) ≡ suc (length ids) = sym (ap (λ o. length (cons_option o (filter_map f ids))) k) ∙ e in
+        let there : has id ≡ true = sym (found id) ∙ ap is_some k in
+        ap (λ b. not b || list_any (λ i. not (has i)) ids) there ∙ later (omega (arith, more))
+
+-- where none is missing, none is added
+pub none-adds : (has : List ℕ → Bool) (ids : List (List ℕ)) → list_any (λ id. not (has id)) ids ≡ false → (old : List ℕ → Bool) (q : List ℕ)
+    → old q ≡ (old q || (is_among ids q && not (has q)))
+none-adds has ids none old q = sym (or-false (old q)) ∙ sym (ap (λ b. old q || b) (among ids none))
+  where
+    among : (ids : List (List ℕ)) → list_any (λ id. not (has id)) ids ≡ false → (is_among ids q && not (has q)) ≡ false
+    among [] h = refl
+    among (id ∷ ids) h = by (bytes_eq q id) refl (among ids (neither-right (not (has id)) (list_any (λ i. not (has i)) ids) h))
+      where
+        by : (b : Bool) → bytes_eq q id ≡ b → (is_among ids q && not (has q)) ≡ false → ((bytes_eq q id || is_among ids q) && not (has q)) ≡ false
+        by true k later =
+            let there : not (has q) ≡ false = ap (λ i. not (has i)) ((bytes_eq-Decides q id).0 k) ∙ neither-left (not (has id)) (list_any (λ i. not (has i)) ids) h in
+            ap (λ b. (bytes_eq q id || is_among ids q) && b) there ∙ and-false (bytes_eq q id || is_among ids q)
+        by false k later = ap (λ b. (b || is_among ids q) && not (has q)) k ∙ later
 
 -- two sets of ids, one after the other
 both : (a b c n : Bool) → ((a || (b && n)) || (c && n)) ≡ (a || ((b || c) && n))

@@ -4,7 +4,7 @@ ghost use Rattle.std.specs.BTreeMap.{get};
 ghost use Rattle.std.specs.Cmp.Lexicographic.{slice_cmp};
 ghost use Rattle.std.specs.Ordering.{nat_cmp};
 ghost use Rattle.mx_export.specs.Arranging.{is_in, listed};
-ghost use Rattle.mx_export.specs.Collecting.{IsIndexed, event_at};
+ghost use Rattle.mx_export.specs.Collecting.{AreCitedPlaces, IsIndexed, event_at};
 ghost use Rattle.mx_export.specs.RoomEvents.{cited_ids, cites, create_of, room_events, with_event};
 
 use crate::exported_events::ExportedEvent;
@@ -81,6 +81,7 @@ pub(crate) fn cited_places(
 ) -> Result<Vec<Vec<usize>>, AllocError>
     requires { IsIndexed collected.now }
     ensures len { IfOk result (λ cited. length cited.items ≡ length collected.now.events.items) }
+    ensures found { IfOk result (λ cited. AreCitedPlaces collected.now cited.items) }
     ensures cited { IfOk result (λ cited. (p q : ℕ)
         → p < length collected.now.events.items → q < length collected.now.events.items
         → is_in (listed cited.items p) q

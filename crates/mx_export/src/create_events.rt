@@ -21,7 +21,7 @@ pub(crate) fn is_create(
     requires auth { auth_events.now ≡ auth_ids (object (members_view event.now.entries)) }
     ensures { result ≡ is_create_event (object (members_view event.now.entries)) }
 {
-    is_create_entry(event) && prev_events.is_empty() && auth_events.is_empty()
+    prev_events.is_empty() && auth_events.is_empty() && is_create_entry(event)
 }
 
 // Whether an event is at the place of create events in a state.

@@ -1,35 +1,19 @@
 // What a log needs of an event that is well formed.
-ghost use Rattle.std.specs.Prelude.{◌≡◌, ◌++◌, ◌∷◌, [], IfOk, IsTrue, Some, true, filter_map, option_and_then, option_map};
+ghost use Rattle.std.specs.Prelude.{◌≡◌, ◌++◌, ◌∷◌, [], IfOk, IsTrue, true, filter_map, option_and_then, option_map};
 ghost use Rattle.std.specs.List.{list_all};
 ghost use Rattle.serde_json.specs.Data.{object};
 ghost use Rattle.serde_json.specs.Find.{as_array, as_str};
-ghost use Rattle.serde_json.specs.Read.{read};
 ghost use Rattle.serde_json.specs.View.{view, items_view, members_view};
-ghost use Rattle.mx_canon.specs.Canonical.{canonical_text};
 ghost use Rattle.mx_ident.specs.Identifier.{is_event_id};
 ghost use Rattle.mx_redact.specs.Fields.{field as field_at, is_none_or, text_at, texts_at};
-ghost use Rattle.mx_redact.specs.Hashes.{event_id};
+ghost use Rattle.mx_redact.specs.Hashes.{event_id, reference_hash};
 ghost use Rattle.mx_pdu.specs.Event.{room_of, sender_of};
 ghost use Rattle.mx_pdu.specs.Format.{is_well_formed};
 
-use mx_canon::CanonError;
 use mx_ident::{EventId, IdError, RoomId, UserId};
 use mx_redact::{field, id_with_hash, reference_digest, text_field};
 use serde_json::{Map, Value};
 use std::alloc::{AllocError, Global};
-
-/// The canonical text of a well-formed event, which reads as the event.
-pub(crate) fn text_of(alloc: Global, value: &Value) -> Result<Vec<u8>, AllocError>
-    requires { IsTrue (is_well_formed (view value.now)) }
-    ensures text { IfOk result (λ text. text.items ≡ canonical_text (view value.now)) }
-    ensures reads { IfOk result (λ text. read text.items ≡ Some (view value.now)) }
-{
-    match mx_canon::text(alloc, value) {
-        Ok(text) => Ok(text),
-        Err(CanonError::Memory) => Err(AllocError),
-        Err(CanonError::NotCanonical(_)) => unreachable!(),
-    }
-}
 
 /// The members of a well-formed event.
 pub(crate) fn object_of(value: &Value) -> &Map<String, Value>
@@ -48,6 +32,19 @@ pub(crate) fn id_of(alloc: Global, event: &Map<String, Value>) -> Result<EventId
     ensures { IfOk result (λ id. id ≡ event_id (object (members_view event.now.entries))) }
 {
     id_with_hash(alloc, &reference_digest(event))
+}
+
+/// The id of an event that has this reference hash.
+#[tactic(auto, unfolding(mx_redact::specs::Hashes::event_id))]
+pub(crate) fn id_by_hash(
+    alloc: Global,
+    event: &Map<String, Value>,
+    hash: &[u8; 32],
+) -> Result<EventId, AllocError>
+    requires { hash.now ≡ reference_hash (object (members_view event.now.entries)) }
+    ensures { IfOk result (λ id. id ≡ event_id (object (members_view event.now.entries))) }
+{
+    id_with_hash(alloc, hash)
 }
 
 /// The room that an event is of.

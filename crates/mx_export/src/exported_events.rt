@@ -4,7 +4,7 @@ ghost use Rattle.serde_json.specs.Data.{object};
 ghost use Rattle.serde_json.specs.Read.{read};
 ghost use Rattle.serde_json.specs.View.{view, members_view};
 ghost use Rattle.mx_canon.specs.Canonical.{canonical_text};
-ghost use Rattle.mx_redact.specs.Hashes.{event_id as event_id_of};
+ghost use Rattle.mx_redact.specs.Hashes.{content_hash, event_id as event_id_of};
 ghost use Rattle.mx_pdu.specs.Event.{auth_ids, prev_ids, room_of, sender_of};
 ghost use Rattle.mx_pdu.specs.Format.{format_error, is_well_formed};
 ghost use Rattle.mx_pdu.specs.declared.refusals.NotAnEvent.{NotAnEvent as Cause};
@@ -12,9 +12,10 @@ ghost use Rattle.mx_export.specs.ExportedEvents.{event_of, IsSound};
 ghost use Rattle.mx_export.specs.RoomEvents.{is_create as is_create_event};
 
 use crate::create_events::{is_create, version_in};
-use crate::event_fields::{event_ids_at, id_of, object_of, room_id_in, sender_in, text_of};
+use crate::event_fields::{event_ids_at, id_by_hash, id_of, object_of, room_id_in, sender_in};
 use mx_ident::{EventId, RoomId, UserId};
 use mx_pdu::{Pdu, PduError};
+use mx_redact::{Digests, digests_by_text};
 use serde_json::{Map, Value};
 use std::alloc::{AllocError, Global};
 use std::marker::Model;
@@ -68,18 +69,41 @@ impl ExportedEvent {
         ensures refused { (cause : Cause)
             → (IsErrOf result (PduError.NotAnEvent cause) ↔ (format_error (view value.now) ≡ Some cause)) }
     {
-        Pdu::check(value)?;
-        let event = ExportedEvent::of_checked(alloc, value)?;
+        let text = Pdu::text_of_value(alloc, value)?;
+        let id = id_of(alloc, object_of(value))?;
+        let event = ExportedEvent::of_checked(alloc, value, text, id)?;
         Ok(event)
     }
 
-    // Of a value that is well formed.
-    fn of_checked(alloc: Global, value: &Value) -> Result<ExportedEvent, AllocError>
-        requires { IsTrue (is_well_formed (view value.now)) }
+    // The event that the value is, as `from_value` gives it, and its hashes, which are made of one text.
+    pub(crate) fn with_digests(
+        alloc: Global,
+        value: &Value,
+    ) -> Result<(ExportedEvent, Digests), PduError>
+        ensures event { IfOk result (λ made. made.0 ≡ view value.now) }
+        ensures hash { IfOk result (λ made. made.1.content ≡ content_hash (view value.now)) }
+    {
+        let text = Pdu::text_of_value(alloc, value)?;
+        let digests = digests_by_text(alloc, object_of(value), &text)?;
+        let id = id_by_hash(alloc, object_of(value), &digests.reference)?;
+        let event = ExportedEvent::of_checked(alloc, value, text, id)?;
+        Ok((event, digests))
+    }
+
+    // Of a value that is well formed, its canonical text and its id.
+    fn of_checked(
+        alloc: Global,
+        value: &Value,
+        text: Vec<u8>,
+        id: EventId,
+    ) -> Result<ExportedEvent, AllocError>
+        requires well_formed { IsTrue (is_well_formed (view value.now)) }
+        requires text { text.items ≡ canonical_text (view value.now) }
+        requires reads { read text.items ≡ Some (view value.now) }
+        requires id { id ≡ event_id_of (view value.now) }
         ensures { IfOk result (λ event. event ≡ view value.now) }
     {
-        let text = text_of(alloc, value)?;
-        let whole = EventParts::of(alloc, object_of(value), text)?;
+        let whole = EventParts::of(alloc, object_of(value), text, id)?;
         let parts = Arc::new(alloc, whole)?;
         Ok(ExportedEvent { parts })
     }
@@ -140,19 +164,20 @@ impl ExportedEvent {
 }
 
 impl EventParts {
-    // Of an object that is well formed, and its canonical text.
+    // Of an object that is well formed, its canonical text and its id.
     fn of(
         alloc: Global,
         event: &Map<String, Value>,
         text: Vec<u8>,
+        id: EventId,
     ) -> Result<EventParts, AllocError>
         requires well_formed { IsTrue (is_well_formed (object (members_view event.now.entries))) }
         requires text { text.items ≡ canonical_text (object (members_view event.now.entries)) }
         requires reads { read text.items ≡ Some (object (members_view event.now.entries)) }
+        requires id { id ≡ event_id_of (object (members_view event.now.entries)) }
         ensures sound { IfOk result IsSound }
         ensures event { IfOk result (λ parts. event_of parts ≡ object (members_view event.now.entries)) }
     {
-        let id = id_of(alloc, event)?;
         let room_id = room_id_in(alloc, event)?;
         let sender = sender_in(alloc, event)?;
         let prev_events = event_ids_at(alloc, event, "prev_events")?;

@@ -3,7 +3,7 @@ use crate::exported_events::ExportedEvent;
 use crate::finding::find_events;
 use base64::engine::general_purpose::STANDARD_NO_PAD;
 use mx_pdu::{NotAnEvent, PduError};
-use mx_redact::{content_digest, field};
+use mx_redact::{Digests, text_field};
 use serde_json::{Map, Value};
 use std::alloc::{AllocError, Global};
 use std::collections::BTreeMap;
@@ -39,24 +39,43 @@ pub struct RefusedEvent {
 /// input. Source: the Matrix specification, Room Version 6, "Event format", and Server-Server API, "Calculating the
 /// content hash for an event".
 pub fn read_input(alloc: Global, input: &[u8]) -> Result<Input, AllocError> {
-    let found = find_events(alloc, input)?;
-    let mut read = Input {
-        events: Vec::with_capacity(alloc, found.events.len())?,
-        refused: Vec::new(alloc),
-        let_go: BTreeMap::new(alloc),
-        others: found.others,
-        bad_lines: found.bad_lines,
-    };
-    let mut place: u64 = 0;
-    for members in found.events {
-        place = place.saturating_add(1);
-        match event_of(alloc, &mut read.let_go, members) {
-            Ok(event) => read.events.push(event)?,
-            Err(PduError::Memory) => return Err(AllocError),
-            Err(PduError::NotAnEvent(cause)) => read.refused.push(RefusedEvent { place, cause })?,
+    find_events(alloc, input)
+}
+
+impl Input {
+    // Of an input that has nothing.
+    pub(crate) fn new(alloc: Global) -> Input {
+        Input {
+            events: Vec::new(alloc),
+            refused: Vec::new(alloc),
+            let_go: BTreeMap::new(alloc),
+            others: 0,
+            bad_lines: Vec::new(alloc),
         }
     }
-    Ok(read)
+
+    // Takes an object in the place of an event.
+    pub(crate) fn take_event(
+        &mut self,
+        alloc: Global,
+        members: Map<String, Value>,
+    ) -> Result<(), AllocError> {
+        match event_of(alloc, &mut self.let_go, members) {
+            Ok(event) => self.events.push(event)?,
+            Err(PduError::Memory) => return Err(AllocError),
+            Err(PduError::NotAnEvent(cause)) => {
+                let before = self.events.len().saturating_add(self.refused.len());
+                let place = (before as u64).saturating_add(1);
+                self.refused.push(RefusedEvent { place, cause })?;
+            }
+        }
+        Ok(())
+    }
+
+    // Takes another value in the place of an event.
+    pub(crate) fn take_other(&mut self) {
+        self.others = self.others.saturating_add(1);
+    }
 }
 
 // The event that an object is, without what was put to it.
@@ -66,10 +85,12 @@ fn event_of(
     members: Map<String, Value>,
 ) -> Result<ExportedEvent, PduError> {
     let mut members = members;
-    if members.remove("unsigned").is_some() {
+    let mut additions = additions_in(alloc, &members)?;
+    if let Some(place) = additions.iter().position(|key| key.as_str() == "unsigned") {
+        drop(additions.remove(place));
+        drop(members.remove("unsigned"));
         count(alloc, let_go, "unsigned")?;
     }
-    let additions = additions_in(alloc, &members)?;
     if additions.is_empty() {
         return ExportedEvent::from_value(alloc, &Value::Object(members));
     }
@@ -86,8 +107,12 @@ fn event_without(
     let mut left = members;
     let taken = taken_out(alloc, &mut left, additions)?;
     let left = Value::Object(left);
-    let event = ExportedEvent::from_value(alloc, &left);
-    if event.is_err() || !hash_holds(&left) {
+    if let Some(event) = event_beside_its_id(alloc, &left, &taken)? {
+        count(alloc, let_go, "event_id")?;
+        return Ok(event);
+    }
+    let made = ExportedEvent::with_digests(alloc, &left);
+    if !hash_holds(&left, &made) {
         if let Some(whole) = whole_event(alloc, left, taken)? {
             return Ok(whole);
         }
@@ -95,7 +120,34 @@ fn event_without(
     for key in additions {
         count(alloc, let_go, key)?;
     }
-    event
+    let (event, _digests) = made?;
+    Ok(event)
+}
+
+// The event that an object is, where all that was taken out of it is the event's own id. No hash is asked whether the id
+// belongs to it: an event's id is made of its content hash, so no content hash covers the id.
+fn event_beside_its_id(
+    alloc: Global,
+    left: &Value,
+    taken: &Map<String, Value>,
+) -> Result<Option<ExportedEvent>, AllocError> {
+    let Some(id) = only_id(taken) else {
+        return Ok(None);
+    };
+    match ExportedEvent::from_value(alloc, left) {
+        Ok(event) if event.event_id().as_str() == id => Ok(Some(event)),
+        Err(PduError::Memory) => Err(AllocError),
+        _ => Ok(None),
+    }
+}
+
+// The text at `event_id`, where nothing else is there.
+fn only_id(members: &Map<String, Value>) -> Option<&str> {
+    if members.len() == 1 {
+        text_field(members, "event_id")
+    } else {
+        None
+    }
 }
 
 // Takes the members at these keys out of an object.
@@ -124,31 +176,29 @@ fn whole_event(
         members.append(&mut others)?;
     }
     let whole = Value::Object(members);
-    match ExportedEvent::from_value(alloc, &whole) {
-        Ok(event) => Ok(if hash_holds(&whole) {
-            Some(event)
-        } else {
-            None
-        }),
+    let made = ExportedEvent::with_digests(alloc, &whole);
+    let holds = hash_holds(&whole, &made);
+    match made {
+        Ok((event, _digests)) if holds => Ok(Some(event)),
         Err(PduError::Memory) => Err(AllocError),
-        Err(PduError::NotAnEvent(_)) => Ok(None),
+        _ => Ok(None),
     }
 }
 
-// Whether the content hash of an event holds.
-fn hash_holds(event: &Value) -> bool {
-    let Some(members) = event.as_object() else {
+// Whether an event was made of a value, and the value names the event's content hash.
+fn hash_holds(event: &Value, made: &Result<(ExportedEvent, Digests), PduError>) -> bool {
+    let Ok((_event, digests)) = made else {
         return false;
     };
-    let named = field(members, "hashes").and_then(|hashes| hashes.get("sha256"));
+    let named = event.get("hashes").and_then(|hashes| hashes.get("sha256"));
     let Some(text) = named.and_then(|hash| hash.as_str()) else {
         return false;
     };
-    let mut hash = [0; 43];
+    let mut encoded = [0; 43];
     STANDARD_NO_PAD
-        .encode_slice(&content_digest(members), &mut hash)
+        .encode_slice(&digests.content, &mut encoded)
         .is_ok()
-        && text.as_bytes() == hash.as_slice()
+        && text.as_bytes() == encoded.as_slice()
 }
 
 // The keys of an object that no event has.
@@ -176,22 +226,15 @@ fn count(alloc: Global, counts: &mut BTreeMap<String, u64>, key: &str) -> Result
 // Whether events of room version 6 have this key, or redaction keeps it, but for `event_id`, which servers put to events
 // since room version 3.
 fn is_event_key(key: &str) -> bool {
-    matches!(
-        key,
-        "auth_events"
-            | "content"
-            | "depth"
-            | "hashes"
-            | "membership"
-            | "origin"
-            | "origin_server_ts"
-            | "prev_events"
-            | "prev_state"
-            | "redacts"
-            | "room_id"
-            | "sender"
-            | "signatures"
-            | "state_key"
-            | "type"
-    )
+    match key.len() {
+        4 => key == "type",
+        5 => key == "depth",
+        6 => matches!(key, "hashes" | "origin" | "sender"),
+        7 => matches!(key, "content" | "redacts" | "room_id"),
+        9 => key == "state_key",
+        10 => matches!(key, "membership" | "prev_state" | "signatures"),
+        11 => matches!(key, "auth_events" | "prev_events"),
+        16 => key == "origin_server_ts",
+        _ => false,
+    }
 }

@@ -1,20 +1,10 @@
 // The values of an input that may be events.
-use json::Scratch;
+use crate::exporting::Input;
+use json::{Reader, Scratch, Token};
 use memchr::memchr;
-use mx_body::{BodyError, body_value};
+use mx_body::{BodyError, MAX_DEPTH, body_value, read_value};
 use serde_json::{Map, Value};
 use std::alloc::{AllocError, Global};
-
-/// What an input has in the places of events.
-#[derive(Debug, Drop)]
-pub(crate) struct Found {
-    // Objects with a `type` and a `sender`, in their order.
-    pub(crate) events: Vec<Map<String, Value>>,
-    // How many other values stand in the places of events.
-    pub(crate) others: u64,
-    // The numbers of the lines, from 1, that are no JSON.
-    pub(crate) bad_lines: Vec<u64>,
-}
 
 // Where an object that is no event has events, the older ones first: as replies to federation requests, and as what is
 // put round an event in a list.
@@ -28,23 +18,59 @@ const PLACES: [&str; 7] = [
     "json",
 ];
 
-/// What stands in the places of events in an input: one JSON value, or one on each line.
+/// What stands in the places of events in an input: one JSON value, or one on each line. Each event is made as it is found,
+/// and its JSON value let go; of an array no value is made as a whole.
 ///
 /// The one error is that no memory is left.
-pub(crate) fn find_events(alloc: Global, input: &[u8]) -> Result<Found, AllocError> {
-    let mut found = Found {
-        events: Vec::new(alloc),
-        others: 0,
-        bad_lines: Vec::new(alloc),
-    };
-    let mut reading = Reading {
-        alloc,
-        scratch: Scratch::new(alloc),
-    };
-    match reading.value_of(input)? {
-        Some(value) => take_value(&mut reading, &mut found, value)?,
-        None => take_lines(&mut reading, &mut found, input)?,
+pub(crate) fn find_events(alloc: Global, input: &[u8]) -> Result<Input, AllocError> {
+    match find_in_value(alloc, input) {
+        Ok(found) => Ok(found),
+        Err(BodyError::Memory) => Err(AllocError),
+        Err(BodyError::NotJson) => find_in_lines(alloc, input),
     }
+}
+
+// Of an input that is one JSON value.
+fn find_in_value(alloc: Global, input: &[u8]) -> Result<Input, BodyError> {
+    let mut found = Input::new(alloc);
+    let mut reading = Reading::new(alloc);
+    if input.trim_ascii_start().first() == Some(&b'[') {
+        take_array(&mut reading, &mut found, input)?;
+    } else {
+        let value = body_value(alloc, &mut reading.scratch, input)?;
+        take_value(&mut reading, &mut found, value)?;
+    }
+    Ok(found)
+}
+
+// Takes what stands in an array, one item after the other.
+fn take_array(reading: &mut Reading, found: &mut Input, input: &[u8]) -> Result<(), BodyError> {
+    let Ok(text) = str::from_utf8(input) else {
+        return Err(BodyError::NotJson);
+    };
+    let mut scratch = Scratch::new(reading.alloc);
+    let mut reader = Reader::new(text, &mut scratch)?;
+    let Some(Token::BeginArray) = reader.next() else {
+        return Err(BodyError::NotJson);
+    };
+    for _ in 0..u64::MAX {
+        if reader.take_end_array() {
+            break;
+        }
+        let item = read_value(reading.alloc, &mut reader, MAX_DEPTH - 1)?;
+        take_value(reading, found, item)?;
+    }
+    match reader.next() {
+        Some(_) => Err(BodyError::NotJson),
+        None => Ok(()),
+    }
+}
+
+// Of an input that has a value on each line.
+fn find_in_lines(alloc: Global, input: &[u8]) -> Result<Input, AllocError> {
+    let mut found = Input::new(alloc);
+    let mut reading = Reading::new(alloc);
+    take_lines(&mut reading, &mut found, input)?;
     Ok(found)
 }
 
@@ -56,6 +82,13 @@ struct Reading {
 }
 
 impl Reading {
+    fn new(alloc: Global) -> Reading {
+        Reading {
+            alloc,
+            scratch: Scratch::new(alloc),
+        }
+    }
+
     // The value that bytes are JSON for, if they are.
     fn value_of(&mut self, bytes: &[u8]) -> Result<Option<Value>, AllocError> {
         match body_value(self.alloc, &mut self.scratch, bytes) {
@@ -67,7 +100,7 @@ impl Reading {
 }
 
 // Takes what stands on each line that is not blank.
-fn take_lines(reading: &mut Reading, found: &mut Found, input: &[u8]) -> Result<(), AllocError> {
+fn take_lines(reading: &mut Reading, found: &mut Input, input: &[u8]) -> Result<(), AllocError> {
     let mut rest = input;
     for number in 1..u64::MAX {
         if rest.is_empty() {
@@ -97,7 +130,7 @@ fn first_line(text: &[u8]) -> (&[u8], &[u8]) {
 }
 
 // Takes the events of a value, in their order.
-fn take_value(reading: &mut Reading, found: &mut Found, value: Value) -> Result<(), AllocError> {
+fn take_value(reading: &mut Reading, found: &mut Input, value: Value) -> Result<(), AllocError> {
     let mut left = vec![in reading.alloc; value]?;
     for _ in 0..u64::MAX {
         let Some(next) = left.pop() else {
@@ -111,16 +144,16 @@ fn take_value(reading: &mut Reading, found: &mut Found, value: Value) -> Result<
 // Takes an event, or puts what stands in the places of events before what is left.
 fn take_next(
     reading: &mut Reading,
-    found: &mut Found,
+    found: &mut Input,
     left: &mut Vec<Value>,
     value: Value,
 ) -> Result<(), AllocError> {
     match value {
-        Value::Object(members) => take_object(found, left, members),
+        Value::Object(members) => take_object(reading, found, left, members),
         Value::Array(items) => put_items(left, items),
         Value::String(text) => take_text(reading, found, &text),
         _ => {
-            found.others = found.others.saturating_add(1);
+            found.take_other();
             Ok(())
         }
     }
@@ -133,13 +166,13 @@ fn put_items(left: &mut Vec<Value>, items: Vec<Value>) -> Result<(), AllocError>
 }
 
 fn take_object(
-    found: &mut Found,
+    reading: &mut Reading,
+    found: &mut Input,
     left: &mut Vec<Value>,
     members: Map<String, Value>,
 ) -> Result<(), AllocError> {
     if is_event(&members) {
-        found.events.push(members)?;
-        return Ok(());
+        return found.take_event(reading.alloc, members);
     }
     let mut members = members;
     let mut is_empty = true;
@@ -150,40 +183,44 @@ fn take_object(
         }
     }
     if is_empty {
-        found.others = found.others.saturating_add(1);
+        found.take_other();
     }
     Ok(())
 }
 
 // Takes the event that a text is JSON for.
-fn take_text(reading: &mut Reading, found: &mut Found, text: &str) -> Result<(), AllocError> {
+fn take_text(reading: &mut Reading, found: &mut Input, text: &str) -> Result<(), AllocError> {
     match reading.value_of(text.as_bytes())? {
-        Some(value) => take_inner(found, value),
+        Some(value) => take_inner(reading, found, value),
         None => {
-            found.others = found.others.saturating_add(1);
+            found.take_other();
             Ok(())
         }
     }
 }
 
 // Takes a value that a text held, where it is an event.
-fn take_inner(found: &mut Found, value: Value) -> Result<(), AllocError> {
+fn take_inner(reading: &mut Reading, found: &mut Input, value: Value) -> Result<(), AllocError> {
     match value {
-        Value::Object(members) => take_event_alone(found, members),
+        Value::Object(members) => take_event_alone(reading, found, members),
         _ => {
-            found.others = found.others.saturating_add(1);
+            found.take_other();
             Ok(())
         }
     }
 }
 
-fn take_event_alone(found: &mut Found, members: Map<String, Value>) -> Result<(), AllocError> {
+fn take_event_alone(
+    reading: &mut Reading,
+    found: &mut Input,
+    members: Map<String, Value>,
+) -> Result<(), AllocError> {
     if is_event(&members) {
-        found.events.push(members)?;
+        found.take_event(reading.alloc, members)
     } else {
-        found.others = found.others.saturating_add(1);
+        found.take_other();
+        Ok(())
     }
-    Ok(())
 }
 
 fn is_event(members: &Map<String, Value>) -> bool {

@@ -4,7 +4,7 @@ ghost use Rattle.mx_export.specs.RoomEvents.{create_of, is_in_room};
 ghost use Rattle.mx_export.specs.RoomLogs.{host_text, origin_of, room_log, transactions_text};
 ghost use Rattle.mx_export.specs.declared.logging.LogError.TheVariants.{NoCreateEvent};
 
-use crate::collecting::{collect, create_event};
+use crate::collecting::{cited_places, collect, create_event};
 use crate::exported_events::ExportedEvent;
 use crate::missing::{Missing, missing_events};
 use crate::ordering::in_order;
@@ -70,9 +70,10 @@ pub fn log_of_room(
         return Err(LogError::NoCreateEvent);
     };
     let collected = collect(alloc, room, create, events)?;
-    let ordered = in_order(alloc, &collected)?;
+    let cited = cited_places(alloc, &collected)?;
+    let ordered = in_order(alloc, &collected.events, &cited)?;
     let text = text_by(alloc, room, origin, create, &ordered)?;
-    let missing = missing_events(alloc, &collected)?;
+    let missing = missing_events(alloc, &collected, &cited)?;
     Ok(RoomLog {
         text,
         events: ordered.len(),

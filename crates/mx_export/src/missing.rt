@@ -1,11 +1,11 @@
 // The events that are cited and are not there.
-ghost use Rattle.std.specs.Prelude.{◌≡◌, ◌^◌, ◌<◌, ◌&&◌, ◌||◌, if◌then◌else◌, suc, ℕ, List, IfOk, OnOk, bytes_eq, filter, length, not};
+ghost use Rattle.std.specs.Prelude.{◌≡◌, ◌^◌, ◌<◌, ◌==◌, ◌&&◌, ◌||◌, if◌then◌else◌, suc, ℕ, List, IfOk, OnOk, bytes_eq, filter, length, not};
 ghost use Rattle.std.specs.BTreeSet.{contains};
 ghost use Rattle.std.specs.Cmp.Lexicographic.{slice_cmp};
 ghost use Rattle.std.specs.List.{list_any};
 ghost use Rattle.std.specs.Ordering.{nat_cmp};
 ghost use Rattle.mx_redact.specs.Redaction.{is_among};
-ghost use Rattle.mx_export.specs.Collecting.{IsIndexed};
+ghost use Rattle.mx_export.specs.Collecting.{AreCitedPlaces, IsIndexed, event_at};
 ghost use Rattle.mx_export.specs.RoomEvents.{cited_ids, has_id, is_missing, lacks_one};
 
 use crate::collecting::Collected;
@@ -23,9 +23,15 @@ pub struct Missing {
     pub citing: usize,
 }
 
-// What these events cite and that is not among them.
-pub(crate) fn missing_events(alloc: Global, collected: &Collected) -> Result<Missing, AllocError>
-    requires { IsIndexed collected.now }
+// What these events cite and that is not among them, by the places of what each cites and that is there.
+pub(crate) fn missing_events(
+    alloc: Global,
+    collected: &Collected,
+    cited: &[Vec<usize>],
+) -> Result<Missing, AllocError>
+    requires indexed { IsIndexed collected.now }
+    requires len { length cited.now ≡ length collected.now.events.items }
+    requires cited { AreCitedPlaces collected.now cited.now }
     ensures ids { IfOk result (λ missing. (id : List ℕ)
         → contains (slice_cmp nat_cmp) missing.ids id ≡ is_missing collected.now.events.items id) }
     ensures citing { IfOk result (λ missing. missing.citing
@@ -33,8 +39,8 @@ pub(crate) fn missing_events(alloc: Global, collected: &Collected) -> Result<Mis
 {
     let mut ids = BTreeSet::new(alloc);
     let mut citing: usize = 0;
-    for event in &collected.events {
-        let lacks = add_cited(&mut ids, collected, event)?;
+    for place in 0..collected.events.len() {
+        let lacks = add_cited(&mut ids, collected, cited, place)?;
         citing = one_more_if(citing, lacks);
     }
     Ok(Missing { ids, citing })
@@ -54,22 +60,47 @@ fn either(first: bool, second: bool) -> bool
     first || second
 }
 
-// Adds what an event cites and that is not there, and tells whether it cites any such.
+// Adds what the event at a place cites and that is not there, and tells whether it cites any such. No id is looked up
+// where each that it cites has a place.
 fn add_cited(
     ids: &mut BTreeSet<EventId>,
     collected: &Collected,
-    event: &ExportedEvent,
+    cited: &[Vec<usize>],
+    place: usize,
 ) -> Result<bool, AllocError>
-    requires { IsIndexed collected.now }
-    ensures lacks { IfOk result (λ lacks. lacks ≡ lacks_one collected.now.events.items event.now) }
+    requires indexed { IsIndexed collected.now }
+    requires len { length cited.now ≡ length collected.now.events.items }
+    requires cited { AreCitedPlaces collected.now cited.now }
+    requires below { place < length collected.now.events.items }
+    ensures lacks { IfOk result (λ lacks. lacks
+        ≡ lacks_one collected.now.events.items (event_at collected.now.events.items place)) }
     ensures ids { OnOk result ((id : List ℕ) → contains (slice_cmp nat_cmp) ids.new id
         ≡ (contains (slice_cmp nat_cmp) ids.old id
-        || (is_among (cited_ids event.now) id && not (has_id collected.now.events.items id)))) }
+        || (is_among (cited_ids (event_at collected.now.events.items place)) id
+        && not (has_id collected.now.events.items id)))) }
 {
+    let event = &collected.events[place];
+    if has_as_many(event, &cited[place]) {
+        return Ok(false);
+    }
     let prev = add_missing(ids, collected, event.prev_events())?;
     let auth = add_missing(ids, collected, event.auth_events())?;
     let lacks = either(prev, auth);
     Ok(lacks)
+}
+
+// Whether these places are as many as the ids that an event cites.
+fn has_as_many(event: &ExportedEvent, places: &[usize]) -> bool
+    ensures { result ≡ (length places.now == length (cited_ids event.now)) }
+{
+    places.len() == count_of_cited(event)
+}
+
+// How many ids an event cites.
+fn count_of_cited(event: &ExportedEvent) -> usize
+    ensures { result ≡ length (cited_ids event.now) }
+{
+    event.prev_events().len() + event.auth_events().len()
 }
 
 // Adds those of these ids that are not there, and tells whether there are any.

@@ -1,25 +1,28 @@
 // The events of a room in the order of its log.
-ghost use Rattle.std.specs.Prelude.{◌≡◌, ◌<◌, IfOk, length, map};
-ghost use Rattle.mx_export.specs.Collecting.{IsIndexed, Each, event_at};
+ghost use Rattle.std.specs.Prelude.{◌≡◌, ◌<◌, ℕ, IfOk, length, map};
+ghost use Rattle.mx_export.specs.Arranging.{cites_place};
+ghost use Rattle.mx_export.specs.Collecting.{Each, event_at};
 ghost use Rattle.mx_export.specs.RoomEvents as definition;
+ghost use Rattle.mx_export.specs.RoomEvents.{cites};
 
 use crate::arranging::arrange;
-use crate::collecting::{Collected, cited_places};
 use crate::exported_events::ExportedEvent;
 use std::alloc::{AllocError, Global};
 
-// Each after those that it cites and that are there, else as they were found. Those that cite one another in a circle,
-// and those that cite them, are left out.
+// Each after those that it cites and that are there, at these places, else as they were found. Those that cite one
+// another in a circle, and those that cite them, are left out.
 pub(crate) fn in_order(
     alloc: Global,
-    collected: &Collected,
+    events: &[ExportedEvent],
+    cited: &[Vec<usize>],
 ) -> Result<Vec<ExportedEvent>, AllocError>
-    requires { IsIndexed collected.now }
-    ensures { IfOk result (λ ordered. ordered.items ≡ definition.in_order collected.now.events.items) }
+    requires len { length cited.now ≡ length events.now }
+    requires cited { (p q : ℕ) → p < length events.now → q < length events.now
+        → cites_place cited.now p q ≡ cites (event_at events.now p) (event_at events.now q) }
+    ensures { IfOk result (λ ordered. ordered.items ≡ definition.in_order events.now) }
 {
-    let cited = cited_places(alloc, collected)?;
-    let order = arrange(alloc, &cited)?;
-    let ordered = events_at(alloc, &collected.events, &order)?;
+    let order = arrange(alloc, cited)?;
+    let ordered = events_at(alloc, events, &order)?;
     Ok(ordered)
 }
 

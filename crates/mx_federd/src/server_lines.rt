@@ -1,7 +1,7 @@
 // What a server says, and who writes it.
-use mx_admin::{Failures, LogFile, NoticeOutput, NoticePaths, RecordLog};
+use mx_admin::{Failures, LogFile, LogRecord, NoticeOutput, NoticePaths, RecordLog};
 use mx_directory::{ServerError, StartError};
-use mx_line_queue::{LineSender, start_writer};
+use mx_line_queue::{LineSender, QueueSender, QueuedLine, start_writer};
 use mx_options::ServerLog;
 use mx_server::ServerTold;
 use std::alloc::{AllocError, AllocGlobal};
@@ -21,7 +21,8 @@ const SECONDS_FOR_LAST_LINES: u64 = 1;
 #[derive(Drop)]
 pub(crate) struct ServerLines {
     pub(crate) lines: LineSender,
-    shown: LineSender,
+    // None where the log stands on standard error in their place.
+    shown: Option<LineSender>,
     log: Option<RecordLog>,
     failures: Failures,
 }
@@ -40,18 +41,17 @@ impl ServerLines {
     where
         R: Threads + Wait + Clock + AllocGlobal + Copy + Send + Drop + 'static,
     {
-        let shown = lines_to(rt, host.stderr())?;
         let failures = Failures::new(rt.alloc())?;
-        let (log, is_shown) = match log {
-            Some(log) => (Some(log_of(rt, host, log, &shown)?), log.file.is_some()),
-            None => (None, true),
+        let shown = match log {
+            Some(ServerLog { file: None, .. }) => None,
+            _ => Some(lines_to(rt, host.stderr())?),
+        };
+        let log = match log {
+            Some(log) => Some(log_of(rt, host, log)?),
+            None => None,
         };
         let paths = NoticePaths {
-            lines: if is_shown {
-                Some(shown.another()?)
-            } else {
-                None
-            },
+            lines: another_sender(&shown)?,
             log: another(&log)?,
             failures: failures.another()?,
         };
@@ -77,9 +77,11 @@ impl ServerLines {
     pub(crate) fn close<R: Wait + Clock>(&self, rt: &R) {
         let longest = Duration::from_secs(SECONDS_FOR_LAST_LINES);
         self.lines.close(rt, longest);
-        self.shown.close(rt, longest);
+        if let Some(shown) = &self.shown {
+            shown.close(rt, longest);
+        }
         if let Some(log) = &self.log {
-            log.lines.close(rt, longest);
+            log.records.close(rt, longest);
         }
     }
 }
@@ -91,48 +93,55 @@ fn another(log: &Option<RecordLog>) -> Result<Option<RecordLog>, AllocError> {
     }
 }
 
-// The log that is asked for. `shown` are the lines of standard error.
-fn log_of<R>(
-    rt: &R,
-    host: &HostRuntime,
-    log: &ServerLog,
-    shown: &LineSender,
-) -> Result<RecordLog, StartError>
+fn another_sender(lines: &Option<LineSender>) -> Result<Option<LineSender>, AllocError> {
+    match lines {
+        Some(lines) => Ok(Some(lines.another()?)),
+        None => Ok(None),
+    }
+}
+
+// The log that is asked for.
+fn log_of<R>(rt: &R, host: &HostRuntime, log: &ServerLog) -> Result<RecordLog, StartError>
 where
     R: Threads + Wait + Clock + AllocGlobal + Copy + Send + Drop + 'static,
 {
-    let lines = match &log.file {
-        Some(path) => lines_of_file(rt, host, path)?,
-        None => shown.another()?,
+    let records = match &log.file {
+        Some(path) => records_of_file(rt, host, path)?,
+        None => lines_to(rt, host.stderr())?,
     };
     Ok(RecordLog {
-        lines,
+        records,
         form: log.form,
         level: log.level,
     })
 }
 
-fn lines_of_file<R>(rt: &R, host: &HostRuntime, path: &str) -> Result<LineSender, StartError>
+fn records_of_file<R>(
+    rt: &R,
+    host: &HostRuntime,
+    path: &str,
+) -> Result<QueueSender<LogRecord>, StartError>
 where
     R: Threads + Wait + Clock + AllocGlobal + Copy + Send + Drop + 'static,
 {
     let alloc = rt.alloc();
     match LogFile::open(host, String::from_str(alloc, path)?) {
         Ok(file) => {
-            let lines = lines_to(rt, file)?;
-            Ok(lines)
+            let records = lines_to(rt, file)?;
+            Ok(records)
         }
         Err(error) => Err(StartError::of_io(alloc, path, &error)),
     }
 }
 
 // What hands lines to a thread that writes them. The error is want of memory, or that the thread can't be started.
-fn lines_to<R, W>(rt: &R, out: W) -> Result<LineSender, ServerError>
+fn lines_to<R, L, W>(rt: &R, out: W) -> Result<QueueSender<L>, ServerError>
 where
     R: Threads + Wait + Clock + AllocGlobal + Copy + Send + Drop + 'static,
+    L: QueuedLine + Send + Drop + 'static,
     W: Write + Send + Drop + 'static,
 {
-    let Ok(lines) = LineSender::new(rt.alloc(), MOST_WAITING_LINES) else {
+    let Ok(lines) = QueueSender::new(rt.alloc(), MOST_WAITING_LINES) else {
         return Err(ServerError::Memory);
     };
     let Ok(another) = lines.another() else {

@@ -17,3 +17,4 @@ pub mod KeptChainLemmas
 pub mod ShortKeptLemmas
 pub mod SetLemmas
 pub mod DepthLemmas
+pub mod StateKeyLemmas

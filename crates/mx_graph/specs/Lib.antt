@@ -1,4 +1,5 @@
 pub mod Record
+pub mod StateMap
 pub mod Graph
 pub mod Adding
 pub mod RowCode

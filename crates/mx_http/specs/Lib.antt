@@ -1,3 +1,4 @@
 pub mod Claims
+pub mod Figures
 pub mod Memory
 pub mod Places

@@ -5,6 +5,7 @@
 mod activities;
 mod answering;
 mod bodies;
+mod connection_figures;
 mod connections;
 mod endings;
 mod giving_way;
@@ -23,6 +24,7 @@ mod turns;
 mod workers;
 
 pub use answering::Unanswered;
+pub use connection_figures::{ConnectionFigures, ConnectionWatch};
 pub use connections::{Source, serve_one};
 pub use endings::Ending;
 pub use listening::{Announcer, Limits, ListenerHandle, Responders, ServeError, serve_on};

@@ -1,9 +1,11 @@
 // The connections that are open.
 ghost use Rattle.std.specs.Prelude.{◌≡◌, ◌+◌, ◌≤◌, ◌<◌, ◌↔◌, ◌++◌, ◌∷◌, [], Some, None, IfSome, IsTrue, false, true, length};
 ghost use Rattle.std.specs.List.{remove};
+ghost use Rattle.mx_http.specs.Figures.{counted};
 ghost use Rattle.mx_http.specs.Places.{gives_way};
 
 use crate::activities::Activity;
+use crate::connection_figures::ConnectionFigures;
 use crate::giving_way::gives_way;
 use crate::guards::{ConnectionHandle, LeavingConnection};
 use std::alloc::Global;
@@ -130,6 +132,20 @@ impl OpenConnections {
             let OpenConnection { handle, .. } = connection;
             let _ = handle.close();
         }
+    }
+
+    /// What those do that are not closed yet. So many bytes are held for their clients.
+    pub fn figures(&self, held_bytes: u64) -> ConnectionFigures
+        ensures open { counted result ≤ length self.now.0 }
+        ensures held { result.held_bytes ≡ held_bytes }
+    {
+        let mut figures = ConnectionFigures::no_connection(held_bytes);
+        for connection in &self.taken {
+            if connection.handle.is_open() {
+                figures = figures.with_one(connection.handle.activity());
+            }
+        }
+        figures
     }
 
     /// How many a worker serves.

@@ -5,6 +5,8 @@
 #[cfg(test)]
 mod clients;
 #[cfg(test)]
+mod figures_tests;
+#[cfg(test)]
 mod gates;
 #[cfg(test)]
 mod memory_tests;

@@ -46,7 +46,7 @@ fn two_replies_longer_than_the_total(rt: HostRuntime) -> Result<(), Fail> {
     let listener = TcpListener::bind(&rt, (Ipv4Addr::LOCALHOST, 0))?;
     let address = listener.local_addr()?;
     let workers = crew_of_counters(alloc, 2, u32::MAX)?;
-    let mut ear = Ear { told: 0 };
+    let mut ear = Ear::new(alloc)?;
     let (told, served) = thread::join(
         &rt,
         || {

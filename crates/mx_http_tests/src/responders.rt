@@ -6,7 +6,7 @@ use mx_http::{
 };
 use std::alloc::{AllocError, Global};
 use std::io;
-use std::sync::Wait;
+use std::sync::{Arc, OnceLock, Wait};
 use std::time::Clock;
 
 /// How many bytes a long reply has.
@@ -109,15 +109,26 @@ impl Responder for Counter {
     }
 }
 
-/// How often it was told.
+/// How often it was told, and the handle of the listener that told it first.
 #[derive(Drop)]
 pub(crate) struct Ear {
     pub(crate) told: u32,
+    pub(crate) heard: Arc<OnceLock<ListenerHandle>>,
+}
+
+impl Ear {
+    pub(crate) fn new(alloc: Global) -> Result<Ear, AllocError> {
+        Ok(Ear {
+            told: 0,
+            heard: Arc::new(alloc, OnceLock::new())?,
+        })
+    }
 }
 
 impl Announcer for Ear {
-    fn announce(&mut self, _handle: ListenerHandle) -> io::Result<()> {
+    fn announce(&mut self, handle: ListenerHandle) -> io::Result<()> {
         self.told = self.told.saturating_add(1);
+        let _ = self.heard.try_set(handle);
         Ok(())
     }
 }

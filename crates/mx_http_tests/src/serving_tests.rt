@@ -22,7 +22,7 @@ fn two_clients_and_an_end(rt: HostRuntime) -> Result<(), Fail> {
     let listener = TcpListener::bind(&rt, (Ipv4Addr::LOCALHOST, 0))?;
     let address = listener.local_addr()?;
     let workers = crew_of_counters(alloc, 2, u32::MAX)?;
-    let mut ear = Ear { told: 0 };
+    let mut ear = Ear::new(alloc)?;
     let (served, told) = thread::join(
         &rt,
         || {
@@ -53,7 +53,7 @@ fn ended_by_a_responder(rt: HostRuntime) -> Result<(), Fail> {
     let listener = TcpListener::bind(&rt, (Ipv4Addr::LOCALHOST, 0))?;
     let address = listener.local_addr()?;
     let workers = crew_of_counters(alloc, 2, 1)?;
-    let mut ear = Ear { told: 0 };
+    let mut ear = Ear::new(alloc)?;
     let (told, served) = thread::join(
         &rt,
         || asked(&rt, alloc, address, "/x"),

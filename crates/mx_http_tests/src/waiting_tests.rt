@@ -25,7 +25,7 @@ fn beside_a_request_that_waits(rt: HostRuntime) -> Result<(), Fail> {
     let address = listener.local_addr()?;
     let gate = Arc::new(alloc, Gate::new())?;
     let keepers = crew_of_keepers(alloc, &gate)?;
-    let mut ear = Ear { told: 0 };
+    let mut ear = Ear::new(alloc)?;
     let (told, served) = thread::join(
         &rt,
         || {
@@ -59,7 +59,7 @@ fn left_by_its_client(rt: HostRuntime) -> Result<(), Fail> {
     let address = listener.local_addr()?;
     let gate = Arc::new(alloc, Gate::new())?;
     let keepers = crew_of_keepers(alloc, &gate)?;
-    let mut ear = Ear { told: 0 };
+    let mut ear = Ear::new(alloc)?;
     let (told, served) = thread::join(
         &rt,
         || {

@@ -4,11 +4,13 @@
 mod line_outputs;
 mod line_queues;
 mod line_senders;
+mod lines;
 #[cfg(test)]
 mod tests;
 mod writing;
 
 pub use line_outputs::LineOutput;
 pub use line_queues::LineQueue;
-pub use line_senders::LineSender;
+pub use line_senders::{LineSender, QueueSender};
+pub use lines::QueuedLine;
 pub use writing::start_writer;

@@ -11,29 +11,30 @@ use std::marker::Model;
 /// A line is dropped where as many wait as may, and so is each one behind it until it is told how many were: so what is
 /// told of them stands where they would.
 #[derive(Drop)]
-pub struct LineQueue {
-    waiting: VecDeque<Vec<u8>>,
+pub struct LineQueue<L> {
+    waiting: VecDeque<L>,
     most: usize,
     dropped: u64,
+    dropped_in_all: u64,
 }
 
-impl Model for LineQueue {
-    ghost use Rattle.std.specs.Prelude.{◌≡◌, ◌≤◌, length, map};
+impl<L> Model for LineQueue<L> {
+    ghost use Rattle.std.specs.Prelude.{◌≡◌, ◌≤◌};
     ghost use Rattle.std.specs.VecDeque.{deque_capacity, deque_len};
     ghost use Rattle.mx_line_queue.specs.LineQueue.{WaitingLines, lines_code};
 
-    ghost Value = { WaitingLines };
+    ghost Value = { WaitingLines L };
 
-    ghost coded = { lines_code };
+    ghost coded = { lines_code L.code };
 
-    ghost view = { λ queue. record { most = queue.most; waiting = map (λ line. line.items) queue.waiting.items; dropped = queue.dropped } };
+    ghost view = { λ queue. record { most = queue.most; waiting = queue.waiting.items; dropped = queue.dropped; dropped_in_all = queue.dropped_in_all } };
 
     ghost invariant = { λ queue. (deque_capacity queue.waiting ≡ queue.most) × (deque_len queue.waiting ≤ queue.most) };
 }
 
-impl LineQueue {
+impl<L: Drop> LineQueue<L> {
     /// No line waits, and so many may.
-    pub fn new(alloc: Global, most: usize) -> Result<LineQueue, AllocError>
+    pub fn new(alloc: Global, most: usize) -> Result<LineQueue<L>, AllocError>
         ensures { IfOk result (λ queue. queue ≡ without_lines most) }
     {
         let waiting = VecDeque::with_capacity(alloc, most)?;
@@ -41,17 +42,18 @@ impl LineQueue {
             waiting,
             most,
             dropped: 0,
+            dropped_in_all: 0,
         })
     }
 
     /// A line comes. It takes no memory.
-    pub fn add(&mut self, line: Vec<u8>)
-        ensures { self.new ≡ with_line line.items self.old }
+    pub fn add(&mut self, line: L)
+        ensures { self.new ≡ with_line line self.old }
     {
         if self.dropped == 0 && self.waiting.len() < self.most {
             self.waiting.push_back_reserved(line);
         } else {
-            self.dropped = self.dropped.saturating_add(1);
+            self.add_dropped();
         }
     }
 
@@ -60,13 +62,14 @@ impl LineQueue {
         ensures { self.new ≡ with_dropped self.old }
     {
         self.dropped = self.dropped.saturating_add(1);
+        self.dropped_in_all = self.dropped_in_all.saturating_add(1);
     }
 
     /// The line that has waited longest, which waits no more; none where none waits.
-    pub fn next_line(&mut self) -> Option<Vec<u8>>
+    pub fn next_line(&mut self) -> Option<L>
         ensures { MatchOption result
             ((self.old.waiting ≡ []) × (self.new ≡ self.old))
-            (λ line. self.old ≡ record { most = self.new.most; waiting = line.items ∷ self.new.waiting; dropped = self.new.dropped }) }
+            (λ line. self.old ≡ record { most = self.new.most; waiting = line ∷ self.new.waiting; dropped = self.new.dropped; dropped_in_all = self.new.dropped_in_all }) }
     {
         self.waiting.pop_front()
     }
@@ -89,5 +92,12 @@ impl LineQueue {
         ensures { result ≡ has_none self.now }
     {
         self.waiting.is_empty() && self.dropped == 0
+    }
+
+    /// How many were dropped in all since it was made, whether or not it was told.
+    pub fn dropped_in_all(&self) -> u64
+        ensures { result ≡ self.now.dropped_in_all }
+    {
+        self.dropped_in_all
     }
 }

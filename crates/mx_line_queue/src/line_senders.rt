@@ -7,25 +7,25 @@ use std::time::{Clock, Duration};
 
 /// What is to be written next.
 #[derive(Drop)]
-pub(crate) enum NextLine {
-    // A line, with its end.
-    Line(Vec<u8>),
+pub(crate) enum NextLine<L> {
+    // A line.
+    Line(L),
     // That so many lines were dropped.
     Dropped(u64),
 }
 
 // The lines that wait, whether more will come, and whether who writes them waits for one, or writes.
 #[derive(Drop)]
-struct LineState {
-    lines: LineQueue,
+struct LineState<L> {
+    lines: LineQueue<L>,
     is_closed: bool,
     is_awaited: bool,
     is_writing: bool,
 }
 
-impl LineState {
+impl<L: Drop> LineState<L> {
     // What is written next; none where nothing waits.
-    fn next(&mut self) -> Option<NextLine> {
+    fn next(&mut self) -> Option<NextLine<L>> {
         if let Some(line) = self.lines.next_line() {
             return Some(NextLine::Line(line));
         }
@@ -42,20 +42,23 @@ impl LineState {
 }
 
 #[derive(Drop)]
-struct SharedLines {
-    state: Mutex<LineState>,
+struct SharedLines<L> {
+    state: Mutex<LineState<L>>,
     changed: Condvar,
 }
 
 /// Hands lines to who writes them, from any thread. It never waits for a write.
 #[derive(Drop)]
-pub struct LineSender {
-    shared: Arc<SharedLines>,
+pub struct QueueSender<L> {
+    shared: Arc<SharedLines<L>>,
 }
 
-impl LineSender {
+/// Hands over lines of text.
+pub type LineSender = QueueSender<Vec<u8>>;
+
+impl<L: Drop> QueueSender<L> {
     /// No line was handed over yet, and so many may wait.
-    pub fn new(alloc: Global, most: usize) -> Result<LineSender, AllocError> {
+    pub fn new(alloc: Global, most: usize) -> Result<QueueSender<L>, AllocError> {
         let lines = LineQueue::new(alloc, most)?;
         let state = LineState {
             lines,
@@ -67,20 +70,20 @@ impl LineSender {
             state: Mutex::new(state),
             changed: Condvar::new(),
         };
-        Ok(LineSender {
+        Ok(QueueSender {
             shared: Arc::new(alloc, shared)?,
         })
     }
 
     /// The same, for another thread.
-    pub fn another(&self) -> Result<LineSender, AllocError> {
-        Ok(LineSender {
+    pub fn another(&self) -> Result<QueueSender<L>, AllocError> {
+        Ok(QueueSender {
             shared: Arc::try_clone(&self.shared)?,
         })
     }
 
-    /// Hands a line over, with its end. Where there is no room for it, it is counted.
-    pub fn send<R: Wait>(&self, rt: &R, line: Vec<u8>) {
+    /// Hands a line over. Where there is no room for it, it is counted.
+    pub fn send<R: Wait>(&self, rt: &R, line: L) {
         let mut state = self.shared.state.lock(rt);
         state.lines.add(line);
         self.wake(&mut state);
@@ -93,19 +96,16 @@ impl LineSender {
         self.wake(&mut state);
     }
 
+    /// How many lines were dropped in all since it was made: those that found no room, and those that could not be made.
+    pub fn dropped<R: Wait>(&self, rt: &R) -> u64 {
+        self.shared.state.lock(rt).lines.dropped_in_all()
+    }
+
     // Wakes who writes lines, if a line is waited for.
-    fn wake(&self, state: &mut LineState) {
+    fn wake(&self, state: &mut LineState<L>) {
         if state.is_awaited {
             state.is_awaited = false;
             self.shared.changed.notify_all();
-        }
-    }
-
-    /// Hands over a text as a line. Where no memory is left for it, it is counted.
-    pub fn send_text<R: Wait>(&self, rt: &R, text: Result<String, AllocError>) {
-        match ended(text) {
-            Ok(line) => self.send(rt, line),
-            Err(_refused) => self.send_dropped(rt),
         }
     }
 
@@ -140,8 +140,18 @@ impl LineSender {
     }
 
     /// What is to be written next of what waits; none where nothing does.
-    pub(crate) fn next<R: Wait>(&self, rt: &R) -> Option<NextLine> {
+    pub(crate) fn next<R: Wait>(&self, rt: &R) -> Option<NextLine<L>> {
         self.shared.state.lock(rt).next()
+    }
+}
+
+impl LineSender {
+    /// Hands over a text as a line. Where no memory is left for it, it is counted.
+    pub fn send_text<R: Wait>(&self, rt: &R, text: Result<String, AllocError>) {
+        match ended(text) {
+            Ok(line) => self.send(rt, line),
+            Err(_refused) => self.send_dropped(rt),
+        }
     }
 }
 

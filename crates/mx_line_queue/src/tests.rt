@@ -1,8 +1,8 @@
 // That lines come to who writes them, in their order, with what is said of those that found no room: no clause says so.
 
-use crate::{LineOutput, LineSender, start_writer};
+use crate::{LineOutput, LineSender, QueueSender, QueuedLine, start_writer};
 use std::alloc::{AllocError, Global};
-use std::io::{self, Write};
+use std::io::{self, ErrorKind, Write};
 use std::sync::{Arc, Mutex, Wait};
 use std::test::Fail;
 use std::time::Duration;
@@ -28,6 +28,20 @@ impl<R: Wait> Write for Shown<R> {
 
     fn flush(&mut self) -> io::Result<()> {
         Ok(())
+    }
+}
+
+// A number whose text is made where it is written. No memory is left for that of 0.
+#[derive(Drop)]
+struct Numbered(u32);
+
+impl QueuedLine for Numbered {
+    fn write_to<W: Write>(&self, alloc: Global, out: &mut W) -> io::Result<()> {
+        if self.0 == 0 {
+            return Err(ErrorKind::OutOfMemory.into());
+        }
+        let text = format!(in alloc; "number {}\n", self.0)?;
+        out.write_all(text.as_bytes())
     }
 }
 
@@ -79,5 +93,26 @@ fn lines_come_one_after_another(rt: HostRuntime) -> Result<(), Fail> {
     lines.close(&rt, Duration::from_secs(SECONDS));
     let told = b"first\nsecond\nthird\n1 line was dropped here\n";
     assert_eq!(rt; written.lock(&rt).as_slice(), told.as_slice());
+    Ok(())
+}
+
+#[test]
+fn texts_are_made_where_they_are_written(rt: HostRuntime) -> Result<(), Fail> {
+    let alloc = rt.alloc();
+    let lines = QueueSender::new(alloc, 3)?;
+    for number in [1, 0, 2, 3] {
+        lines.send(&rt, Numbered(number));
+    }
+    assert_eq!(rt; lines.dropped(&rt), 1);
+    let written = none_shown(alloc)?;
+    let shown = Shown {
+        rt,
+        written: Arc::try_clone(&written)?,
+    };
+    start_writer(&rt, lines.another()?, shown)?;
+    lines.close(&rt, Duration::from_secs(SECONDS));
+    let told = b"number 1\nnumber 2\n2 lines were dropped here\n";
+    assert_eq!(rt; written.lock(&rt).as_slice(), told.as_slice());
+    assert_eq!(rt; lines.dropped(&rt), 2);
     Ok(())
 }

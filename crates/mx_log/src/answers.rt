@@ -2,7 +2,7 @@
 ghost use Rattle.std.specs.Prelude.{◌≡◌};
 ghost use Rattle.mx_log.specs.LineErrors.{request_refusal, step_refusal};
 
-mod step_texts;
+pub(crate) mod step_texts;
 pub(crate) mod writing;
 
 use mx_requests::WireReply;

@@ -6,7 +6,7 @@ ghost use Rattle.mx_world.specs.declared.steps.Step.TheVariants.{Host};
 ghost use Rattle.mx_log.specs.HostAnswers.{IsHostAnswer, answer_hosts};
 ghost use Rattle.mx_log.specs.HostLines.{HostsNone, HostsRoom, IsNext, answers_hosted, asks_to_host, tells_hosted};
 ghost use Rattle.mx_log.specs.LineSteps.{step_shown};
-ghost use Rattle.mx_log.specs.Lines.{host_step, step_line};
+ghost use Rattle.mx_log.specs.Lines.{host_step, malformed_host, read_line as line_of, step_line};
 ghost use Rattle.mx_log.specs.LinesShown.{line_shown};
 
 use crate::answers::writing::{write_answer, write_refusal};
@@ -17,7 +17,7 @@ use mx_keeper::{BookRow, Keeper, ShardRow};
 use mx_pdu::{Offered, Verifier};
 use mx_shard::Answer;
 use mx_world::{CallError, Step, StepReply, World};
-use std::alloc::Global;
+use std::alloc::{AllocError, Global};
 use std::io;
 use std::io::Write;
 
@@ -30,6 +30,51 @@ pub enum HostLineOutcome {
     NotHosted,
     // It was refused for memory or storage, and nothing is done for it.
     Refused(CallError),
+}
+
+/// A line that is to host a room.
+#[derive(Drop)]
+pub enum HostLine {
+    // It asks to host the room of this event.
+    Event(Offered),
+    // It asks to host a room by an event that has no form.
+    Malformed,
+    // It asks for something else, or for nothing.
+    Other,
+}
+
+/// What a line asks to host. `AllocError` where no memory is left.
+pub fn read_host_line<V: Verifier>(
+    alloc: Global,
+    verifier: &V,
+    text: &[u8],
+) -> Result<HostLine, AllocError>
+    ensures event { IfOk result (λ line. (event : Offered) → line ≡ HostLine.Event event
+        → line_of (offer_by (V.judges verifier.now)) text.now ≡ step_line (host_step event)) }
+    ensures malformed { IfOk result (λ line. line ≡ HostLine.Malformed
+        → line_of (offer_by (V.judges verifier.now)) text.now ≡ malformed_host) }
+    ensures other { IfOk result (λ line. line ≡ HostLine.Other
+        → asks_to_host (line_of (offer_by (V.judges verifier.now)) text.now) ≡ false) }
+{
+    let mut scratch = Scratch::new(alloc);
+    let line = read_line(alloc, &mut scratch, verifier, text)?;
+    Ok(hosting_line(line))
+}
+
+// What a line that was read asks to host.
+fn hosting_line(line: Line) -> HostLine
+    ensures event { (event : Offered) → result ≡ HostLine.Event event → line_shown line ≡ step_line (host_step event) }
+    ensures malformed { result ≡ HostLine.Malformed → line_shown line ≡ malformed_host }
+    ensures other { result ≡ HostLine.Other → asks_to_host (line_shown line) ≡ false }
+{
+    match line {
+        Line::Step(step) => match event_of_hosting(step) {
+            Some(event) => HostLine::Event(event),
+            None => HostLine::Other,
+        },
+        Line::MalformedHost => HostLine::Malformed,
+        _ => HostLine::Other,
+    }
 }
 
 /// Hosts the room of a line, as such a line of a log does. Where the room is not hosted now, by this line or before it,
@@ -95,10 +140,10 @@ fn event_to_host(line: Line) -> Result<Offered, LineAnswer>
     ensures none { OnErr result (asks_to_host (line_shown line) ≡ false) }
     ensures answer { IfErr result (λ answer. answer_hosts answer ≡ false) }
 {
-    match line {
-        Line::Step(step) => event_of_hosting(step).ok_or(LineAnswer::Bad),
-        Line::MalformedHost => Err(LineAnswer::MalformedHost),
-        _ => Err(LineAnswer::Bad),
+    match hosting_line(line) {
+        HostLine::Event(event) => Ok(event),
+        HostLine::Malformed => Err(LineAnswer::MalformedHost),
+        HostLine::Other => Err(LineAnswer::Bad),
     }
 }
 

@@ -13,7 +13,8 @@ mod steps;
 mod strict_logs;
 mod watching;
 
-pub use host_lines::{HostLineOutcome, host_by_line};
+pub use answers::step_texts::host_answer_line;
+pub use host_lines::{HostLine, HostLineOutcome, host_by_line, read_host_line};
 pub use input::{InputError, read_all};
 pub use lines::splitting::first_line;
 pub use log_servers::{WatchedServer, server_after_log};

@@ -6,7 +6,8 @@ use Rattle.std.specs.Cmp.Lexicographic.{slice_cmp}
 use Rattle.mx_redact.specs.Fields.{is_some_and}
 use Rattle.mx_pdu.specs.Event.{sender_of, timestamp_of}
 use Rattle.mx_levels.specs.Level.{user_level}
-use Rattle.mx_auth.specs.Rules.{Key, key_of, same_key}
+use Rattle.mx_pdu.specs.StateKeys.{Key}
+use Rattle.mx_auth.specs.Rules.{key_of, same_key}
 use Rattle.mx_graph.specs.Record.{Row, row, event, is_in, auth_events}
 use Rattle.mx_graph.specs.Graph.{auth_chain}
 use Rattle.mx_graph.proofs.Closure.{is_in-from}

@@ -4,20 +4,19 @@ use Rattle.std.specs.Prelude.{ℤ, codes, find as first_where, Option, Some, Non
 use Rattle.std.specs.Ordering.{is_eq, eq_by_cmp, nat_cmp, ordering_then}
 use Rattle.std.specs.declared.cmp.Ordering.{Ordering}
 use Rattle.std.specs.declared.cmp.Ordering.TheVariants.{Less, Equal, Greater}
-use Rattle.std.specs.Cmp.{IsTotalOrder, on_total, then_total}
-use Rattle.std.specs.Cmp.Lexicographic.{slice_cmp, nat_list_cmp_total}
+use Rattle.std.specs.Cmp.Lexicographic.{slice_cmp}
 use Rattle.std.specs.FinMap.Entries.{find, put, find-put}
 use Rattle.std.proofs.lemmas.Map.Text.{is_eq-slice_cmp}
 use Rattle.mx_redact.specs.Fields.{is_some_and}
 use Rattle.mx_pdu.specs.Event.{sender_of}
 use Rattle.mx_levels.specs.Level.{user_level}
-use Rattle.mx_auth.specs.Rules.{Key, key_of, same_key}
+use Rattle.mx_pdu.specs.StateKeys.{Key}
+use Rattle.mx_auth.specs.Rules.{key_of, same_key}
 use Rattle.mx_graph.specs.Record.{Row, event, auth_events}
-use Rattle.mx_orders.specs.StateMap.{key_cmp, State, entry, state_of, auth_event_at}
+use Rattle.mx_graph.proofs.StateKeyLemmas.{key_cmp-total}
+use Rattle.mx_graph.specs.StateMap.{key_cmp, State, entry}
+use Rattle.mx_orders.specs.StateMap.{state_of, auth_event_at}
 use Rattle.mx_orders.specs.PowerOrder.{sender_level}
-
-pub key_cmp-total : IsTotalOrder key_cmp
-key_cmp-total = then_total (on_total (λ (k : Key). k.0) nat_list_cmp_total) (on_total (λ (k : Key). k.1) nat_list_cmp_total)
 
 is_eq-then : (r s : Ordering) → is_eq (ordering_then r s) ≡ (is_eq r && is_eq s)
 is_eq-then Less s = refl

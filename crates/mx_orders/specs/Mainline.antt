@@ -6,7 +6,7 @@ use Rattle.std.specs.Ordering.{then_cmp, on, nat_cmp, int_cmp}
 use Rattle.std.specs.Cmp.Lexicographic.{slice_cmp}
 use Rattle.std.specs.FinMap.Entries.{by_order}
 use Rattle.mx_pdu.specs.Event.{timestamp_of}
-use Rattle.mx_auth.specs.Rules.{Key}
+use Rattle.mx_pdu.specs.StateKeys.{Key}
 use Rattle.mx_graph.specs.Record.{Row, is_in, row, event}
 use Rattle.mx_orders.specs.StateMap.{auth_event_at}
 

@@ -1,27 +1,12 @@
--- Room state (Matrix specification, Server-Server API, PDUs): a finite map from (type, state key) to events.
-use Rattle.std.specs.Prelude.{ℕ, List, [], ◌∷◌, codes, map, find as first_where, Option, unwrap_or, option_map}
-use Rattle.std.specs.declared.cmp.Ordering.{Ordering}
-use Rattle.std.specs.Ordering.{ordering_then, nat_cmp}
-use Rattle.std.specs.Cmp.Lexicographic.{slice_cmp}
-use Rattle.std.specs.FinMap.Entries.{find, put}
+-- The state that events make, and a state as the authorization rules see it.
+use Rattle.std.specs.Prelude.{ℕ, List, [], ◌∷◌, codes, find as first_where, Option, unwrap_or, option_map}
+use Rattle.std.specs.FinMap.Entries.{put}
 use Rattle.mx_redact.specs.Fields.{Event, is_some_and}
 use Rattle.mx_auth.specs.StateView.{StateView}
-use Rattle.mx_auth.specs.Rules.{Key, key_of, same_key}
+use Rattle.mx_pdu.specs.StateKeys.{Key}
+use Rattle.mx_auth.specs.Rules.{key_of, same_key}
 use Rattle.mx_graph.specs.Record.{Row, row, event, auth_events}
-
--- types first, and then state keys, by bytes
-abbrev pub key_cmp : Key → Key → Ordering
-key_cmp a b = ordering_then (slice_cmp nat_cmp a.0 b.0) (slice_cmp nat_cmp a.1 b.1)
-
--- the entries in the order of their keys, each key once; an event by its place in the record
-abbrev pub State : Type 0
-State = List (Key × ℕ)
-
-abbrev pub entry : State → Key → Option ℕ
-entry s key = find key_cmp key s
-
-abbrev pub events_of : State → List ℕ
-events_of s = map (λ e. e.1) s
+use Rattle.mx_graph.specs.StateMap.{State, key_cmp, entry}
 
 -- the state with the event e, whose place is p, at its key; an event that is no state event changes nothing
 abbrev pub with_event : State → Event → ℕ → State

@@ -2,11 +2,11 @@
 use Rattle.std.proofs.Common.{◌≡◌, ◌++◌, ◌||◌, ℕ, Bool, true, false, not, List, [], ◌∷◌, Option, None, Some, cond, is_none, refl, sym, ap, ◌∙◌, eqb-true}
 use Rattle.std.specs.List.{flat_map}
 use Rattle.std.specs.Ordering.{is_eq}
-use Rattle.mx_auth.specs.Rules.{Key}
-use Rattle.mx_orders.specs.StateMap.{State, entry, key_cmp}
-use Rattle.mx_state_res.proofs.EntryLemmas.{entry-put, entry-where, equal-keys, same-states}
-use Rattle.mx_state_res.proofs.KeyLemmas.{Sorted, key_cmp-itself, sorted-filter}
-use Rattle.mx_state_res.proofs.PlaceLemmas.{sorted-put}
+use Rattle.mx_pdu.specs.StateKeys.{Key}
+use Rattle.mx_graph.specs.StateMap.{State, entry, key_cmp}
+use Rattle.mx_states.proofs.EntryLemmas.{entry-put, entry-where, equal-keys, same-states}
+use Rattle.mx_states.proofs.KeyLemmas.{Sorted, key_cmp-itself, sorted-filter}
+use Rattle.mx_states.proofs.PlaceLemmas.{sorted-put}
 use Rattle.mx_page.specs.Changes.{Change, change_at, changed, changes, gone_at, same_event, with_change}
 
 -- ---- a state with changes

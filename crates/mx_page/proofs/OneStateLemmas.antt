@@ -7,12 +7,12 @@ use Rattle.std.specs.Prelude.{slice_index_or}
 use Rattle.std.specs.List.{All}
 use Rattle.mx_graph.specs.Record.{Row, event, events_where, is_in, place_of, prev_events}
 use Rattle.mx_graph.proofs.RemovalLemmas.{places-before}
-use Rattle.mx_orders.specs.StateMap.{State}
+use Rattle.mx_graph.specs.StateMap.{State}
 use Rattle.mx_receipt.specs.Receipt.{Kept, before_event, kept_at, resolve_in, rows_of, state_after, state_before, states_after, states_at, version_in}
 use Rattle.mx_receipt.proofs.RecordLemmas.{at-seam}
 use Rattle.mx_receipt.proofs.SortedStateLemmas.{resolve-sorted, states-sorted}
 use Rattle.mx_state_res.proofs.EqualStateLemmas.{resolve-same}
-use Rattle.mx_state_res.proofs.KeyLemmas.{Sorted}
+use Rattle.mx_states.proofs.KeyLemmas.{Sorted}
 use Rattle.mx_state_res.proofs.SetLemmas.{rising-is}
 
 -- ---- they are in the order of their keys

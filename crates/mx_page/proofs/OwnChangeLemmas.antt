@@ -5,9 +5,10 @@ use Rattle.std.specs.List.{All}
 use Rattle.std.specs.FinMap.Entries.{put}
 use Rattle.mx_redact.specs.Fields.{Event, kind}
 use Rattle.mx_pdu.specs.Event.{state_key_of}
-use Rattle.mx_auth.specs.Rules.{Key, key_of}
+use Rattle.mx_pdu.specs.StateKeys.{Key}
+use Rattle.mx_auth.specs.Rules.{key_of}
 use Rattle.mx_graph.specs.Record.{event}
-use Rattle.mx_orders.specs.StateMap.{State, entry, key_cmp}
+use Rattle.mx_graph.specs.StateMap.{State, entry, key_cmp}
 use Rattle.mx_receipt.specs.Receipt.{Kept, is_rejected, kept_at, rows_of, state_after, state_before}
 use Rattle.mx_page.specs.Changes.{changes, same_event}
 use Rattle.mx_page.specs.Page.{base_state, changes_after, changes_before, first_of, prevs}

@@ -5,11 +5,11 @@ use Rattle.std.specs.Ordering.{is_eq}
 use Rattle.std.specs.declared.cmp.Ordering.{Ordering}
 use Rattle.std.specs.declared.cmp.Ordering.TheVariants.{Less, Equal, Greater}
 use Rattle.std.specs.FinMap.Entries.{below_all, by_order, put}
-use Rattle.mx_auth.specs.Rules.{Key}
-use Rattle.mx_orders.specs.StateMap.{State, entry, key_cmp}
-use Rattle.mx_state_res.proofs.EntryLemmas.{entry-put}
-use Rattle.mx_state_res.proofs.KeyLemmas.{Sorted, first, key_cmp-greater, key_cmp-itself, key_cmp-less, key_cmp-same, less, second}
-use Rattle.mx_state_res.proofs.PlaceLemmas.{put-equal, put-greater, sorted-put}
+use Rattle.mx_pdu.specs.StateKeys.{Key}
+use Rattle.mx_graph.specs.StateMap.{State, entry, key_cmp}
+use Rattle.mx_states.proofs.EntryLemmas.{entry-put}
+use Rattle.mx_states.proofs.KeyLemmas.{Sorted, first, key_cmp-greater, key_cmp-itself, key_cmp-less, key_cmp-same, less, second}
+use Rattle.mx_states.proofs.PlaceLemmas.{put-equal, put-greater, sorted-put}
 use Rattle.mx_page.specs.Changes.{Change, change_at, changes, gone_at, same_event}
 
 -- ---- keys at which two states are alike

@@ -2,8 +2,8 @@
 use Rattle.std.specs.Prelude.{ℕ, ◌==◌, not, Bool, true, false, is_none, if◌then◌else◌, List, [], ◌∷◌, ◌++◌, filter, flat_map, Option, None, Some}
 use Rattle.std.specs.Ordering.{is_eq}
 use Rattle.std.specs.FinMap.Entries.{put}
-use Rattle.mx_auth.specs.Rules.{Key}
-use Rattle.mx_orders.specs.StateMap.{State, entry, key_cmp}
+use Rattle.mx_pdu.specs.StateKeys.{Key}
+use Rattle.mx_graph.specs.StateMap.{State, entry, key_cmp}
 
 -- a key, with the event that stands there now, if any
 abbrev pub Change : Type 0

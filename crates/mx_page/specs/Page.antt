@@ -4,7 +4,7 @@ use Rattle.serde_json.specs.Data.{string}
 use Rattle.mx_canon.specs.Canonical.{value_text}
 use Rattle.mx_canon.specs.Pieces.{comma_if}
 use Rattle.mx_graph.specs.Record.{event, prev_events}
-use Rattle.mx_orders.specs.StateMap.{State}
+use Rattle.mx_graph.specs.StateMap.{State}
 use Rattle.mx_receipt.specs.Receipt.{Kept, rows_of, state_after, state_before, version_in}
 use Rattle.mx_audit.specs.EventLines.{event_text, resolution_text}
 use Rattle.mx_audit.specs.Resolutions.{states_before}

@@ -2,7 +2,7 @@
 ghost use Rattle.std.specs.Prelude.{◌≡◌, ◌==◌, ◌++◌, ℕ, T, List, false, length};
 ghost use Rattle.std.specs.List.{list_any};
 ghost use Rattle.std.specs.FinMap.Entries.{is_sorted};
-ghost use Rattle.mx_orders.specs.StateMap.{State, key_cmp};
+ghost use Rattle.mx_graph.specs.StateMap.{State, key_cmp};
 ghost use Rattle.mx_receipt.specs.Receipt.{Kept};
 ghost use Rattle.mx_page.specs.Changes.{changed, changes};
 ghost use Rattle.mx_page.specs.Escaping.{escaped};

@@ -12,7 +12,7 @@ use crate::state_changes::{StateChange, changes, changes_by_put};
 use mx_audit::{RoomAudit, event_line, lines_of_resolution, resolution_before};
 use mx_graph::{EventNo, Graph};
 use mx_receipt::Timeline;
-use mx_state_res::StateMap;
+use mx_states::StateMap;
 use std::alloc::{AllocError, Global};
 
 /// The entry of the event with this number in the data of a page, as it stands within a script of HTML, with a comma before

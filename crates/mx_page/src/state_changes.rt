@@ -1,10 +1,10 @@
 // What differs between two states.
 ghost use Rattle.std.specs.Prelude.{◌≡◌, ◌++◌, ◌∷◌, [], IfOk, OnOk, flat_map, if◌then◌else◌};
-ghost use Rattle.mx_orders.specs.StateMap.{entry as entry_at};
+ghost use Rattle.mx_graph.specs.StateMap.{entry as entry_at};
 ghost use Rattle.mx_page.specs.Changes as definition;
 
 use mx_graph::EventNo;
-use mx_state_res::{StateEntry, StateMap};
+use mx_states::{StateEntry, StateMap};
 use std::alloc::{AllocError, Global};
 use std::marker::Model;
 

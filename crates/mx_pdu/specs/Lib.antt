@@ -1,4 +1,5 @@
 pub mod Event
+pub mod StateKeys
 pub mod EventTexts
 pub mod Format
 pub mod DataCode

@@ -63,7 +63,8 @@ fn check_object(event: &Map<String, Value>, is_too_long: bool) -> Result<(), Not
     Ok(())
 }
 
-fn has_canonical_text(value: &Value) -> bool
+// Whether a value has canonical JSON. It takes no memory.
+pub fn has_canonical_text(value: &Value) -> bool
     ensures answer { result ≡ is_canonical (view value.now) }
     ensures keys { KeysRise (view value.now) }
 {

@@ -14,7 +14,8 @@ use Rattle.mx_graph.specs.declared.refusals.NotAdded.TheVariants.{Known, Missing
 use Rattle.mx_graph.specs.declared.refusals.NotAdded.{NotAdded}
 use Rattle.mx_graph.specs.Adding.{add_error, is_known, most_rows}
 use Rattle.mx_graph.specs.Record.{is_in, place_of}
-use Rattle.mx_orders.specs.StateMap.{State, with_event, view}
+use Rattle.mx_graph.specs.StateMap.{State}
+use Rattle.mx_orders.specs.StateMap.{with_event, view}
 use Rattle.mx_state_res.specs.Numbered.{AreKnown}
 use Rattle.mx_orders.specs.PowerOrder.{power_order}
 use Rattle.mx_orders.specs.Mainline.{mainline_order}

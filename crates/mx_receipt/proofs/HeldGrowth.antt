@@ -5,8 +5,9 @@ use Rattle.std.proofs.lemmas.List.Elements.{All-append, All-get_or}
 use Rattle.std.specs.List.{All}
 use Rattle.mx_graph.specs.Graph.{IsSound}
 use Rattle.mx_graph.specs.Record.{Row}
-use Rattle.mx_orders.specs.StateMap.{State}
-use Rattle.mx_state_res.specs.Numbered.{AreAdded, AreKnown, state_at}
+use Rattle.mx_graph.specs.StateMap.{State}
+use Rattle.mx_state_res.specs.Numbered.{AreAdded, AreKnown}
+use Rattle.mx_states.specs.Numbered.{state_at}
 use Rattle.mx_receipt.specs.Receipt.{resolve_in, states_at, verdict}
 use Rattle.mx_receipt.specs.Judgements.{AreBelow, ArePast, IsHeld, IsJudged, IsKept, WereJudged, afters, currents, is_marked, judged_by, judged_in, kept_of, kept_row, verdicts_in}
 use Rattle.mx_receipt.specs.declared.snapshots.Judgement.{Judgement}

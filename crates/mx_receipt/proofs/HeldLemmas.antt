@@ -4,9 +4,10 @@ use Rattle.std.proofs.lemmas.List.{append_assoc, append-nil, get_or_append_left,
 use Rattle.std.proofs.lemmas.List.Elements.{All-append, All-get_or, All-map}
 use Rattle.std.specs.Prelude.{get_or, slice_index_or}
 use Rattle.std.specs.List.{All}
-use Rattle.mx_orders.specs.StateMap.{State}
+use Rattle.mx_graph.specs.StateMap.{State}
 use Rattle.mx_graph.specs.Record.{Row, no_row}
-use Rattle.mx_state_res.specs.Numbered.{AreAdded, AreKnown, state_at}
+use Rattle.mx_state_res.specs.Numbered.{AreAdded, AreKnown}
+use Rattle.mx_states.specs.Numbered.{state_at}
 use Rattle.mx_receipt.specs.Receipt.{states_at}
 use Rattle.mx_receipt.specs.Judgements.{Judged, AreBelow, afters, judged_by, judged_in, numbers_after, verdicts_in, verdicts_of}
 use Rattle.mx_receipt.specs.declared.snapshots.Judgement.{Judgement}

@@ -4,8 +4,8 @@ use Rattle.std.proofs.lemmas.Bool.{cases_lt}
 use Rattle.std.proofs.lemmas.List.{get_or_append_left, length-append, take-append-le}
 use Rattle.std.specs.Prelude.{get_or, slice_index_or}
 use Rattle.std.specs.List.{All}
-use Rattle.mx_orders.specs.StateMap.{State}
-use Rattle.mx_state_res.specs.Numbered.{state_at}
+use Rattle.mx_graph.specs.StateMap.{State}
+use Rattle.mx_states.specs.Numbered.{state_at}
 use Rattle.mx_receipt.specs.Receipt.{AreJudged, Kept, current_state, kept_at, verdict}
 use Rattle.mx_receipt.specs.Judgements.{WereJudged}
 use Rattle.mx_receipt.proofs.KeptLemmas.{all-push}

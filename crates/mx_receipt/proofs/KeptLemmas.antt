@@ -11,7 +11,8 @@ use Rattle.mx_graph.proofs.Closure.{all-in}
 use Rattle.mx_redact.specs.Fields.{Event}
 use Rattle.mx_auth.specs.Rules.{rules}
 use Rattle.mx_graph.specs.Record.{Row, is_in, events_where, prev_events}
-use Rattle.mx_orders.specs.StateMap.{State, with_event, view}
+use Rattle.mx_graph.specs.StateMap.{State}
+use Rattle.mx_orders.specs.StateMap.{with_event, view}
 use Rattle.mx_receipt.specs.Receipt.{Kept, verdict, accept_or, auth_failure, before_event, version_in, resolve_in, is_accepted, is_rejected, rows_of, states_at, with_kept, states_after, state_before, state_before_next, forward_extremities, current_state}
 use Rattle.mx_receipt.specs.Judgements.{Judged, kept_of, kept_row, verdicts_of, afters, befores, Knows, KnowsAll, IsKept, IsJudged, AreNext, leads_on}
 use Rattle.mx_receipt.specs.declared.verdicts.Verdict.TheVariants.{Accepted, SoftFailed, Rejected}

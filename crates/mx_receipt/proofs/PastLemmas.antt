@@ -10,7 +10,7 @@ use Rattle.mx_graph.specs.Edges.{IsAllFrom}
 use Rattle.mx_graph.specs.Graph.{CitesDown, IsSound, reached}
 use Rattle.mx_graph.specs.Record.{Row, event, is_in, prev_events}
 use Rattle.mx_graph.proofs.Closure.{is_in-from, one_answer, or_cases, or_left, or_right, reached-is_least, same_tests}
-use Rattle.mx_orders.specs.StateMap.{State}
+use Rattle.mx_graph.specs.StateMap.{State}
 use Rattle.mx_state_res.proofs.SetLemmas.{is_in-filter}
 use Rattle.mx_receipt.specs.Receipt.{is_accepted}
 use Rattle.mx_receipt.specs.Judgements.{AreAfter, AreBelow, AreCovered, AreNext, ArePast, IsCovered, Judged, currents, is_marked, judged_in, leads_further, leads_on, unmarked, verdicts_in}
@@ -257,7 +257,7 @@ currents-of [] = refl
 currents-of (j ∷ js) = ap (λ ns. j.current ∷ ns) (currents-of js)
 
 abbrev judged_of : List State → Verdict × (ℕ × (ℕ × ℕ)) → Judged
-judged_of states q = record { verdict = q.0; before = Rattle.mx_state_res.specs.Numbered.state_at states q.1.0; after = Rattle.mx_state_res.specs.Numbered.state_at states q.1.1.0 }
+judged_of states q = record { verdict = q.0; before = Rattle.mx_states.specs.Numbered.state_at states q.1.0; after = Rattle.mx_states.specs.Numbered.state_at states q.1.1.0 }
 
 judged-of : (states : List State) (js : List Judgement) → map (judged_of states) (unmarked js) ≡ judged_in states js
 judged-of states [] = refl

@@ -4,8 +4,8 @@ use Prim.Native.String.{String}
 use Rattle.mx_redact.specs.Fields.{Event}
 use Rattle.mx_auth.proofs.RoomBase.{event, keyed, fields, no_fields, membership, users, e1, e2, e3, e4, e5, e6}
 use Rattle.mx_auth.specs.declared.refusals.Rule.TheVariants.{JoinNotAllowed, SenderNotJoined, SenderLevelTooLow, OldUserNotBelowSender, NewUserAboveSender}
-use Rattle.mx_auth.specs.Rules.{Key}
-use Rattle.mx_orders.specs.StateMap.{State, entry}
+use Rattle.mx_pdu.specs.StateKeys.{Key}
+use Rattle.mx_graph.specs.StateMap.{State, entry}
 use Rattle.mx_receipt.specs.Receipt.{Kept, rows_of, begun, received, verdict, state_before, state_after, forward_extremities, current_state, offer_error}
 use Rattle.mx_receipt.specs.declared.verdicts.Verdict.{Verdict}
 use Rattle.mx_receipt.specs.declared.verdicts.Verdict.TheVariants.{Accepted, SoftFailed, Rejected}

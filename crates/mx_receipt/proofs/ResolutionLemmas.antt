@@ -13,17 +13,18 @@ use Rattle.lru.proofs.CallerLemmas.{Contains-lookup, Contains-put_entries}
 use Rattle.lru.proofs.Splits.{Contains-nil}
 use Rattle.mx_graph.specs.Graph.{IsSound}
 use Rattle.mx_graph.specs.Record.{Row, is_in}
-use Rattle.mx_orders.specs.StateMap.{State, entry}
-use Rattle.mx_state_res.specs.Numbered.{AllAlike, AreAdded, AreKnown, state_at}
+use Rattle.mx_graph.specs.StateMap.{State, entry}
+use Rattle.mx_states.specs.Numbered.{AllAlike, state_at}
+use Rattle.mx_state_res.specs.Numbered.{AreAdded, AreKnown}
 use Rattle.mx_state_res.specs.Resolution.{resolve}
-use Rattle.mx_state_res.proofs.ChangeLemmas.{resolve-none}
+use Rattle.mx_state_res.proofs.ResolvingLemmas.{resolve-none}
 use Rattle.mx_state_res.proofs.EqualStateLemmas.{resolve-same}
-use Rattle.mx_state_res.proofs.KeyLemmas.{Sorted}
+use Rattle.mx_states.proofs.KeyLemmas.{Sorted}
 use Rattle.mx_state_res.proofs.LongerRecordLemmas.{resolve-longer}
 use Rattle.mx_auth.specs.declared.versions.RoomVersion.{RoomVersion}
 use Rattle.mx_auth.specs.declared.versions.RoomVersion.TheVariants.{V6}
 use Rattle.mx_graph.proofs.LongerRecordLemmas.{longer-push}
-use Rattle.mx_auth.specs.Rules.{Key}
+use Rattle.mx_pdu.specs.StateKeys.{Key}
 use Rattle.mx_state_res.specs.KeptResolutions.{IsKept, states_of}
 use Rattle.mx_state_res.specs.declared.kept_resolutions.KeptResolution.{KeptResolution}
 use Rattle.mx_state_res.proofs.KeptGrowthLemmas.{kept-longer, option-grown}

@@ -6,13 +6,13 @@ use Rattle.std.proofs.lemmas.List.Elements.{All-map}
 use Rattle.std.specs.Prelude.{slice_index_or, option_to_list, bytes_eq, cond, take}
 use Rattle.std.specs.List.{All}
 use Rattle.std.specs.Option.{option_or}
-use Rattle.mx_auth.specs.Rules.{Key}
+use Rattle.mx_pdu.specs.StateKeys.{Key}
 use Rattle.mx_graph.proofs.RowLemmas.{place_of-push, place_of-below}
 use Rattle.mx_graph.specs.Graph.{IsSound}
 use Rattle.mx_graph.specs.Record.{Row, no_row, row, place_of}
-use Rattle.mx_orders.specs.StateMap.{State}
+use Rattle.mx_graph.specs.StateMap.{State}
 use Rattle.mx_receipt.specs.Receipt.{AreJudged, Kept, rows_of, kept_at, states_after, state_before, state_after, forward_extremities, current_state}
-use Rattle.mx_state_res.specs.Numbered.{state_at}
+use Rattle.mx_states.specs.Numbered.{state_at}
 use Rattle.mx_receipt.specs.Judgements.{Judged, currents, judged_by, judged_in, kept_of, Knows}
 use Rattle.mx_receipt.specs.Timelines.{kept_in, IsTimeline, HasKept}
 use Rattle.mx_receipt.specs.declared.verdicts.Verdict.TheVariants.{Accepted}

@@ -5,18 +5,21 @@ use Rattle.std.specs.Prelude.{get_or, if◌then◌else◌, option_map, slice_ind
 use Rattle.std.specs.FinMap.Entries.{put}
 use Rattle.std.specs.List.{All}
 use Rattle.mx_redact.specs.Fields.{Event}
-use Rattle.mx_auth.specs.Rules.{Key, key_of}
+use Rattle.mx_pdu.specs.StateKeys.{Key}
+use Rattle.mx_auth.specs.Rules.{key_of}
 use Rattle.mx_auth.specs.declared.versions.RoomVersion.{RoomVersion}
 use Rattle.mx_graph.specs.Record.{Row, event, is_in}
 use Rattle.mx_orders.specs.Mainline.{mainline, mainline_order, power_key}
 use Rattle.mx_orders.specs.PowerOrder.{power_order}
-use Rattle.mx_orders.specs.StateMap.{State, entry, key_cmp, with_event}
-use Rattle.mx_state_res.specs.Numbered.{AreAdded, state_at}
+use Rattle.mx_graph.specs.StateMap.{State, entry, key_cmp}
+use Rattle.mx_orders.specs.StateMap.{with_event}
+use Rattle.mx_state_res.specs.Numbered.{AreAdded}
+use Rattle.mx_states.specs.Numbered.{state_at}
 use Rattle.mx_state_res.specs.Resolution.{after_check, full_conflicted, in_every, iterative_auth_checks, power_events, resolve, unconflicted}
-use Rattle.mx_state_res.proofs.EntryLemmas.{sorted-overwritten}
+use Rattle.mx_states.proofs.EntryLemmas.{sorted-overwritten}
 use Rattle.mx_state_res.proofs.EqualStateLemmas.{resolve-same}
-use Rattle.mx_state_res.proofs.KeyLemmas.{Sorted, sorted-filter}
-use Rattle.mx_state_res.proofs.PlaceLemmas.{sorted-put}
+use Rattle.mx_states.proofs.KeyLemmas.{Sorted, sorted-filter}
+use Rattle.mx_states.proofs.PlaceLemmas.{sorted-put}
 use Rattle.mx_receipt.specs.Receipt.{Kept, before_event, version_in, is_rejected, kept_at, rows_of, state_before_next, states_after, states_at, with_kept}
 use Rattle.mx_receipt.specs.Judgements.{AreBelow, AreSorted, IsHeld, IsJudged, Judged, afters, judged_in, kept_of, kept_row, numbers_after}
 use Rattle.mx_receipt.specs.declared.snapshots.Judgement.{Judgement}

@@ -6,10 +6,12 @@ use Rattle.std.specs.Prelude.{Option, option_map, unwrap_or}
 use Rattle.std.specs.FinMap.Entries.{put}
 use Rattle.std.specs.List.{All}
 use Rattle.mx_redact.specs.Fields.{Event}
-use Rattle.mx_auth.specs.Rules.{Key, key_of}
+use Rattle.mx_pdu.specs.StateKeys.{Key}
+use Rattle.mx_auth.specs.Rules.{key_of}
 use Rattle.mx_graph.specs.Record.{Row, event}
-use Rattle.mx_orders.specs.StateMap.{State, key_cmp, state_of, with_event}
-use Rattle.mx_state_res.proofs.KnownLemmas.{put-known}
+use Rattle.mx_graph.specs.StateMap.{State, key_cmp}
+use Rattle.mx_orders.specs.StateMap.{state_of, with_event}
+use Rattle.mx_states.proofs.KnownLemmas.{put-known}
 
 -- the state with these events put in from the last to the first
 abbrev pub put_back : List Row → State → List ℕ → State

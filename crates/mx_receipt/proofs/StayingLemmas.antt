@@ -8,9 +8,9 @@ use Rattle.std.specs.List.{All, list_all}
 use Rattle.mx_graph.specs.Graph.{IsSound}
 use Rattle.mx_graph.specs.Record.{Row, is_in}
 use Rattle.mx_graph.proofs.Closure.{all-in, is_in-from, is_in-to, or_left, or_right}
-use Rattle.mx_orders.specs.StateMap.{State}
+use Rattle.mx_graph.specs.StateMap.{State}
 use Rattle.mx_orders.proofs.Members.{in_map}
-use Rattle.mx_state_res.specs.Numbered.{state_at}
+use Rattle.mx_states.specs.Numbered.{state_at}
 use Rattle.mx_state_res.proofs.SameMembersLemmas.{all-from, all-within, resolve-each}
 use Rattle.mx_receipt.specs.Receipt.{is_accepted, resolve_in, version_in}
 use Rattle.mx_receipt.specs.Judgements.{AreCovered, IsHeld, judged_in, numbers_after, numbers_at, replaced}

@@ -12,8 +12,8 @@ use Rattle.mx_graph.specs.declared.refusals.NotAdded.TheVariants.{Known, Missing
 use Rattle.mx_graph.specs.Adding.{add_error, is_known, most_rows}
 use Rattle.mx_graph.specs.Record.{Row, is_in, place_of}
 use Rattle.mx_graph.proofs.Closure.{all-in, or_right}
-use Rattle.mx_orders.specs.StateMap.{State}
-use Rattle.mx_state_res.specs.Numbered.{state_at}
+use Rattle.mx_graph.specs.StateMap.{State}
+use Rattle.mx_states.specs.Numbered.{state_at}
 use Rattle.mx_receipt.specs.Receipt.{Kept, offer_error, lacks_cited, installed, judged}
 use Rattle.mx_receipt.specs.Judgements.{Judged, judged_by, judged_in, kept_of, kept_row, currents, is_marked, unmarked, verdicts_in, ArePast, IsKept, IsHeld, IsAdded, WereJudged}
 use Rattle.mx_receipt.specs.Timelines.{kept_in, prepared_in, IsPrepared, IsTimeline}

@@ -4,8 +4,9 @@ use Rattle.std.specs.FinMap.Entries.{is_sorted}
 use Rattle.mx_redact.specs.Fields.{Event}
 use Rattle.mx_graph.specs.Edges.{IsAllFrom}
 use Rattle.mx_graph.specs.Record.{Row, event, is_in, prev_events}
-use Rattle.mx_orders.specs.StateMap.{State, key_cmp}
-use Rattle.mx_state_res.specs.Numbered.{AreKnown, state_at}
+use Rattle.mx_graph.specs.StateMap.{State, key_cmp}
+use Rattle.mx_state_res.specs.Numbered.{AreKnown}
+use Rattle.mx_states.specs.Numbered.{state_at}
 use Rattle.mx_receipt.specs.Receipt.{AreJudged, Kept, verdict, is_accepted, is_rejected, rows_of, with_kept, states_after, state_before, state_before_next, forward_extremities, current_state}
 use Rattle.mx_receipt.specs.declared.verdicts.Verdict.{Verdict}
 use Rattle.mx_receipt.specs.declared.verdicts.Verdict.TheVariants.{Accepted}

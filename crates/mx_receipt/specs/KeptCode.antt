@@ -9,7 +9,7 @@ use Rattle.mx_auth.specs.declared.refusals.Rule.{Rule}
 use Rattle.mx_auth.specs.declared.refusals.Rule.TheVariants.{StateWithoutCreate}
 use Rattle.mx_graph.specs.Record.{Row}
 use Rattle.mx_graph.specs.RowCode.{rows_code}
-use Rattle.mx_orders.specs.StateMap.{State}
+use Rattle.mx_graph.specs.StateMap.{State}
 use Rattle.mx_receipt.specs.Receipt.{Kept}
 use Rattle.mx_receipt.specs.declared.verdicts.Verdict.{Verdict}
 use Rattle.mx_receipt.specs.declared.verdicts.Verdict.TheVariants.{Accepted, SoftFailed, Rejected}

@@ -14,7 +14,8 @@ use Rattle.mx_auth.specs.declared.refusals.Rule.{Rule}
 use Rattle.mx_graph.specs.Adding.{most_rows}
 use Rattle.mx_graph.specs.Record.{Row, event, row, place_of, events_where, is_in, prev_events, auth_events}
 use Rattle.mx_graph.specs.Graph.{ancestors}
-use Rattle.mx_orders.specs.StateMap.{State, view, state_of, with_event}
+use Rattle.mx_graph.specs.StateMap.{State}
+use Rattle.mx_orders.specs.StateMap.{view, state_of, with_event}
 use Rattle.mx_state_res.specs.Resolution.{resolve}
 use Rattle.mx_receipt.specs.declared.verdicts.Verdict.{Verdict}
 use Rattle.mx_receipt.specs.declared.verdicts.Verdict.TheVariants.{Accepted, SoftFailed, Rejected}

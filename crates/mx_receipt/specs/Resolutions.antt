@@ -3,8 +3,9 @@
 use Rattle.std.specs.Prelude.{◌≡◌, ◌<◌, ℕ, List, All, Contains, IfSome, Vec, length, map}
 use Rattle.std.specs.declared.alloc.Global.{Global}
 use Rattle.mx_graph.specs.Record.{Row}
-use Rattle.mx_orders.specs.StateMap.{State}
-use Rattle.mx_state_res.specs.Numbered.{AreKnown, state_at}
+use Rattle.mx_graph.specs.StateMap.{State}
+use Rattle.mx_state_res.specs.Numbered.{AreKnown}
+use Rattle.mx_states.specs.Numbered.{state_at}
 use Rattle.mx_state_res.specs.KeptResolutions.{IsKept}
 use Rattle.mx_receipt.specs.Receipt.{resolve_in, version_in}
 use Rattle.mx_receipt.specs.declared.resolution_cache.ResolutionCache.{ResolutionCache}

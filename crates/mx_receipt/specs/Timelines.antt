@@ -2,7 +2,7 @@
 -- What the parts of a timeline are, for its type.
 use Rattle.std.specs.Prelude.{◌≡◌, ◌-◌, ◌||◌, ◌++◌, ◌∷◌, ℕ, List, [], take, length, slice_get, Option, None, Some, option_to_list}
 use Rattle.mx_graph.specs.Record.{Row, is_in}
-use Rattle.mx_orders.specs.StateMap.{State}
+use Rattle.mx_graph.specs.StateMap.{State}
 use Rattle.mx_receipt.specs.Receipt.{Kept}
 use Rattle.mx_receipt.specs.Judgements.{Judged, judged_in, kept_of, verdicts_in, is_marked, ArePast, IsHeld}
 use Rattle.mx_receipt.specs.declared.snapshots.Judgement.{Judgement}

@@ -5,7 +5,8 @@ ghost use Rattle.mx_auth.specs.Keys.{cited_shown};
 ghost use Rattle.mx_auth.specs.Rules.{Cited, auth_rules, rules};
 ghost use Rattle.mx_graph.specs.Record as record_of;
 ghost use Rattle.mx_orders.specs.StateMap.{view};
-ghost use Rattle.mx_state_res.specs.Numbered.{AreKnown, state_at};
+ghost use Rattle.mx_state_res.specs.Numbered.{AreKnown};
+ghost use Rattle.mx_states.specs.Numbered.{state_at};
 ghost use Rattle.mx_receipt.specs.Receipt as definition;
 ghost use Rattle.mx_receipt.specs.Citing.{cited_in};
 ghost use Rattle.mx_receipt.specs.declared.verdicts.Verdict.TheVariants.{Accepted, SoftFailed as soft_failed, Rejected as rejected};
@@ -15,7 +16,7 @@ use crate::verdicts::Verdict;
 use mx_auth::{CitedEvent, Rule, judge_auth_events};
 use mx_graph::{EventNo, Graph};
 use mx_pdu::Pdu;
-use mx_state_res::{StateNo, States};
+use mx_states::{StateNo, States};
 use std::alloc::{AllocError, Global};
 
 /// The verdict on an event, by its auth events, by the state before it, and by the room's current state. The numbers are

@@ -5,8 +5,9 @@ ghost use Rattle.mx_graph.specs.Edges.{Rises};
 ghost use Rattle.mx_graph.specs.Graph.{IsSound};
 ghost use Rattle.mx_graph.specs.Record as record_of;
 ghost use Rattle.mx_graph.specs.Record.{is_in};
-ghost use Rattle.mx_orders.specs.StateMap.{State};
-ghost use Rattle.mx_state_res.specs.Numbered.{AreAdded, AreKnown, state_at};
+ghost use Rattle.mx_graph.specs.StateMap.{State};
+ghost use Rattle.mx_state_res.specs.Numbered.{AreAdded, AreKnown};
+ghost use Rattle.mx_states.specs.Numbered.{state_at};
 ghost use Rattle.mx_receipt.specs.Judgements.{AreAfter, AreBelow, AreCovered, ArePast, AreSorted, IsAdded, IsHeld, IsJudged, afters, is_marked, judged_by, judged_in, kept_of, numbers_at, replaced, verdicts_in};
 ghost use Rattle.mx_receipt.specs.Receipt as definition;
 ghost use Rattle.mx_receipt.specs.Resolutions.{AreRight, IsResolution};
@@ -24,7 +25,7 @@ use crate::verdicts::Verdict;
 use mx_graph::{EventNo, Graph, GraphRow, graph_is_sound, rising};
 use mx_ident::EventId;
 use mx_pdu::Pdu;
-use mx_state_res::{StateNo, States};
+use mx_states::{StateNo, States};
 use std::alloc::{AllocError, Global};
 
 /// What stands last in a room: its forward extremities, and the current state, which they resolve to.

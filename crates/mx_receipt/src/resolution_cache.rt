@@ -1,14 +1,16 @@
 // The resolutions that a room has found.
 ghost use Rattle.std.specs.Prelude.{◌≡◌, ◌<◌, All, IfOk, OnOk, ℕ, length, map};
 ghost use Rattle.mx_graph.specs.Record.{is_in};
-ghost use Rattle.mx_state_res.specs.Numbered.{AreAdded, AreKnown, state_at};
+ghost use Rattle.mx_state_res.specs.Numbered.{AreAdded, AreKnown};
+ghost use Rattle.mx_states.specs.Numbered.{state_at};
 ghost use Rattle.mx_receipt.specs.Receipt.{resolve_in};
 ghost use Rattle.mx_receipt.specs.Resolutions.{AreRight};
 
 use crate::room_states::version_in;
 use lru::LruCache;
 use mx_graph::{Graph, graph_is_sound};
-use mx_state_res::{KeptResolution, StateNo, States, resolve_keeping, resolve_numbered};
+use mx_state_res::{KeptResolution, resolve_keeping, resolve_numbered};
+use mx_states::{StateNo, States};
 use std::alloc::{AllocError, Global};
 use std::num::NonZeroUsize;
 

@@ -4,14 +4,15 @@ ghost use Rattle.mx_auth.specs.Rules.{key_of, rules, same_key};
 ghost use Rattle.mx_redact.specs.Fields.{is_some_and};
 ghost use Rattle.mx_graph.specs.Record as record_of;
 ghost use Rattle.mx_orders.specs.StateMap as state_of_events;
-ghost use Rattle.mx_state_res.specs.Numbered.{AreKnown, state_at};
+ghost use Rattle.mx_state_res.specs.Numbered.{AreKnown};
+ghost use Rattle.mx_states.specs.Numbered.{state_at};
 ghost use Rattle.mx_receipt.specs.Receipt.{created_version as created_version_of, version_in as version_in_rows};
 
 use mx_auth::{RoomState, RoomVersion, Rule, is_at, judge};
 use mx_graph::{EventNo, Graph};
 use mx_ident::EventId;
 use mx_pdu::Pdu;
-use mx_state_res::{StateNo, StateRef, States};
+use mx_states::{StateNo, StateRef, States};
 use std::marker::Model;
 
 // A state, with the graph that its events stand in.
@@ -24,7 +25,7 @@ struct StateInGraph<'a> {
 impl<'a> Model for StateInGraph<'a> {
     ghost use Rattle.std.specs.Prelude.{List, ℕ, ◌<◌, All, length};
     ghost use Rattle.mx_graph.specs.Record.{Row};
-    ghost use Rattle.mx_orders.specs.StateMap.{State};
+    ghost use Rattle.mx_graph.specs.StateMap.{State};
     ghost use Rattle.mx_receipt.specs.KeptCode.{state_in_graph_code};
 
     ghost Value = { List Row × State };
@@ -38,7 +39,7 @@ impl<'a> Model for StateInGraph<'a> {
 
 impl<'a> StateInGraph<'a> {
     ghost use Rattle.std.specs.Prelude.{◌≡◌, ◌<◌, IfSome, length};
-    ghost use Rattle.mx_orders.specs.StateMap.{entry as entry_at};
+    ghost use Rattle.mx_graph.specs.StateMap.{entry as entry_at};
 
     // The number of the event at a type and a state key.
     fn number_at(&self, kind: &str, key: &str) -> Option<EventNo>
@@ -92,7 +93,8 @@ impl<'a> Model for StateOfEvents<'a> {
 
 impl<'a> StateOfEvents<'a> {
     ghost use Rattle.std.specs.Prelude.{◌≡◌, ◌<◌, IfSome, length};
-    ghost use Rattle.mx_orders.specs.StateMap.{entry as entry_at, state_of};
+    ghost use Rattle.mx_graph.specs.StateMap.{entry as entry_at};
+    ghost use Rattle.mx_orders.specs.StateMap.{state_of};
 
     // The number of the event at a type and a state key.
     fn number_at(&self, kind: &str, key: &str) -> Option<EventNo>

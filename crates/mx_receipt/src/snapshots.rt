@@ -1,9 +1,11 @@
 // The states before and after the events of a room.
 ghost use Rattle.std.specs.Prelude.{◌≡◌, ◌==◌, ◌<◌, ◌++◌, List, slice_index_or, All, IfOk, OnOk, if◌then◌else◌, length, map};
 ghost use Rattle.std.specs.List.{list_all};
-ghost use Rattle.mx_orders.specs.StateMap.{State, with_event};
+ghost use Rattle.mx_graph.specs.StateMap.{State};
+ghost use Rattle.mx_orders.specs.StateMap.{with_event};
 ghost use Rattle.mx_graph.specs.Record.{Row};
-ghost use Rattle.mx_state_res.specs.Numbered.{AreAdded, AreKnown, state_at};
+ghost use Rattle.mx_state_res.specs.Numbered.{AreAdded, AreKnown};
+ghost use Rattle.mx_states.specs.Numbered.{state_at};
 ghost use Rattle.mx_receipt.specs.Judgements.{AreBelow, AreSorted, afters, judged_in, numbers_after, numbers_at};
 ghost use Rattle.mx_receipt.specs.Receipt as definition;
 ghost use Rattle.mx_receipt.specs.Resolutions.{AreRight};
@@ -12,7 +14,7 @@ use crate::resolution_cache::{ResolutionCache, each_once, resolve_cached};
 use crate::verdicts::Verdict;
 use mx_graph::{EventNo, Graph};
 use mx_pdu::Pdu;
-use mx_state_res::{StateNo, States};
+use mx_states::{StateNo, States};
 use std::alloc::{AllocError, Global};
 
 // What a room found of an event, the states before and after it, and the current state when it came.

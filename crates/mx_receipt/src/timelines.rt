@@ -27,7 +27,7 @@ use mx_auth::RoomVersion;
 use mx_graph::{EventNo, Graph, GraphRow, MOST_ROWS, graph_is_sound};
 use mx_ident::EventId;
 use mx_pdu::Pdu;
-use mx_state_res::{StateNo, StateRef, States};
+use mx_states::{StateNo, StateRef, States};
 use std::alloc::{AllocError, Global};
 use std::marker::Model;
 use std::mem;

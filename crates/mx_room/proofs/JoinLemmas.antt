@@ -22,7 +22,7 @@ use Rattle.mx_graph.specs.Record.{Row, row, event}
 use Rattle.mx_graph.proofs.Closure.{is_in-from}
 use Rattle.mx_canon.specs.Canonical.{largest}
 use Rattle.mx_orders.specs.Mainline.{sorted}
-use Rattle.mx_orders.specs.StateMap.{entry}
+use Rattle.mx_graph.specs.StateMap.{entry}
 use Rattle.mx_orders.proofs.Members.{In, Distinct}
 use Rattle.mx_orders.proofs.Permutations.{Permutes}
 use Rattle.mx_orders.proofs.SortedLaws.{sorted-permutes}

@@ -3,12 +3,13 @@
 use Rattle.std.specs.Prelude.{ℕ, ◌==◌, Bool, true, false, ◌&&◌, ◌||◌, not, nat_le, slice_index_or, List, [], ◌∷◌, length, codes, bytes_eq, is_none, option_map}
 use Rattle.std.specs.List.{list_any}
 use Rattle.mx_ident.specs.Identifier.{server_of}
-use Rattle.mx_auth.specs.Rules.{Key, rules}
+use Rattle.mx_pdu.specs.StateKeys.{Key}
+use Rattle.mx_auth.specs.Rules.{rules}
 use Rattle.mx_auth.specs.Versions.{version_text}
 use Rattle.mx_pdu.specs.Event.{depth_of}
 use Rattle.mx_graph.specs.Record.{Row, row, event, place_of, events_where, is_in}
 use Rattle.mx_graph.specs.Graph.{ancestors}
-use Rattle.mx_orders.specs.StateMap.{events_of}
+use Rattle.mx_graph.specs.StateMap.{events_of}
 use Rattle.mx_receipt.specs.Receipt.{Kept, rows_of, state_before}
 use Rattle.mx_room.specs.Queries.{Answered, all_served, backfill, chain_by_id, event_shown, events_reply, given_or, held, if_standing, current_view, join_template, missing_events, room_version, state_ids_reply, state_reply, template_by, unless}
 use Rattle.mx_room.specs.declared.queries.Query.{Query}

@@ -3,7 +3,7 @@ use Rattle.std.specs.Prelude.{ℕ, Bool, false, ◌||◌, if◌then◌else◌, L
 use Rattle.mx_ident.specs.Identifier.{server_of}
 use Rattle.mx_pdu.specs.Event.{sender_of}
 use Rattle.mx_graph.specs.Record.{place_of}
-use Rattle.mx_orders.specs.StateMap.{events_of}
+use Rattle.mx_graph.specs.StateMap.{events_of}
 use Rattle.mx_receipt.specs.Receipt.{Kept, rows_of, is_accepted, installed, state_before}
 use Rattle.mx_access.specs.Access.{served}
 use Rattle.mx_room.specs.Offer.{Offered, offer_outcome, is_kept, row_by}

@@ -19,7 +19,8 @@ use Rattle.mx_graph.specs.Depths.{greatest_depth}
 use Rattle.mx_graph.specs.Record.{Row, row, event, place_of, events_where, is_in}
 use Rattle.mx_graph.specs.Graph.{ancestors, auth_chain}
 use Rattle.mx_orders.specs.Mainline.{sorted}
-use Rattle.mx_orders.specs.StateMap.{entry, events_of, view}
+use Rattle.mx_graph.specs.StateMap.{entry, events_of}
+use Rattle.mx_orders.specs.StateMap.{view}
 use Rattle.mx_receipt.specs.Receipt.{Kept, rows_of, version_in, state_before, current_state, forward_extremities}
 use Rattle.mx_access.specs.Acl.{acl_allows}
 use Rattle.mx_access.specs.Access.{in_room, served, shown}

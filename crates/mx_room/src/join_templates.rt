@@ -4,7 +4,7 @@ ghost use Rattle.serde_json.specs.Data.{array, object, put as with_member, strin
 ghost use Rattle.serde_json.specs.View.{members_view, view};
 ghost use Rattle.mx_canon.specs.Canonical.{largest};
 ghost use Rattle.mx_graph.specs.Depths as depths;
-ghost use Rattle.mx_orders.specs.StateMap.{entry};
+ghost use Rattle.mx_graph.specs.StateMap.{entry};
 ghost use Rattle.mx_receipt.specs.Receipt.{current_state, rows_of};
 ghost use Rattle.mx_room.specs.Answers.{join_keys};
 ghost use Rattle.mx_room.specs.Queries as definition;

@@ -269,6 +269,14 @@ impl Room {
         self.timeline.find(id).is_some()
     }
 
+    /// Its events under their verdicts, and the one that is prepared. There is at least one event.
+    pub fn timeline(&self) -> &Timeline
+        ensures timeline { result.now ≡ record { kept = self.now.kept; prepared = self.now.prepared } }
+        ensures hosted { IsHosted self.now.kept }
+    {
+        &self.timeline
+    }
+
     /// Its events under their verdicts. They make a room: there is at least one.
     pub fn into_timeline(self) -> Timeline
         ensures timeline { result ≡ record { kept = self.kept; prepared = self.prepared } }

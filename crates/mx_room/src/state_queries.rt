@@ -1,6 +1,6 @@
 // Queries for a state, and for an auth chain.
 ghost use Rattle.std.specs.Prelude.{◌≡◌, ◌<◌, All, IfOk, IfSome, IsTrue, OnErr, is_ok, length};
-ghost use Rattle.mx_orders.specs.StateMap.{events_of};
+ghost use Rattle.mx_graph.specs.StateMap.{events_of};
 ghost use Rattle.mx_receipt.specs.Receipt.{rows_of, state_before};
 ghost use Rattle.mx_room.specs.Answers as answers;
 ghost use Rattle.mx_room.specs.Queries as definition;

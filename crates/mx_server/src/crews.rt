@@ -4,7 +4,8 @@ ghost use Rattle.std.specs.Prelude.{◌≡◌, ◌+◌, ◌≤◌};
 use mx_options::SeatCount;
 use std::marker::Model;
 
-// How many event loops a server has at most: their seats and those of the other threads are then at most 64.
+// How many event loops a server has at most: their seats, those of the other threads and that of who counts the rooms are
+// then at most 64.
 const MOST_LOOPS: u32 = 30;
 // How many more threads answer beside the event loops than there are of these: one may be at a shard, one wait to ask it,
 // and one go to several, while the others go on.
@@ -40,11 +41,11 @@ impl Crew {
         self.loops as usize
     }
 
-    /// How many seats of an engine it takes: one for each thread.
+    /// How many seats of an engine it takes: one for each thread, and one for who counts the rooms.
     pub(crate) fn seats(self) -> u32
         ensures some { 1 ≤ result }
         ensures few { result ≤ 64 }
     {
-        self.loops + self.loops + MORE_THREADS
+        self.loops + self.loops + MORE_THREADS + 1
     }
 }

@@ -5,30 +5,32 @@ use crate::admin_view::{AdminView, start_admin};
 use crate::crews::Crew;
 use crate::hosting::{file_of_rooms, host_rooms, rooms_to_host};
 use crate::losses::check_losses;
+use crate::ports::{limits_of, listener_at, port_of, unserved};
 use crate::reading::RequestReader;
+use crate::room_watch::{RoomNotices, RoomWatch, start_room_watch};
 use crate::watching::{FileWatch, start_watch};
 use crate::workers::{Handler, ServerEngine, Shared, Worker, workers_of};
-use mx_admin::{Desk, DeskThread, Failures, RecordLog};
+use mx_admin::{Desk, DeskThread, Failures, RecordLog, RoomDesk};
 use mx_directory::{
     RowFile, RowFiles, ServerError, ServerFiles, StartError, WatchedKeeper, open_directory,
 };
 use mx_engine::{Engine, OpenGate};
 use mx_http::{Announcer, Limits, ListenerHandle, Responders, ServeError, ServerRuntime, serve_on};
 use mx_ident::ServerName;
-use mx_keeper::{BookRow, CallError, Keeper, MOST_PLACES, ShardRow};
+use mx_keeper::{BookRow, CallError, Keeper, MOST_PLACES, ShardCount, ShardRow};
 use mx_line_queue::{LineOutput, LineSender};
 use mx_name_grammar::is_in_grammar;
 use mx_options::{SeatCount, ServeOptions};
 use mx_pdu::PresenceVerifier;
 use mx_room::Moment;
-use mx_wire::{LARGEST_BODY, WireCall, WireServer};
+use mx_wire::{WireCall, WireServer};
 use mx_world::World;
 use sqlite::Alter;
 use std::alloc::{AllocError, AllocGlobal, Global};
 use std::io::{self, Write};
-use std::net::{Ipv4Addr, TcpListener};
+use std::net::TcpListener;
 use std::sync::{Arc, Wait};
-use std::time::Duration;
+use std::time::Clock;
 
 /// Where a server tells who runs it what happens: through lines, through a log, where it keeps one, and the files that failed.
 #[derive(Drop)]
@@ -81,6 +83,8 @@ pub fn serve<R: ServerRuntime + 'static, W: Write>(
     let oversight = Oversight {
         watch,
         desk: Desk::new(rt.alloc(), seats, lines.another()?, log)?,
+        rooms: RoomDesk::new(rt.alloc())?,
+        lines: lines.another()?,
         failures,
     };
     let rooms = rooms_to_host(host, &options)?;
@@ -146,11 +150,14 @@ fn files_of<R: ServerRuntime>(
     open_directory(rt, host, &options.data, name, options.shards, is_accepted)
 }
 
-// Who looks after the files of a server, and where its threads tell what they do.
+// Who looks after the files of a server, where its threads tell what they do, where its rooms are asked for, who is told of
+// them, and the files that failed.
 #[derive(Drop)]
 struct Oversight {
     watch: Arc<FileWatch>,
     desk: Desk,
+    rooms: RoomDesk,
+    lines: LineSender,
     failures: Failures,
 }
 
@@ -172,7 +179,7 @@ fn serve_rows<S, R, W: Write, E: Write>(
     err: &mut E,
 ) -> Result<(), StartError>
 where
-    S: Alter + Drop + Send,
+    S: Alter + Drop + Send + 'static,
     R: ServerRuntime + 'static,
     requires some_shard { 1 ≤ length rows.shards.items }
     requires few_shards { length rows.shards.items ≤ MOST_PLACES }
@@ -208,15 +215,6 @@ fn not_reopened(alloc: Global, data: &str, error: CallError) -> StartError {
     }
 }
 
-// How many bytes a megabyte of `--memory` has.
-const MEGABYTE: usize = 1_000_000;
-// How many seconds a client may take to begin a request.
-const IDLE_SECONDS: u64 = 75;
-// How many seconds a client may take for the head of a request.
-const HEAD_SECONDS: u64 = 10;
-// For how many seconds a client may send nothing of a body, or read nothing of a reply.
-const QUIET_SECONDS: u64 = 30;
-
 // What is said once connections are taken in.
 #[derive(Drop)]
 struct Opening<'a, W, E> {
@@ -249,49 +247,35 @@ fn listen<K, L, R, W: Write, E: Write>(
     err: &mut E,
 ) -> Result<(), StartError>
 where
-    K: Keeper<Row = ShardRow> + Send,
-    L: Keeper<Row = BookRow> + Send,
+    K: Keeper<Row = ShardRow> + Send + 'static,
+    L: Keeper<Row = BookRow> + Send + 'static,
     R: ServerRuntime + 'static,
 {
     let alloc = rt.alloc();
     let listener = listener_at(rt, options.port)?;
     let port = port_of(alloc, &listener)?;
     let limits = limits_of(&options);
-    let Oversight {
-        watch,
-        desk,
-        failures,
-    } = oversight;
-    let ServeOptions {
-        name,
-        data,
-        shards,
-        threads,
-        admin,
-        ..
-    } = options;
-    let reader = RequestReader {
-        server: WireServer::new(alloc, name.clone()?)?,
-        shards,
-    };
-    let reader = Arc::new(alloc, reader)?;
-    let files = watch.files()?;
-    let crew = Crew::of(threads);
-    let workers = workers(rt, server, crew, name, files)?;
+    let crew = Crew::of(options.threads);
+    let reader = reader_of(alloc, &options)?;
+    let watch = Arc::try_clone(&oversight.watch)?;
+    let mut workers = workers(rt, server, crew, options.name, watch.files()?)?;
+    if let Some(worker) = workers.pop() {
+        count_rooms(rt, worker, options.shards, &oversight)?;
+    }
     let answerers = Answerers {
         reader,
-        desks: desks_of(alloc, &desk, workers.len())?,
+        desks: desks_of(alloc, &oversight.desk, workers.len())?,
         workers,
         crew,
     };
-    if let Some(port) = admin {
-        show(rt, port, desk, failures)?;
+    if let Some(port) = options.admin {
+        show(rt, port, oversight)?;
     }
     let mut opening = Opening {
         out,
         err,
         port,
-        data,
+        data: options.data,
         watch,
     };
     let served = serve_by(rt, &listener, answerers, limits, &mut opening);
@@ -299,6 +283,54 @@ where
         Ok(()) => Err(StartError::from(ServerError::Storage)),
         Err(error) => Err(unserved(alloc, &error)),
     }
+}
+
+// What reads the requests of a server with these options.
+fn reader_of(alloc: Global, options: &ServeOptions) -> Result<Arc<RequestReader>, AllocError> {
+    let reader = RequestReader {
+        server: WireServer::new(alloc, options.name.clone()?)?,
+        shards: options.shards,
+    };
+    let reader = Arc::new(alloc, reader)?;
+    Ok(reader)
+}
+
+// Counts the rooms through a worker, from now on.
+fn count_rooms<K, L, R>(
+    rt: &R,
+    worker: Worker<K, L>,
+    shards: ShardCount,
+    oversight: &Oversight,
+) -> Result<(), StartError>
+where
+    K: Keeper<Row = ShardRow> + Send + 'static,
+    L: Keeper<Row = BookRow> + Send + 'static,
+    R: ServerRuntime + 'static,
+{
+    let rooms = oversight.rooms.another()?;
+    let lines = oversight.lines.another()?;
+    let watch = RoomWatch {
+        worker,
+        shards,
+        notices: RoomNotices::new(rt.alloc(), rooms, lines),
+    };
+    start_room_watch(rt, watch)
+}
+
+// Shows an operator at a port how the server is.
+fn show<R: ServerRuntime + 'static>(
+    rt: &R,
+    port: u16,
+    oversight: Oversight,
+) -> Result<(), StartError> {
+    let view = AdminView {
+        desk: oversight.desk,
+        rooms: oversight.rooms,
+        watch: oversight.watch,
+        failures: oversight.failures,
+        started: seconds(rt),
+    };
+    start_admin(rt, listener_at(rt, port)?, view)
 }
 
 // A desk for each of so many threads.
@@ -310,24 +342,12 @@ fn desks_of(alloc: Global, desk: &Desk, threads: usize) -> Result<Vec<DeskThread
     Ok(desks)
 }
 
-// Shows an operator at a port how the server is.
-fn show<R: ServerRuntime + 'static>(
-    rt: &R,
-    port: u16,
-    desk: Desk,
-    failures: Failures,
-) -> Result<(), StartError> {
-    let listener = listener_at(rt, port)?;
-    let started = match rt.since_1970() {
+// The moment of a clock, in seconds since 1970; 0 where it can't be read.
+fn seconds<C: Clock>(clock: &C) -> u64 {
+    match clock.since_1970() {
         Ok(time) => time.as_secs(),
         Err(_error) => 0,
-    };
-    let view = AdminView {
-        desk,
-        failures,
-        started,
-    };
-    start_admin(rt, listener, view)
+    }
 }
 
 // What answers requests: who reads them, and a worker with its desk for each event loop and for each thread beside them.
@@ -376,45 +396,6 @@ where
     let responders = Responders { loops, threads };
     serve_on(rt, listener, responders, limits, announcer)?;
     Ok(())
-}
-
-fn listener_at<R: ServerRuntime>(rt: &R, port: u16) -> Result<TcpListener, StartError> {
-    match TcpListener::bind(rt, (Ipv4Addr::LOCALHOST, port)) {
-        Ok(listener) => Ok(listener),
-        Err(error) => {
-            let alloc = rt.alloc();
-            let place = format!(in alloc; "127.0.0.1:{port}")?;
-            Err(StartError::of_io(alloc, &place, &error))
-        }
-    }
-}
-
-fn port_of(alloc: Global, listener: &TcpListener) -> Result<u16, StartError> {
-    match listener.local_addr() {
-        Ok(address) => Ok(address.port()),
-        Err(error) => Err(StartError::of_io(alloc, "127.0.0.1", &error)),
-    }
-}
-
-fn limits_of(options: &ServeOptions) -> Limits {
-    Limits {
-        connections: options.connections,
-        body: LARGEST_BODY,
-        memory: options.memory.saturating_mul(MEGABYTE),
-        idle: Duration::from_secs(IDLE_SECONDS),
-        head: Duration::from_secs(HEAD_SECONDS),
-        quiet: Duration::from_secs(QUIET_SECONDS),
-        stop_after: None,
-    }
-}
-
-// Why a listener is not served.
-fn unserved(alloc: Global, error: &ServeError) -> StartError {
-    match error {
-        ServeError::Memory => StartError::from(ServerError::Memory),
-        ServeError::Thread => StartError::from(ServerError::Thread),
-        ServeError::Told(error) => StartError::of_io(alloc, "standard output", error),
-    }
 }
 
 // The workers of a server.

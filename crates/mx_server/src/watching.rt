@@ -1,7 +1,7 @@
 // What looks after the files of a running server, in a thread beside those that answer.
 
 use mx_directory::{RowFiles, ServerError, StartError};
-use mx_http::{ListenerHandle, ServerRuntime};
+use mx_http::{ConnectionFigures, ListenerHandle, ServerRuntime};
 use once_cell::race::OnceBool;
 use std::alloc::{AllocError, Global};
 use std::io::{self, Write};
@@ -48,6 +48,17 @@ impl FileWatch {
     /// Connections are taken in from now on, by the listener with this handle.
     pub fn begin(&self, handle: ListenerHandle) {
         let _ = self.listener.try_set(handle);
+    }
+
+    /// How many replies to transactions are kept.
+    pub fn kept_transactions(&self) -> u64 {
+        self.files.kept_transactions()
+    }
+
+    /// What the connections do; none before they are taken in.
+    pub fn connections<R: Wait>(&self, rt: &R) -> Option<ConnectionFigures> {
+        let listener = self.listener.get()?;
+        Some(listener.connections.figures(rt))
     }
 
     /// Compares how many rows each file has with how many it had, and writes how many it has.

@@ -12,8 +12,9 @@ use mx_engine::{Engine, OpenGate, Seat};
 use mx_http::{AskedCall, HttpReply, HttpRequest, ReadRequest, Responder};
 use mx_ident::ServerName;
 use mx_keeper::{BookRow, CallError, Keeper, ShardRow};
-use mx_pdu::PresenceVerifier;
-use mx_room::{LATEST_MILLISECONDS, Moment};
+use mx_pdu::{Pdu, PresenceVerifier};
+use mx_room::{LATEST_MILLISECONDS, Moment, Room};
+use mx_shard::Answer;
 use mx_wire::{Fault, RequestReply, WireCall, answer_call, fault_reply, memory_reply};
 use std::alloc::{AllocError, Global};
 use std::marker::Model;
@@ -86,6 +87,76 @@ impl<K: Keeper<Row = ShardRow> + Send, L: Keeper<Row = BookRow>> Worker<K, L> {
         let answered = answer_in(rt, alloc, &self.shared, &mut self.seat, now, call);
         answered_request(rt, alloc, &self.shared, answered)
     }
+}
+
+impl<K: Keeper<Row = ShardRow>, L: Keeper<Row = BookRow>> Worker<K, L> {
+    /// What judges the signatures of events.
+    pub fn verifier(&self) -> &PresenceVerifier {
+        self.shared.engine.verifier()
+    }
+
+    /// What is read of the rooms of a shard; none where there is no such shard.
+    pub fn read_rooms<R: Wait, A, F: FnOnce(&[Room]) -> A + Drop>(
+        &mut self,
+        rt: &R,
+        shard: usize,
+        read: F,
+    ) -> Option<A>
+        requires { F.IsAlwaysCallable read }
+    {
+        rooms_in(rt, &self.shared, &mut self.seat, shard, read)
+    }
+
+    /// The answer of the room of an event, which it is to host. Where what keeps rows refused it, who runs the server is told
+    /// which file has failed.
+    pub fn host<R: Wait>(
+        &mut self,
+        rt: &R,
+        alloc: Global,
+        event: Pdu,
+    ) -> Result<Answer, CallError> {
+        let answered = host_in(rt, alloc, &self.shared, &mut self.seat, event);
+        if let Err(CallError::Storage) = &answered {
+            self.shared.files.tell(rt, alloc);
+        }
+        answered
+    }
+}
+
+// What is read of the rooms of a shard through a seat.
+fn rooms_in<K, L, R, A, F>(
+    rt: &R,
+    shared: &Shared<K, L>,
+    seat: &mut Seat<K, L>,
+    shard: usize,
+    read: F,
+) -> Option<A>
+where
+    K: Keeper<Row = ShardRow>,
+    L: Keeper<Row = BookRow>,
+    R: Wait,
+    F: FnOnce(&[Room]) -> A + Drop,
+    requires seat { IsSeatOf shared.now.engine seat.old }
+    requires callable { F.IsAlwaysCallable read }
+    ensures seat { IsSeatOf shared.now.engine seat.new }
+    ensures number { seat_number seat.new ≡ seat_number seat.old }
+{
+    shared.engine.read_rooms(rt, seat, shard, read)
+}
+
+// The answer through a seat of the room of an event, which it is to host.
+fn host_in<K: Keeper<Row = ShardRow>, L: Keeper<Row = BookRow>, R: Wait>(
+    rt: &R,
+    alloc: Global,
+    shared: &Shared<K, L>,
+    seat: &mut Seat<K, L>,
+    event: Pdu,
+) -> Result<Answer, CallError>
+    requires { IsSeatOf shared.now.engine seat.old }
+    ensures seat { IsSeatOf shared.now.engine seat.new }
+    ensures number { seat_number seat.new ≡ seat_number seat.old }
+{
+    shared.engine.host(rt, alloc, seat, event)
 }
 
 // What a request is answered. Where what keeps rows refused it, who runs the server is told which file has failed.

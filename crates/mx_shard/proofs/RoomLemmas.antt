@@ -22,7 +22,9 @@ use Rattle.mx_room.specs.declared.queries.Denied.TheVariants.{NotFound}
 use Rattle.mx_shard.specs.LoneRoom.{to_ask, answer}
 use Rattle.mx_shard.specs.Told.{tells_shown}
 use Rattle.mx_shard.specs.Shown.{HasShown, IsShown}
-use Rattle.mx_shard.specs.Inside.{room_ids, no_room, room_at, rows_at, rows_in, IsPlaced, IsNumbered, number_of, IsMoved, IsSameMap, IsDistinct, IsReady}
+use Rattle.mx_shard.specs.Inside.{room_ids, no_room, room_at, rows_at, rows_in, IsPlaced, IsNumbered, number_of, IsMoved, IsSameMap, IsDistinct, IsReady, IsIndexed, journal_of}
+use Rattle.mx_shard.specs.Rooms.{AreRoomsOf}
+use Rattle.mx_shard.specs.declared.journal_places.JournalPlace.{JournalPlace}
 use Rattle.mx_shard.specs.declared.answers.Answer.TheVariants.{ToAsked}
 use Rattle.mx_shard.proofs.Places.{IsFound, text_found, text_missing, text_once, placed_push, placed_same, find-set_other, map-set_same}
 
@@ -36,6 +38,14 @@ text-self a = (bytes_eq-Decides a a).1 refl
 
 pub distinct_of : (numbers : BTreeMap (List ℕ) ℕ) (rooms : List RoomView) → IsNumbered numbers rooms → IsDistinct rooms
 distinct_of numbers rooms placed = text_once (λ (room : RoomView). room.id) rooms numbers placed
+
+-- the rooms that a journal makes
+pub rooms-are : (rooms : List RoomView) (numbers : BTreeMap (List ℕ) ℕ) (places : List JournalPlace) → IsIndexed rooms numbers places → AreRoomsOf (journal_of rooms places) rooms
+rooms-are rooms numbers places indexed = record {
+  ready = indexed.ready;
+  distinct = distinct_of numbers rooms indexed.numbered;
+  records = indexed.records;
+}
 
 pub room_found : (numbers : BTreeMap (List ℕ) ℕ) (rooms : List RoomView) (id : List ℕ) (n : ℕ) → IsNumbered numbers rooms → number_of numbers id ≡ Some n → IsFound (λ room. bytes_eq room.id id) rooms n
 room_found numbers rooms id n placed h = text_found (λ (room : RoomView). room.id) rooms numbers placed id n h

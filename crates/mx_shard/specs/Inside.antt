@@ -1,5 +1,5 @@
 -- How a shard keeps its journal, for private clauses (our own).
-use Rattle.std.specs.Prelude.{◌≡◌, ℕ, ◌<◌, List, [], ◌∷◌, ◌++◌, bytes_eq, map, find, length, get_or, cond, All, IsTrue, Option, Some, None}
+use Rattle.std.specs.Prelude.{◌≡◌, ℕ, ◌<◌, List, [], ◌∷◌, ◌++◌, map, length, get_or, cond, All, IsTrue, Option, Some, None}
 use Rattle.std.specs.List.{position_from}
 use Rattle.std.specs.BTreeMap.{BTreeMap, get}
 use Rattle.std.specs.Cmp.Lexicographic.{slice_cmp}
@@ -8,9 +8,10 @@ use Rattle.std.specs.declared.cmp.Ordering.{Ordering}
 use Rattle.mx_keeper.specs.Places.{PlaceView, is_at}
 use Rattle.mx_keeper.specs.declared.rows.ShardRow.{ShardRow}
 use Rattle.mx_receipt.specs.Receipt.{Kept, kept_at, installed}
-use Rattle.mx_room.specs.RoomView.{RoomView, IsHosted}
+use Rattle.mx_room.specs.RoomView.{RoomView}
 use Rattle.mx_shard.specs.Journal.{Entry, entry_of, entry_of_row, record_of, row_in, IsLegal}
 use Rattle.mx_shard.specs.Holders.{IsHolding}
+pub use Rattle.mx_shard.specs.Rooms.{rows_at, rows_in, IsReady, IsDistinct}
 use Rattle.mx_shard.specs.declared.holders.Holder.{Holder}
 use Rattle.mx_shard.specs.declared.journal_places.JournalPlace.{JournalPlace}
 
@@ -25,14 +26,6 @@ no_room = record { id = []; kept = []; prepared = None }
 abbrev pub room_at : List RoomView → ℕ → RoomView
 room_at rooms n = get_or rooms n no_room
 
-abbrev pub rows_at : Option RoomView → List Kept
-rows_at None = []
-rows_at (Some room) = room.kept
-
--- what the room with this id has kept; one that is not hosted has no row
-abbrev pub rows_in : List RoomView → List ℕ → List Kept
-rows_in rooms id = rows_at (find (λ room. bytes_eq room.id id) rooms)
-
 -- the room with this event prepared to be its next one
 abbrev pub with_prepared : RoomView → Option Kept → RoomView
 with_prepared room next = record { id = room.id; kept = room.kept; prepared = next }
@@ -40,15 +33,6 @@ with_prepared room next = record { id = room.id; kept = room.kept; prepared = ne
 -- the room with this event added
 abbrev pub with_kept : RoomView → Option Kept → RoomView
 with_kept room next = record { id = room.id; kept = installed room.kept next; prepared = None }
-
--- it has an event, and none is prepared
-pub record IsReady (room : RoomView) : Type 0 where
-  pub hosted : IsHosted room.kept
-  pub free : room.prepared ≡ None
-
--- each room is the first with its id
-abbrev pub IsDistinct : List RoomView → Type 0
-IsDistinct rooms = (n : ℕ) (d : RoomView) → n < length rooms → find (λ room. bytes_eq room.id (get_or rooms n d).id) rooms ≡ Some (get_or rooms n d)
 
 -- ---- the numbers of the rooms
 

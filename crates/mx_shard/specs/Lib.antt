@@ -2,6 +2,7 @@ pub mod LoneRoom
 pub mod Told
 pub mod Shown
 pub mod Journal
+pub mod Rooms
 pub mod View
 pub mod Inside
 pub mod Changes

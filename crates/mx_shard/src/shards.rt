@@ -8,6 +8,7 @@ ghost use Rattle.mx_shard.specs.LoneRoom.{to_host, to_offer, to_join, to_ask, se
 ghost use Rattle.mx_shard.specs.Shown.{HasShown, IsAnswer};
 ghost use Rattle.mx_shard.specs.Told.{tells_hosted, tells_kept};
 ghost use Rattle.mx_shard.specs.Journal.{Entry, record_of, journal_after, stored, reopened, AreWorkedOut, CanReopen, IsLegal, has_id};
+ghost use Rattle.mx_shard.specs.Rooms.{AreRoomsOf};
 
 use crate::answers::Answer;
 use crate::asking::answer_among;
@@ -345,6 +346,13 @@ impl<K: Keeper<Row = ShardRow>> Shard<K> {
         ensures { result ≡ has_id self.now.journal id.now }
     {
         is_held_among(&self.rooms, &self.holders, id)
+    }
+
+    /// Its rooms, in the order in which they were hosted.
+    pub fn rooms(&self) -> &[Room]
+        ensures { AreRoomsOf self.now.journal result.now }
+    {
+        &self.rooms
     }
 
     /// The room with this id, where it is hosted.

@@ -3,21 +3,21 @@ use Rattle.std.proofs.Common.{◌≡◌, ℕ, Bool, true, false, ◌&&◌, ◌||
 use Rattle.std.specs.Prelude.{IfSome, is_some}
 use Rattle.std.specs.List.{All}
 use Rattle.std.specs.Ordering.{is_eq}
-use Rattle.mx_auth.specs.Rules.{Key}
+use Rattle.mx_pdu.specs.StateKeys.{Key}
 use Rattle.mx_graph.specs.Record.{Row, is_in}
 use Rattle.mx_graph.specs.Graph.{IsSound, auth_chain}
 use Rattle.mx_graph.proofs.Members.{In}
 use Rattle.mx_graph.proofs.Closure.{is_in-from, is_in-to, or_left}
-use Rattle.mx_orders.specs.StateMap.{State, key_cmp, entry, events_of}
+use Rattle.mx_graph.specs.StateMap.{State, key_cmp, entry, events_of}
 use Rattle.mx_orders.proofs.Members.{in_map, in_map-from}
 use Rattle.mx_state_res.specs.ChainDifference.{cites}
 use Rattle.mx_state_res.specs.KeptResolutions.{AllCiteReached, CitesReached, IsKeptAside, events_checked}
 use Rattle.mx_state_res.specs.LaterResolution.{CitesWithin, IsAside, is_reached}
-use Rattle.mx_state_res.specs.Numbered.{AllAlike}
+use Rattle.mx_states.specs.Numbered.{AllAlike}
 use Rattle.mx_state_res.specs.declared.kept_resolutions.KeptResolution.{KeptResolution}
 use Rattle.mx_state_res.proofs.ChainLemmas.{chain-least}
 use Rattle.mx_state_res.proofs.EqualStateLemmas.{find-own}
-use Rattle.mx_state_res.proofs.KeyLemmas.{Sorted, key_cmp-itself}
+use Rattle.mx_states.proofs.KeyLemmas.{Sorted, key_cmp-itself}
 use Rattle.mx_state_res.proofs.KeptResolutionLemmas.{if-some}
 use Rattle.mx_state_res.proofs.NumberedConflictLemmas.{find-in}
 use Rattle.mx_state_res.proofs.SetLemmas.{all-at}

@@ -5,7 +5,7 @@ use Rattle.mx_graph.specs.Record.{Row, is_in, places}
 use Rattle.mx_graph.specs.Graph.{auth_chain, IsClosed, IsLeastClosed, IsSound}
 use Rattle.mx_graph.proofs.Closure.{or_cases, or_left, or_right, same_tests, same_closed}
 use Rattle.mx_graph.proofs.ReachedLemmas.{closures-least}
-use Rattle.mx_orders.specs.StateMap.{State, events_of}
+use Rattle.mx_graph.specs.StateMap.{State, events_of}
 use Rattle.mx_state_res.specs.Resolution.{auth_difference}
 use Rattle.mx_state_res.specs.ChainDifference.{chain_difference, cites}
 use Rattle.mx_state_res.proofs.TestLemmas.{and-true, and-false}

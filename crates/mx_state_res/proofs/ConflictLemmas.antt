@@ -3,16 +3,17 @@ use Rattle.std.proofs.Common.{◌≡◌, ℕ, ◌<◌, Bool, true, false, not, �
 use Rattle.std.proofs.lemmas.List.{map-append}
 use Rattle.std.specs.List.{All, list_any, list_all}
 use Rattle.std.specs.declared.alloc.Global.{Global}
-use Rattle.mx_auth.specs.Rules.{Key}
+use Rattle.mx_pdu.specs.StateKeys.{Key}
 use Rattle.mx_graph.specs.Record.{Row, is_in, event, auth_events}
 use Rattle.mx_graph.specs.Graph.{auth_chain}
 use Rattle.mx_graph.specs.Edges.{Rises}
 use Rattle.mx_graph.proofs.Members.{in_filter-parts, in_flat_map-from}
 use Rattle.mx_graph.proofs.Closure.{or_cases, is_in-from, is_in-to, reached-below}
-use Rattle.mx_orders.specs.StateMap.{State, events_of}
+use Rattle.mx_graph.specs.StateMap.{State, events_of}
 use Rattle.mx_orders.proofs.Members.{in_map-from}
 use Rattle.mx_state_res.specs.Agreed.{IsAgreed}
-use Rattle.mx_state_res.specs.Resolution.{has_entry, in_every, conflicted, auth_difference, full_conflicted}
+use Rattle.mx_states.specs.Entries.{has_entry}
+use Rattle.mx_state_res.specs.Resolution.{in_every, conflicted, auth_difference, full_conflicted}
 use Rattle.mx_state_res.proofs.SetLemmas.{shown, is_in-append, is_in-filter, all-at, all-of, list_any-map, list_all-map, flat_map-map, map-map, rises-filter, rising-is, where-known, where-is}
 
 -- ---- conflicted events

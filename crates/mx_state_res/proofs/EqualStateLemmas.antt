@@ -4,17 +4,18 @@ use Rattle.std.specs.List.{All, list_any, list_all}
 use Rattle.std.specs.declared.cmp.Ordering.TheVariants.{Greater}
 use Rattle.std.specs.FinMap.Entries.{find, put, below_all}
 use Rattle.mx_redact.specs.Fields.{is_some_and}
-use Rattle.mx_auth.specs.Rules.{Key}
+use Rattle.mx_pdu.specs.StateKeys.{Key}
 use Rattle.mx_auth.specs.declared.versions.RoomVersion.{RoomVersion}
 use Rattle.mx_graph.specs.Record.{Row, is_in, places, events_where}
 use Rattle.mx_graph.specs.Graph.{auth_chain}
 use Rattle.mx_graph.proofs.Members.{In}
-use Rattle.mx_orders.specs.StateMap.{State, key_cmp, entry, events_of}
+use Rattle.mx_graph.specs.StateMap.{State, key_cmp, entry, events_of}
 use Rattle.mx_orders.specs.PowerOrder.{power_order}
 use Rattle.mx_orders.specs.Mainline.{power_key, mainline, mainline_order}
-use Rattle.mx_state_res.specs.Resolution.{has_entry, in_every, unconflicted, conflicted, auth_difference, full_conflicted, power_events, iterative_auth_checks, overwritten, resolve}
-use Rattle.mx_state_res.proofs.KeyLemmas.{Sorted, first, second, less, key_cmp-itself, key_cmp-greater}
-use Rattle.mx_state_res.proofs.PlaceLemmas.{find-equal, find-greater, put-equal, put-greater}
+use Rattle.mx_states.specs.Entries.{has_entry, overwritten}
+use Rattle.mx_state_res.specs.Resolution.{in_every, unconflicted, conflicted, auth_difference, full_conflicted, power_events, iterative_auth_checks, resolve}
+use Rattle.mx_states.proofs.KeyLemmas.{Sorted, first, second, less, key_cmp-itself, key_cmp-greater}
+use Rattle.mx_states.proofs.PlaceLemmas.{find-equal, find-greater, put-equal, put-greater}
 
 -- ---- the entries of a state
 

@@ -3,26 +3,28 @@ use Rattle.std.proofs.Common.{◌≡◌, ◌<◌, ℕ, true, List, [], ◌∷◌
 use Rattle.std.specs.List.{All}
 use Rattle.std.specs.Prelude.{is_some}
 use Rattle.std.proofs.lemmas.List.Elements.{All-cons, All-nil}
-use Rattle.mx_auth.specs.Rules.{Key}
+use Rattle.mx_pdu.specs.StateKeys.{Key}
 use Rattle.mx_auth.specs.declared.versions.RoomVersion.{RoomVersion}
 use Rattle.mx_graph.specs.Record.{Row, is_in}
 use Rattle.mx_graph.proofs.Closure.{is_in-from, is_in-to}
 use Rattle.mx_graph.proofs.Members.{In}
-use Rattle.mx_orders.specs.StateMap.{State, entry}
+use Rattle.mx_graph.specs.StateMap.{State, entry}
 use Rattle.mx_orders.specs.Mainline.{mainline, mainline_order, power_key}
-use Rattle.mx_state_res.specs.Numbered.{AreKnown, IsDiffering, state_at, without}
+use Rattle.mx_state_res.specs.Numbered.{AreKnown}
+use Rattle.mx_states.specs.Numbered.{IsDiffering, state_at, without}
 use Rattle.mx_state_res.specs.Resolution.{full_conflicted, power_events, resolve, unconflicted}
 use Rattle.mx_state_res.specs.LaterResolution.{agreed_line, checking_order}
 use Rattle.mx_state_res.specs.KeptResolutions.{AreChecked, AreSettled, DifferAtKeys, IsKept, events_checked, is_settled, states_of}
+use Rattle.mx_state_res.specs.TouchedKeys.{HasKeysOf}
 use Rattle.mx_state_res.specs.declared.kept_resolutions.KeptResolution.{KeptResolution}
 use Rattle.mx_state_res.specs.declared.kept_resolutions.checked_events.CheckedEvent.{CheckedEvent}
-use Rattle.mx_state_res.proofs.KeyLemmas.{Sorted}
+use Rattle.mx_states.proofs.KeyLemmas.{Sorted}
 use Rattle.mx_state_res.proofs.KeptGrowthLemmas.{each-known}
 use Rattle.mx_state_res.proofs.LaterOrderLemmas.{distinct-full, order-members}
 use Rattle.mx_state_res.proofs.NumberedConflictLemmas.{at-sorted, unconflicted-is}
 use Rattle.mx_state_res.proofs.SetLemmas.{all-at}
 
-all-events : (P : ℕ → Type 0) (cs : List CheckedEvent) → ((p : ℕ) → In p (events_checked cs) → P p) → All (λ (c : CheckedEvent). P c.event) cs
+pub all-events : (P : ℕ → Type 0) (cs : List CheckedEvent) → ((p : ℕ) → In p (events_checked cs) → P p) → All (λ (c : CheckedEvent). P c.event) cs
 all-events P [] h = All-nil (λ (c : CheckedEvent). P c.event)
 all-events P (c ∷ cs) h = All-cons (λ (d : CheckedEvent). P d.event) c cs (h c.event (inl refl)) (all-events P cs (λ p m. h p (inr m)))
 
@@ -43,7 +45,7 @@ module _ (v : RoomVersion) (rows : List Row) (states : List State) (base : ℕ) 
 
   module _ (kept : KeptResolution) (items : kept.numbers.items ≡ numbers) (same : kept.differing ≡ d)
       (order : events_checked kept.order.items ≡ mainline_order rows (mainline rows (entry (without d (state_at states base)) power_key)) full)
-      (checked : AreChecked v rows (without d (state_at states base)) kept.order.items) (settled : kept.are_settled ≡ true → All (λ p. is_settled rows d (state_at states base) p ≡ true) full) (lower : kept.resolved < length states) (resolved : state_at states kept.resolved ≡ resolve v rows ss) where
+      (checked : AreChecked v rows (without d (state_at states base)) kept.order.items) (settled : kept.are_settled ≡ true → All (λ p. is_settled rows d (state_at states base) p ≡ true) full) (touched : All (HasKeysOf v rows kept.touched) kept.order.items) (lower : kept.resolved < length states) (resolved : state_at states kept.resolved ≡ resolve v rows ss) where
     order-is : events_checked kept.order.items ≡ checking_order rows ss
     order-is = order ∙ (λ i. mainline_order rows (mainline rows (entry (sym agreed-is i) power_key)) (is_full i))
 
@@ -78,6 +80,7 @@ module _ (v : RoomVersion) (rows : List Row) (states : List State) (base : ℕ) 
       known = subst (AreKnown rows) states-are (each-known rows states numbers all_known below);
       at_keys = subst (λ ts. DifferAtKeys rows ts (state_at states (slice_index_or kept.numbers.items 0 0)) kept) states-are (subst (λ b. DifferAtKeys rows ss b kept) first-is at-keys);
       checked = subst (λ ts. AreChecked v rows (unconflicted ts) kept.order.items) states-are (subst (λ t. AreChecked v rows t kept.order.items) (sym agreed-is) checked);
+      touched = touched;
       below = lower;
       resolved = resolved ∙ ap (resolve v rows) states-are;
     }

@@ -7,24 +7,29 @@ use Rattle.std.proofs.lemmas.List.{get_or_append_left, length-append, map-append
 use Rattle.std.proofs.lemmas.List.Elements.{All-append, All-cons, All-get_or, All-map, All-nil, All-tail}
 use Rattle.mx_redact.specs.Fields.{is_some_and}
 use Rattle.mx_pdu.specs.Event.{is_state}
-use Rattle.mx_auth.specs.Rules.{Key, key_of, rules}
+use Rattle.mx_pdu.specs.StateKeys.{Key}
+use Rattle.mx_auth.specs.Rules.{key_of, rules}
 use Rattle.mx_auth.specs.declared.versions.RoomVersion.{RoomVersion}
 use Rattle.mx_graph.specs.Record.{Row, event}
 use Rattle.mx_graph.specs.Graph.{IsSound}
 use Rattle.mx_graph.proofs.LongerRecordLemmas.{IsLonger, event-longer}
-use Rattle.mx_orders.specs.StateMap.{State, entry, key_cmp}
+use Rattle.mx_graph.specs.StateMap.{State, entry, key_cmp}
 use Rattle.mx_orders.specs.Mainline.{mainline_cmp, mainline_order, power_key, put_in_order}
 use Rattle.mx_orders.proofs.LongerRecordLemmas.{mainline-longer, mainline_order-longer}
-use Rattle.mx_state_res.specs.Numbered.{AreKnown, state_at}
-use Rattle.mx_state_res.specs.Resolution.{after_check, full_conflicted, has_entry, is_allowed, iterative_auth_checks, power_events, resolve, unconflicted}
+use Rattle.mx_state_res.specs.Numbered.{AreKnown}
+use Rattle.mx_states.specs.Numbered.{state_at}
+use Rattle.mx_state_res.specs.Resolution.{after_check, full_conflicted, is_allowed, iterative_auth_checks, power_events, resolve, unconflicted}
+use Rattle.mx_states.specs.Entries.{has_entry}
 use Rattle.mx_state_res.specs.LaterResolution.{IsOneMore, agreed_line, checking_order, is_put}
 use Rattle.mx_state_res.specs.KeptResolutions.{AreChecked, DifferAtKeys, IsKept, IsOutcome, events_checked, first_of, is_put_by, made_by, states_of}
 use Rattle.mx_state_res.specs.declared.kept_resolutions.KeptResolution.{KeptResolution}
 use Rattle.mx_state_res.specs.declared.kept_resolutions.checked_events.CheckedEvent.{CheckedEvent}
 use Rattle.mx_state_res.specs.declared.kept_resolutions.outcomes.Outcome.{Outcome}
-use Rattle.mx_state_res.proofs.KnownLemmas.{find-known}
+use Rattle.mx_states.proofs.KnownLemmas.{find-known}
 use Rattle.mx_state_res.proofs.LongerRecordLemmas.{IsKnown, after_check-known, after_check-longer, full-events, full-longer, judged_in-longer, power_events-longer, resolve-in_longer, unconflicted-known}
 use Rattle.mx_state_res.proofs.OneMoreLemmas.{checked-more, differ-more, resolved-more}
+use Rattle.mx_state_res.proofs.TouchedLemmas.{keys-longer, keys-more}
+use Rattle.mx_state_res.specs.TouchedKeys.{HasKeysOf}
 
 -- ---- states that were added
 
@@ -61,6 +66,7 @@ kept-grown v rows old more new kept are h =
       known = subst (AreKnown rows) ss h.known;
       at_keys = subst (λ ts. DifferAtKeys rows ts (first_of new kept) kept) ss (subst (λ b. DifferAtKeys rows (states_of old kept) b kept) base h.at_keys);
       checked = subst (λ ts. AreChecked v rows (unconflicted ts) kept.order.items) ss h.checked;
+      touched = h.touched;
       below = grown-below old more new kept.resolved are h.below;
       resolved = grown-at old more new kept.resolved are h.below ∙ h.resolved ∙ ap (resolve v rows) ss;
     }
@@ -76,9 +82,10 @@ pub kept-one-more : (v : RoomVersion) (rows : List Row) → IsSound rows → (ol
     → put_in_order (mainline_cmp rows (agreed_line rows (states_of old kept))) x (events_checked kept.order.items) ≡ take place (events_checked kept.order.items) ++ (x ∷ drop place (events_checked kept.order.items))
     → (o : Outcome) → IsOutcome v rows key x (iterative_auth_checks v rows (unconflicted (states_of old kept)) (take place (events_checked kept.order.items))) (drop place (events_checked kept.order.items)) o
     → (c : CheckedEvent) → c.event ≡ x → c.is_put ≡ is_put_by o → next.numbers.items ≡ kept.numbers.items ++ newest ∷ [] → next.differing ≡ put key_cmp key x kept.differing → next.are_settled ≡ kept.are_settled → next.order.items ≡ take place kept.order.items ++ c ∷ drop place kept.order.items
+    → ((d : CheckedEvent) → HasKeysOf v rows kept.touched d → HasKeysOf v rows next.touched d) → HasKeysOf v rows next.touched c
     → new ≡ old ++ more → next.resolved < length new → state_at new next.resolved ≡ made_by o key x (state_at old kept.resolved)
     → IsKept v rows new next
-kept-one-more v rows sound old more new kept next h newest key x s known below one place placed o outcome c event flag numbers same settled items are l resolved =
+kept-one-more v rows sound old more new kept next h newest key x s known below one place placed o outcome c event flag numbers same settled items stay keys are l resolved =
     record {
       numbers = subst (All (λ n. n < length new)) (sym numbers) (all-grown old more new are (kept.numbers.items ++ newest ∷ []) all_below);
       some = (let e : length next.numbers.items ≡ length (kept.numbers.items ++ newest ∷ []) = ap length numbers in let f : length (kept.numbers.items ++ newest ∷ []) ≡ length kept.numbers.items + 1 = length-append kept.numbers.items (newest ∷ []) in omega arith);
@@ -87,6 +94,7 @@ kept-one-more v rows sound old more new kept next h newest key x s known below o
           (differ-more rows sound v (states_of old kept) (first_of old kept) kept h.at_keys h.checked s (state_at old newest) key x one place placed o outcome c event flag next same settled items));
       checked = subst (λ ts. AreChecked v rows (unconflicted ts) next.order.items) (sym ss) (subst (AreChecked v rows (unconflicted (states_of old kept ++ state_at old newest ∷ []))) (sym items)
           (checked-more rows sound v (states_of old kept) (first_of old kept) kept h.at_keys h.checked s (state_at old newest) key x one place placed o outcome c event flag));
+      touched = subst (All (HasKeysOf v rows next.touched)) (sym items) (keys-more v rows kept.touched next.touched kept.order.items place c h.touched stay keys);
       below = l;
       resolved = resolved ∙ ap (made_by o key x) h.resolved
           ∙ sym (resolved-more rows sound v (states_of old kept) (first_of old kept) kept h.at_keys h.checked s (state_at old newest) key x one place placed o outcome) ∙ ap (resolve v rows) (sym ss);
@@ -148,6 +156,7 @@ module _ (v : RoomVersion) (rows longer : List Row) (l : IsLonger rows longer) w
           settled = λ e k d m. ap (λ q. is_some_and (λ key. is_some (entry kept.differing key) || has_entry (key, (get_or kept.order.items k d).event) (first_of states kept)) (key_of q)) (event-longer rows longer l (get_or kept.order.items k d).event (h.at_keys.known k d m)) ∙ h.at_keys.settled e k d m;
           no_powers = ap (power_events longer) (full-longer rows longer l ss known) ∙ power_events-longer rows longer l (full_conflicted rows ss) (full-events rows ss) ∙ h.at_keys.no_powers;
         };
+        touched = keys-longer v rows longer l kept.touched kept.order.items h.at_keys.known h.touched;
         checked = checked-longer kept.order.items (unconflicted ss) (unconflicted-known rows ss known) h.at_keys.known h.checked;
         below = h.below;
         resolved = h.resolved ∙ sym (resolve-in_longer rows longer l v ss known);

@@ -14,20 +14,22 @@ use Rattle.std.proofs.lemmas.List.{map-append}
 use Rattle.std.proofs.lemmas.List.Sums.{fold-append}
 use Rattle.mx_redact.specs.Fields.{Event, is_some_and, kind}
 use Rattle.mx_pdu.specs.Event.{state_key_of}
-use Rattle.mx_auth.specs.Rules.{Key, key_of, same_key}
+use Rattle.mx_pdu.specs.StateKeys.{Key}
+use Rattle.mx_auth.specs.Rules.{key_of, same_key}
 use Rattle.mx_auth.specs.declared.versions.RoomVersion.{RoomVersion}
 use Rattle.mx_graph.specs.Record.{Row, event, is_in}
 use Rattle.mx_graph.proofs.Members.{In}
-use Rattle.mx_orders.specs.StateMap.{State, entry, key_cmp, with_event}
+use Rattle.mx_graph.specs.StateMap.{State, entry, key_cmp}
+use Rattle.mx_orders.specs.StateMap.{with_event}
 use Rattle.mx_orders.specs.Mainline.{mainline_cmp, mainline_order, put_in_order}
-use Rattle.mx_state_res.specs.Numbered.{state_at}
+use Rattle.mx_states.specs.Numbered.{state_at}
 use Rattle.mx_state_res.specs.Resolution.{after_check, iterative_auth_checks}
 use Rattle.mx_state_res.specs.LaterResolution.{is_put, stays}
 use Rattle.mx_state_res.specs.KeptResolutions.{AreChecked, IsInOrder, events_checked}
 use Rattle.mx_state_res.specs.declared.kept_resolutions.checked_events.CheckedEvent.{CheckedEvent}
-use Rattle.mx_state_res.proofs.KeyLemmas.{Sorted, key_cmp-itself}
-use Rattle.mx_state_res.proofs.KnownLemmas.{find-known}
-use Rattle.mx_state_res.proofs.EntryLemmas.{equal-keys, same-states}
+use Rattle.mx_states.proofs.KeyLemmas.{Sorted, key_cmp-itself}
+use Rattle.mx_states.proofs.KnownLemmas.{find-known}
+use Rattle.mx_states.proofs.EntryLemmas.{equal-keys, same-states}
 use Rattle.mx_state_res.proofs.LaterStateLemmas.{put-elsewhere, put-there, sorted-put}
 use Rattle.mx_state_res.proofs.LaterCheckLemmas.{put-beside, sorted-with}
 use Rattle.mx_state_res.proofs.TestLemmas.{and-first, and-make, and-second}

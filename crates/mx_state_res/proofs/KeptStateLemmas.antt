@@ -6,18 +6,20 @@ use Rattle.std.specs.Ordering.{is_eq}
 use Rattle.std.specs.FinMap.Entries.{put}
 use Rattle.std.proofs.lemmas.List.Elements.{All-tail}
 use Rattle.mx_redact.specs.Fields.{is_some_and}
-use Rattle.mx_auth.specs.Rules.{Key, key_of}
+use Rattle.mx_pdu.specs.StateKeys.{Key}
+use Rattle.mx_auth.specs.Rules.{key_of}
 use Rattle.mx_auth.specs.declared.versions.RoomVersion.{RoomVersion}
 use Rattle.mx_graph.specs.Record.{Row, event}
-use Rattle.mx_orders.specs.StateMap.{State, entry, key_cmp}
+use Rattle.mx_graph.specs.StateMap.{State, entry, key_cmp}
 use Rattle.mx_state_res.specs.KeptResolutions.{AreSettled, DifferAtKeys, events_checked, is_settled}
 use Rattle.mx_state_res.specs.LaterResolution.{is_put}
-use Rattle.mx_state_res.specs.Numbered.{without}
-use Rattle.mx_state_res.specs.Resolution.{after_check, has_entry, iterative_auth_checks, overwritten, resolve, unconflicted}
+use Rattle.mx_states.specs.Numbered.{without}
+use Rattle.mx_state_res.specs.Resolution.{after_check, iterative_auth_checks, resolve, unconflicted}
+use Rattle.mx_states.specs.Entries.{has_entry, overwritten}
 use Rattle.mx_state_res.specs.declared.kept_resolutions.KeptResolution.{KeptResolution}
 use Rattle.mx_state_res.specs.declared.kept_resolutions.checked_events.CheckedEvent.{CheckedEvent}
-use Rattle.mx_state_res.proofs.EntryLemmas.{entry-overwritten, entry-without, equal-keys, same-states, sorted-overwritten}
-use Rattle.mx_state_res.proofs.KeyLemmas.{Sorted}
+use Rattle.mx_states.proofs.EntryLemmas.{entry-overwritten, entry-without, equal-keys, same-states, sorted-overwritten}
+use Rattle.mx_states.proofs.KeyLemmas.{Sorted}
 use Rattle.mx_state_res.proofs.LaterCheckLemmas.{sorted-checks}
 use Rattle.mx_state_res.proofs.LaterResolutionLemmas.{resolve-plainly}
 use Rattle.mx_state_res.proofs.LaterStateLemmas.{put-elsewhere, put-there}

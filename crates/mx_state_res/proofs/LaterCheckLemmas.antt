@@ -4,14 +4,16 @@ use Rattle.std.specs.Prelude.{option_map, unwrap_or, if◌then◌else◌}
 use Rattle.std.specs.Ordering.{is_eq, eq_by_cmp}
 use Rattle.std.specs.FinMap.Entries.{put}
 use Rattle.mx_redact.specs.Fields.{is_some_and}
-use Rattle.mx_auth.specs.Rules.{Key, key_of}
+use Rattle.mx_pdu.specs.StateKeys.{Key}
+use Rattle.mx_auth.specs.Rules.{key_of}
 use Rattle.mx_auth.specs.declared.versions.RoomVersion.{RoomVersion}
 use Rattle.mx_graph.specs.Record.{Row, event}
-use Rattle.mx_orders.specs.StateMap.{State, key_cmp, entry, with_event}
+use Rattle.mx_graph.specs.StateMap.{State, key_cmp, entry}
+use Rattle.mx_orders.specs.StateMap.{with_event}
 use Rattle.mx_state_res.specs.Resolution.{after_check, iterative_auth_checks}
 use Rattle.mx_state_res.specs.LaterResolution.{is_put, stays}
-use Rattle.mx_state_res.proofs.KeyLemmas.{Sorted, key_cmp-itself}
-use Rattle.mx_state_res.proofs.EntryLemmas.{entry-put, equal-keys, same-states}
+use Rattle.mx_states.proofs.KeyLemmas.{Sorted, key_cmp-itself}
+use Rattle.mx_states.proofs.EntryLemmas.{entry-put, equal-keys, same-states}
 use Rattle.mx_state_res.proofs.LaterStateLemmas.{sorted-put}
 
 -- ---- two events put

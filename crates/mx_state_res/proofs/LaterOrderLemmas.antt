@@ -14,7 +14,7 @@ use Rattle.mx_orders.proofs.LeastOrder.{TellsApart}
 use Rattle.mx_orders.proofs.Permutations.{Permutes}
 use Rattle.mx_orders.proofs.PlaceLemmas.{mainline_cmp-tells, mainline_cmp-total}
 use Rattle.mx_orders.proofs.SortedLaws.{Below, Rising, sorted-rising, sorted-permutes}
-use Rattle.mx_orders.specs.StateMap.{State}
+use Rattle.mx_graph.specs.StateMap.{State}
 use Rattle.mx_state_res.specs.Resolution.{conflicted, auth_difference, full_conflicted}
 
 -- ---- sets of events have each event once

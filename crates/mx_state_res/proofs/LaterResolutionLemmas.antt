@@ -5,22 +5,25 @@ use Rattle.std.specs.Option.{option_or}
 use Rattle.std.specs.Ordering.{is_eq}
 use Rattle.std.specs.FinMap.Entries.{put}
 use Rattle.std.proofs.lemmas.List.Sums.{fold-append}
-use Rattle.mx_auth.specs.Rules.{Key, key_of}
+use Rattle.mx_pdu.specs.StateKeys.{Key}
+use Rattle.mx_auth.specs.Rules.{key_of}
 use Rattle.mx_auth.specs.declared.versions.RoomVersion.{RoomVersion}
 use Rattle.mx_graph.specs.Record.{Row, event, is_in, events_where}
 use Rattle.mx_graph.specs.Graph.{IsSound, auth_chain, reached_within}
 use Rattle.mx_graph.proofs.Members.{In, in_filter}
 use Rattle.mx_graph.proofs.Closure.{or_cases, or_left, is_in-from, is_in-to}
-use Rattle.mx_orders.specs.StateMap.{State, key_cmp, entry, with_event}
+use Rattle.mx_graph.specs.StateMap.{State, key_cmp, entry}
+use Rattle.mx_orders.specs.StateMap.{with_event}
 use Rattle.mx_orders.specs.PowerOrder.{power_order}
 use Rattle.mx_orders.specs.Mainline.{power_key, mainline, mainline_cmp, mainline_order, put_in_order}
 use Rattle.mx_state_res.specs.ChainDifference.{cites}
 use Rattle.mx_state_res.specs.Numbered.{checked}
-use Rattle.mx_state_res.specs.Resolution.{unconflicted, full_conflicted, is_power_event, power_events, after_check, iterative_auth_checks, overwritten, resolve}
+use Rattle.mx_state_res.specs.Resolution.{unconflicted, full_conflicted, is_power_event, power_events, after_check, iterative_auth_checks, resolve}
+use Rattle.mx_states.specs.Entries.{overwritten}
 use Rattle.mx_state_res.specs.LaterResolution.{agreed_line, checking_order, is_put, stays, resolution_with, IsOneMore, ResolvesFromTheOneBefore}
-use Rattle.mx_state_res.proofs.KeyLemmas.{Sorted}
+use Rattle.mx_states.proofs.KeyLemmas.{Sorted}
 use Rattle.mx_state_res.proofs.SetLemmas.{all-at}
-use Rattle.mx_state_res.proofs.EntryLemmas.{entry-put, entry-overwritten, equal-keys, same-states, sorted-overwritten}
+use Rattle.mx_states.proofs.EntryLemmas.{entry-put, entry-overwritten, equal-keys, same-states, sorted-overwritten}
 use Rattle.mx_state_res.proofs.EqualStateLemmas.{no_events}
 use Rattle.mx_state_res.proofs.ConflictLemmas.{full-known}
 use Rattle.mx_state_res.proofs.SameMembersLemmas.{sorted-unconflicted}

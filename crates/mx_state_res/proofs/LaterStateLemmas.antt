@@ -5,22 +5,23 @@ use Rattle.std.specs.List.{list_any, list_all}
 use Rattle.std.specs.Ordering.{is_eq}
 use Rattle.std.specs.FinMap.Entries.{put, is_sorted-put}
 use Rattle.mx_redact.specs.Fields.{is_some_and}
-use Rattle.mx_auth.specs.Rules.{Key}
+use Rattle.mx_pdu.specs.StateKeys.{Key}
 use Rattle.mx_graph.specs.Record.{Row, is_in, places}
 use Rattle.mx_graph.specs.Graph.{IsClosed, IsSound, auth_chain}
 use Rattle.mx_graph.proofs.Members.{In, in_filter, in_filter-parts, in_flat_map, in_flat_map-from}
 use Rattle.mx_graph.proofs.Closure.{or_cases, or_left, or_right, is_in-from, is_in-to, in_places, same_tests}
-use Rattle.mx_orders.specs.StateMap.{State, key_cmp, entry, events_of}
+use Rattle.mx_graph.specs.StateMap.{State, key_cmp, entry, events_of}
 use Rattle.mx_orders.proofs.Members.{in_map, in_map-from}
 use Rattle.mx_state_res.specs.ChainDifference.{cites}
 use Rattle.mx_state_res.specs.LaterResolution.{CitesWithin, IsAside, is_reached}
-use Rattle.mx_state_res.specs.Numbered.{AllAlike}
-use Rattle.mx_state_res.specs.Resolution.{has_entry, in_every, unconflicted, conflicted, auth_difference, full_conflicted}
+use Rattle.mx_states.specs.Numbered.{AllAlike}
+use Rattle.mx_states.specs.Entries.{has_entry}
+use Rattle.mx_state_res.specs.Resolution.{in_every, unconflicted, conflicted, auth_difference, full_conflicted}
 use Rattle.mx_state_res.proofs.TestLemmas.{and-true, and-false, one-answer}
-use Rattle.mx_state_res.proofs.KeyLemmas.{Sorted, key_cmp-total, key_cmp-itself}
+use Rattle.mx_states.proofs.KeyLemmas.{Sorted, key_cmp-total, key_cmp-itself}
 use Rattle.mx_state_res.proofs.SetLemmas.{all-of, is_in-filter}
-use Rattle.mx_state_res.proofs.EntryLemmas.{entry-put, equal-keys, same-states}
-use Rattle.mx_state_res.proofs.DifferingLemmas.{has-found}
+use Rattle.mx_states.proofs.EntryLemmas.{entry-put, equal-keys, same-states}
+use Rattle.mx_states.proofs.DifferingLemmas.{has-found}
 use Rattle.mx_state_res.proofs.EqualStateLemmas.{find-own}
 use Rattle.mx_state_res.proofs.NumberedConflictLemmas.{agreed-all, find-in}
 use Rattle.mx_state_res.proofs.SharedLemmas.{every-at}

@@ -5,14 +5,16 @@ use Rattle.std.specs.Option.{option_or}
 use Rattle.std.specs.List.{All, list_any, list_all}
 use Rattle.std.specs.FinMap.Entries.{put}
 use Rattle.mx_pdu.specs.Event.{is_state}
-use Rattle.mx_auth.specs.Rules.{Key, key_of, same_key, needed_keys, rules}
+use Rattle.mx_pdu.specs.StateKeys.{Key}
+use Rattle.mx_auth.specs.Rules.{key_of, same_key, needed_keys, rules}
 use Rattle.mx_auth.specs.declared.versions.RoomVersion.{RoomVersion}
 use Rattle.mx_graph.specs.Record.{Row, row, event, is_in, events_where}
 use Rattle.mx_graph.specs.Graph.{IsSound, auth_chain}
 use Rattle.mx_graph.proofs.Closure.{is_in-to, or_cases, same_tests}
 use Rattle.mx_graph.proofs.Members.{In, in_filter-parts, in_flat_map-from}
 use Rattle.mx_graph.proofs.LongerRecordLemmas.{AreEvents, IsLonger, longer-push, longer-prefix, event-longer, where-longer, auth_chain-known, auth_chain-longer}
-use Rattle.mx_orders.specs.StateMap.{State, key_cmp, entry, events_of, with_event, view_by, auth_event_at}
+use Rattle.mx_graph.specs.StateMap.{State, key_cmp, entry, events_of}
+use Rattle.mx_orders.specs.StateMap.{with_event, view_by, auth_event_at}
 use Rattle.mx_orders.specs.PowerOrder.{power_order}
 use Rattle.mx_orders.specs.Mainline.{power_key, mainline, mainline_order}
 use Rattle.mx_orders.proofs.Members.{in_map-from}
@@ -20,7 +22,7 @@ use Rattle.mx_orders.proofs.LongerRecordLemmas.{IsEvent, view_by-longer, auth_ev
 use Rattle.mx_state_res.specs.Numbered.{AreKnown}
 use Rattle.mx_state_res.specs.Resolution.{in_every, unconflicted, conflicted, auth_difference, full_conflicted, usable_auth_event, judged_in, is_allowed, after_check, iterative_auth_checks, is_power_event, power_events, resolve}
 use Rattle.mx_state_res.proofs.ConflictLemmas.{full-known}
-use Rattle.mx_state_res.proofs.KnownLemmas.{find-known, put-known}
+use Rattle.mx_states.proofs.KnownLemmas.{find-known, put-known}
 use Rattle.mx_state_res.proofs.OrderLemmas.{checked-is, overwritten-known, resolve-is}
 use Rattle.mx_state_res.proofs.SetLemmas.{all-at, all-of, where-known}
 use Rattle.mx_state_res.proofs.TestLemmas.{and-first}

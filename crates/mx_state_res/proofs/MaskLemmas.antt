@@ -12,7 +12,8 @@ use Rattle.std.specs.declared.alloc.Global.{Global}
 use Rattle.mx_graph.proofs.Closure.{or_left, is_in-to}
 use Rattle.mx_state_res.proofs.SetLemmas.{all-at}
 use Rattle.mx_state_res.specs.Masks.{Masks, has, mask_in, waits, is_there, lacks, AreKept, AreLow, IsTaken, AreSettled}
-use Rattle.mx_state_res.proofs.TestLemmas.{and-first, and-second, not-false}
+use Rattle.mx_state_res.specs.EventMasks.{AreWide}
+use Rattle.mx_state_res.proofs.TestLemmas.{and-first, and-second, not-false, or-false}
 
 pub tied : (p q : ℕ) → is_eq (nat_cmp p q) ≡ (p == q)
 tied p q = grind (arith, nat_tests)
@@ -23,7 +24,7 @@ full-has [] j e l = absurd (omega arith)
 full-has (b ∷ bs) zero e l = and-first b _ e
 full-has (b ∷ bs) (suc j) e l = full-has bs j (and-second b _ e) (omega arith)
 
-has_none : (j : ℕ) → has [] j ≡ true → ⊥
+pub has_none : (j : ℕ) → has [] j ≡ true → ⊥
 has_none j e = cc (sym (get_or_past {X = Bool} [] j false (omega arith)) ∙ e)
 
 -- where each row waits for all states, what waits for one waits for all
@@ -87,50 +88,46 @@ module _ (states : ℕ) (old new : Masks) (before after : BTreeSet ℕ) (k : ℕ
 
 -- ---- a row is marked
 
-module _ (states : ℕ) (old new : Masks) (before after : BTreeSet ℕ) (k : ℕ) (mask : List Bool) (joined : Vec Bool Global) (kept : AreKept states old before)
-    (wide : length joined.items ≡ states) (each : (i : ℕ) → has joined.items i ≡ (waits old k i || has mask i))
-    (put : (q : ℕ) → get nat_cmp new q ≡ cond (is_eq (nat_cmp k q)) (Some joined) (get nat_cmp old q)) where
-  pub marked-there : (p : ℕ) → is_there new p ≡ (is_there old p || (k == p))
-  marked-there p = ap is_some (put p ∙ ap (λ b. cond b (Some joined) (get nat_cmp old p)) (tied k p)) ∙ by (k == p) (is_there old p)
+-- what is put into a map is put into one that is the same
+pub put-first : (k : ℕ) (joined : Vec Bool Global) (first old new : Masks) → old ≡ first → ((q : ℕ) → get nat_cmp new q ≡ cond (is_eq (nat_cmp k q)) (Some joined) (get nat_cmp old q))
+    → (q : ℕ) → get nat_cmp new q ≡ cond (is_eq (nat_cmp k q)) (Some joined) (get nat_cmp first q)
+put-first k joined first old new same put q = put q ∙ ap (λ m. cond (is_eq (nat_cmp k q)) (Some joined) (get nat_cmp m q)) same
+
+-- a mask is put at a row
+module _ (old new : Masks) (k : ℕ) (joined : Vec Bool Global) (put : (q : ℕ) → get nat_cmp new q ≡ cond (is_eq (nat_cmp k q)) (Some joined) (get nat_cmp old q)) where
+  put_at : (q : ℕ) (b : Bool) → is_eq (nat_cmp k q) ≡ b → get nat_cmp new q ≡ cond b (Some joined) (get nat_cmp old q)
+  put_at q b f = put q ∙ ap (λ b. cond b (Some joined) (get nat_cmp old q)) f
+
+  pub put-wide : (states : ℕ) → AreWide states old → length joined.items ≡ states → AreWide states new
+  put-wide states wide long q m e = by (is_eq (nat_cmp k q)) refl
     where
-      by : (b : Bool) (a : Bool) → is_some (cond b (Some joined) (get nat_cmp old p)) ≡ (is_there old p || b)
-      by true a = sym (or-true (is_there old p))
+      by : (b : Bool) → is_eq (nat_cmp k q) ≡ b → length m.items ≡ states
+      by true f = ap (λ o. length (mask_in o)) (sym e ∙ put_at q true f) ∙ long
+      by false f = wide q m (sym (put_at q false f) ∙ e)
+
+  pub put-there : (p : ℕ) → is_there new p ≡ (is_there old p || (k == p))
+  put-there p = ap is_some (put_at p (k == p) (tied k p)) ∙ by (k == p)
+    where
+      by : (b : Bool) → is_some (cond b (Some joined) (get nat_cmp old p)) ≡ (is_there old p || b)
+      by true = sym (or-true (is_there old p))
         where
           or-true : (a : Bool) → (a || true) ≡ true
           or-true true = refl
           or-true false = refl
-      by false a = sym (or-false (is_there old p))
-        where
-          or-false : (a : Bool) → (a || false) ≡ a
-          or-false true = refl
-          or-false false = refl
+      by false = sym (or-false (is_there old p) false refl)
 
-  pub marked-waits : (p i : ℕ) → waits new p i ≡ (waits old p i || ((k == p) && has mask i))
-  marked-waits p i = ap (λ o. has (mask_in o) i) (put p ∙ ap (λ b. cond b (Some joined) (get nat_cmp old p)) (tied k p)) ∙ by (k == p) refl
+  pub put-waits : (mask : ℕ → Bool) → ((i : ℕ) → has joined.items i ≡ (waits old k i || mask i)) → (p i : ℕ) → waits new p i ≡ (waits old p i || ((k == p) && mask i))
+  put-waits mask each p i = ap (λ o. has (mask_in o) i) (put_at p (k == p) (tied k p)) ∙ by (k == p) refl
     where
-      or-false : (a : Bool) → (a || false) ≡ a
-      or-false true = refl
-      or-false false = refl
+      by : (b : Bool) → (k == p) ≡ b → has (mask_in (cond b (Some joined) (get nat_cmp old p))) i ≡ (waits old p i || (b && mask i))
+      by true e = each i ∙ ap (λ x. waits old x i || mask i) (eqb-true k p e)
+      by false e = sym (or-false (waits old p i) false refl)
 
-      by : (b : Bool) → (k == p) ≡ b → has (mask_in (cond b (Some joined) (get nat_cmp old p))) i ≡ (waits old p i || (b && has mask i))
-      by true e = each i ∙ ap (λ x. waits old x i || has mask i) (eqb-true k p e)
-      by false e = sym (or-false (waits old p i))
-
-  module _ (full : Bool) (is_full : full ≡ list_all (λ b. b) joined.items)
+  module _ (states : ℕ) (before after : BTreeSet ℕ) (kept : AreKept states old before) (wide : length joined.items ≡ states) (full : Bool) (is_full : full ≡ list_all (λ b. b) joined.items)
       (moved : (q : ℕ) → contains nat_cmp after q ≡ cond (k == q) (not full) (contains nat_cmp before q)) where
-    pub marked-kept : AreKept states new after
-    marked-kept = record { wide = λ q m e. wide_at q m e (is_eq (nat_cmp k q)) refl; listed = λ q. listed q (is_eq (nat_cmp k q)) refl }
+    pub put-kept : AreKept states new after
+    put-kept = record { wide = put-wide states kept.wide wide; listed = λ q. listed q (is_eq (nat_cmp k q)) refl }
       where
-        same : (m : Vec Bool Global) → (Some joined ≡ Some m) → joined ≡ m
-        same m f = cc f
-
-        put_at : (q : ℕ) (b : Bool) → is_eq (nat_cmp k q) ≡ b → get nat_cmp new q ≡ cond b (Some joined) (get nat_cmp old q)
-        put_at q b f = put q ∙ ap (λ b. cond b (Some joined) (get nat_cmp old q)) f
-
-        wide_at : (q : ℕ) (m : Vec Bool Global) → get nat_cmp new q ≡ Some m → (b : Bool) → is_eq (nat_cmp k q) ≡ b → length m.items ≡ states
-        wide_at q m e true f = ap (λ (v : Vec Bool Global). length v.items) (sym (same m (sym (put_at q true f) ∙ e))) ∙ wide
-        wide_at q m e false f = kept.wide q m (sym (put_at q false f) ∙ e)
-
         moved_at : (q : ℕ) (b : Bool) → is_eq (nat_cmp k q) ≡ b → contains nat_cmp after q ≡ cond b (not full) (contains nat_cmp before q)
         moved_at q b f = moved q ∙ ap (λ b. cond b (not full) (contains nat_cmp before q)) (sym (tied k q) ∙ f)
 

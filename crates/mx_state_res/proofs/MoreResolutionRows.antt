@@ -3,11 +3,11 @@ use Rattle.std.specs.Prelude.{◌≡◌, refl, ℕ, ◌+◌, ◌++◌, List, [],
 use Prim.Native.String.{String}
 use Rattle.serde_json.specs.Data.{Data}
 use Rattle.mx_redact.specs.Fields.{Event}
-use Rattle.mx_auth.specs.Rules.{Key}
+use Rattle.mx_pdu.specs.StateKeys.{Key}
 use Rattle.mx_auth.proofs.RoomBase.{event, keyed, text, fields, no_fields, membership, users, e1, e2, e3, e4, e5, e6}
 use Rattle.mx_auth.specs.declared.versions.RoomVersion.TheVariants.{V6}
 use Rattle.mx_graph.specs.Record.{Row}
-use Rattle.mx_orders.specs.StateMap.{State}
+use Rattle.mx_graph.specs.StateMap.{State}
 use Rattle.mx_orders.specs.PowerOrder.{power_order}
 use Rattle.mx_state_res.specs.Resolution.{resolve, full_conflicted, power_events, iterative_auth_checks}
 use Rattle.mx_state_res.proofs.ResolutionOnExamples.{resolution_on_examples}

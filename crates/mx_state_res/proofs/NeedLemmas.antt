@@ -6,18 +6,20 @@ use Rattle.std.specs.List.{list_any}
 use Rattle.std.specs.Ordering.{is_eq}
 use Rattle.std.specs.FinMap.Entries.{put}
 use Rattle.mx_pdu.specs.Event.{is_state}
-use Rattle.mx_auth.specs.Rules.{AgreeAt, Key, key_of, needed_keys, same_key}
+use Rattle.mx_auth.specs.Rules.{AgreeAt, key_of, needed_keys, same_key}
+use Rattle.mx_pdu.specs.StateKeys.{Key}
 use Rattle.mx_auth.specs.declared.versions.RoomVersion.{RoomVersion}
 use Rattle.mx_auth.proofs.NeededKeyLemmas.{rules-needed_keys}
 use Rattle.mx_graph.specs.Record.{Row, event, row}
-use Rattle.mx_orders.specs.StateMap.{State, entry, key_cmp, view_by, with_event}
+use Rattle.mx_graph.specs.StateMap.{State, entry, key_cmp}
+use Rattle.mx_orders.specs.StateMap.{view_by, with_event}
 use Rattle.mx_redact.specs.Fields.{Event, is_some_and}
 use Rattle.mx_state_res.specs.KeptResolutions.{AreChecked, IsOutcome, events_checked, put_outcome}
 use Rattle.mx_state_res.specs.LaterResolution.{is_put, stays}
 use Rattle.mx_state_res.specs.Resolution.{is_allowed, judged_in, usable_auth_event}
 use Rattle.mx_state_res.specs.declared.kept_resolutions.checked_events.CheckedEvent.{CheckedEvent}
-use Rattle.mx_state_res.proofs.EntryLemmas.{equal-keys}
-use Rattle.mx_state_res.proofs.KeyLemmas.{Sorted}
+use Rattle.mx_states.proofs.EntryLemmas.{equal-keys}
+use Rattle.mx_states.proofs.KeyLemmas.{Sorted}
 use Rattle.mx_state_res.proofs.KeptResolutionLemmas.{goes-on, same-itself}
 use Rattle.mx_state_res.proofs.LaterStateLemmas.{put-elsewhere}
 use Rattle.std.specs.Prelude.{if◌then◌else◌}

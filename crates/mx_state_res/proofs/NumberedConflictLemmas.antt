@@ -5,26 +5,28 @@ use Rattle.std.specs.Ordering.{is_eq}
 use Rattle.std.specs.FinMap.Entries.{find}
 use Rattle.std.specs.declared.alloc.Global.{Global}
 use Rattle.mx_redact.specs.Fields.{is_some_and}
-use Rattle.mx_auth.specs.Rules.{Key}
+use Rattle.mx_pdu.specs.StateKeys.{Key}
 use Rattle.mx_graph.specs.Graph.{IsSound}
 use Rattle.mx_graph.specs.Record.{Row, is_in}
 use Rattle.mx_graph.specs.Edges.{Rises}
 use Rattle.mx_graph.proofs.Members.{In, in_filter, in_filter-parts, in_flat_map, in_flat_map-from}
 use Rattle.mx_graph.proofs.Closure.{is_in-from, is_in-to}
-use Rattle.mx_orders.specs.StateMap.{State, events_of, key_cmp, entry}
+use Rattle.mx_graph.specs.StateMap.{State, events_of, key_cmp, entry}
 use Rattle.mx_orders.proofs.Members.{in_map, in_map-from}
 use Rattle.mx_state_res.specs.Agreed.{IsAgreed}
 use Rattle.mx_state_res.specs.ChainDifference.{chain_difference}
-use Rattle.mx_state_res.specs.Numbered.{AreKnown, IsDiffering, events_at, option_list, state_at, without}
-use Rattle.mx_state_res.specs.Resolution.{has_entry, in_every, unconflicted, auth_difference, full_conflicted}
+use Rattle.mx_state_res.specs.Numbered.{AreKnown}
+use Rattle.mx_states.specs.Numbered.{IsDiffering, events_at, option_list, state_at, without}
+use Rattle.mx_states.specs.Entries.{has_entry}
+use Rattle.mx_state_res.specs.Resolution.{in_every, unconflicted, auth_difference, full_conflicted}
 use Rattle.mx_state_res.proofs.TestLemmas.{one-answer}
-use Rattle.mx_state_res.proofs.KeyLemmas.{Sorted}
-use Rattle.mx_state_res.proofs.EntryLemmas.{entry-without, equal-keys}
+use Rattle.mx_states.proofs.KeyLemmas.{Sorted}
+use Rattle.mx_states.proofs.EntryLemmas.{entry-without, equal-keys}
 use Rattle.mx_state_res.proofs.SetLemmas.{shown, all-at, all-of, is_in-append, flat_map-map, map-map}
 use Rattle.mx_state_res.proofs.AgreedLemmas.{has_entry-filter}
 use Rattle.mx_state_res.proofs.EqualStateLemmas.{find-own}
 use Rattle.mx_state_res.proofs.ConflictLemmas.{lacks, gathered, full-is}
-use Rattle.mx_state_res.proofs.DifferingLemmas.{has-found}
+use Rattle.mx_states.proofs.DifferingLemmas.{has-found}
 use Rattle.mx_state_res.proofs.SharedLemmas.{made-of, every-at}
 use Rattle.mx_state_res.proofs.ChainLemmas.{difference-of-others}
 

@@ -3,8 +3,9 @@ use Rattle.std.proofs.Common.{◌≡◌, ◌∷◌, ◌++◌, refl, ap₂, subst
 use Rattle.std.proofs.lemmas.List.Elements.{All-get_or, All-map}
 use Rattle.std.specs.Prelude.{get_or}
 use Rattle.mx_graph.specs.Record.{Row}
-use Rattle.mx_orders.specs.StateMap.{State}
-use Rattle.mx_state_res.specs.Numbered.{state_at, AreKnown}
+use Rattle.mx_graph.specs.StateMap.{State}
+use Rattle.mx_states.specs.Numbered.{state_at}
+use Rattle.mx_state_res.specs.Numbered.{AreKnown}
 
 pub known-at : (rows : List Row) (states : List State) (numbers : List ℕ) → AreKnown rows states → All (λ n. n < length states) numbers → AreKnown rows (map (state_at states) numbers)
 known-at rows states numbers known below =

@@ -7,25 +7,28 @@ use Rattle.std.specs.Ordering.{eq_by_cmp, is_eq}
 use Rattle.mx_redact.specs.Fields.{is_some_and}
 use Rattle.std.proofs.lemmas.List.{drop-map, get_or_append_left, length-append, map-append, take-append-drop, take-map}
 use Rattle.std.proofs.lemmas.List.Elements.{All-append, All-cons, All-drop, All-take}
-use Rattle.mx_auth.specs.Rules.{Key, key_of}
+use Rattle.mx_pdu.specs.StateKeys.{Key}
+use Rattle.mx_auth.specs.Rules.{key_of}
 use Rattle.mx_auth.specs.declared.versions.RoomVersion.{RoomVersion}
 use Rattle.mx_graph.specs.Record.{Row, event}
 use Rattle.mx_graph.specs.Graph.{IsSound}
 use Rattle.mx_graph.proofs.Members.{In, in_filter}
 use Rattle.mx_graph.proofs.Closure.{or_cases, or_left, or_right}
-use Rattle.mx_orders.specs.StateMap.{State, key_cmp, entry, with_event}
+use Rattle.mx_graph.specs.StateMap.{State, key_cmp, entry}
+use Rattle.mx_orders.specs.StateMap.{with_event}
 use Rattle.mx_orders.specs.Mainline.{mainline, mainline_cmp, mainline_order, power_key, put_in_order}
-use Rattle.mx_state_res.specs.Numbered.{AllAlike, without}
-use Rattle.mx_state_res.specs.Resolution.{after_check, full_conflicted, has_entry, iterative_auth_checks, power_events, resolve, unconflicted}
+use Rattle.mx_states.specs.Numbered.{AllAlike, without}
+use Rattle.mx_state_res.specs.Resolution.{after_check, full_conflicted, iterative_auth_checks, power_events, resolve, unconflicted}
+use Rattle.mx_states.specs.Entries.{has_entry}
 use Rattle.mx_state_res.specs.LaterResolution.{IsOneMore, agreed_line, checking_order, is_put, resolution_with, stays}
 use Rattle.mx_state_res.specs.KeptResolutions.{AreChecked, AreSettled, DifferAtKeys, IsOutcome, events_checked, is_put_by, is_settled, made_by}
 use Rattle.mx_state_res.specs.declared.kept_resolutions.KeptResolution.{KeptResolution}
 use Rattle.mx_state_res.specs.declared.kept_resolutions.checked_events.CheckedEvent.{CheckedEvent}
 use Rattle.mx_state_res.specs.declared.kept_resolutions.outcomes.Outcome.{Outcome}
 use Rattle.mx_state_res.specs.declared.kept_resolutions.outcomes.Outcome.TheVariants.{Refused, Replaced, Stays}
-use Rattle.mx_state_res.proofs.KeyLemmas.{Sorted}
+use Rattle.mx_states.proofs.KeyLemmas.{Sorted}
 use Rattle.mx_state_res.proofs.LaterCheckLemmas.{put-beside, put-twice, sorted-checks, sorted-with}
-use Rattle.mx_state_res.proofs.EntryLemmas.{equal-keys}
+use Rattle.mx_states.proofs.EntryLemmas.{equal-keys}
 use Rattle.mx_state_res.proofs.EqualStateLemmas.{find-own}
 use Rattle.mx_state_res.proofs.LaterStateLemmas.{all-sorted, put-elsewhere, put-there, unconflicted-later, unconflicted-none}
 use Rattle.mx_state_res.proofs.SetLemmas.{all-at}

@@ -9,8 +9,8 @@ use Rattle.std.specs.FinMap.Entries.{put, by_order}
 use Rattle.mx_auth.specs.declared.versions.RoomVersion.{RoomVersion}
 use Rattle.mx_graph.specs.Record.{Row, is_in}
 use Rattle.mx_graph.proofs.Members.{In, in_filter-parts}
-use Rattle.mx_auth.specs.Rules.{Key}
-use Rattle.mx_orders.specs.StateMap.{State, key_cmp, entry}
+use Rattle.mx_pdu.specs.StateKeys.{Key}
+use Rattle.mx_graph.specs.StateMap.{State, key_cmp, entry}
 use Rattle.mx_orders.specs.Lists.{Distinct}
 use Rattle.mx_orders.specs.PowerOrder.{permutations, is_topological, least, least_topological, power_order}
 use Rattle.mx_orders.specs.Mainline.{power_key, put_in_order, sorted, mainline, mainline_cmp, mainline_order}
@@ -18,9 +18,10 @@ use Rattle.mx_orders.proofs.Permutations.{Within, permutations-permute}
 use Rattle.mx_orders.proofs.LeastOrder.{fold_min-in}
 use Rattle.mx_orders.proofs.PowerOrderLaws.{power_cmp-total}
 use Rattle.mx_state_res.specs.Numbered.{checked}
-use Rattle.mx_state_res.specs.Resolution.{unconflicted, full_conflicted, power_events, iterative_auth_checks, overwritten, resolve}
+use Rattle.mx_state_res.specs.Resolution.{unconflicted, full_conflicted, power_events, iterative_auth_checks, resolve}
+use Rattle.mx_states.specs.Entries.{overwritten}
 use Rattle.mx_state_res.proofs.SetLemmas.{shown, all-at, all-of}
-use Rattle.mx_state_res.proofs.KnownLemmas.{put-known}
+use Rattle.mx_states.proofs.KnownLemmas.{put-known}
 use Rattle.mx_state_res.proofs.AgreedLemmas.{agreed-known}
 
 -- ---- orders

@@ -5,7 +5,7 @@ use Rattle.mx_redact.specs.Fields.{Event}
 use Rattle.mx_auth.proofs.RoomBase.{event, keyed, fields, no_fields, users, e1, e2, e3, e4, e5, e6}
 use Rattle.mx_auth.specs.declared.versions.RoomVersion.TheVariants.{V6}
 use Rattle.mx_graph.specs.Record.{Row}
-use Rattle.mx_orders.specs.StateMap.{State}
+use Rattle.mx_graph.specs.StateMap.{State}
 use Rattle.mx_orders.specs.PowerOrder.{power_order}
 use Rattle.mx_orders.specs.Mainline.{mainline, mainline_order}
 use Rattle.mx_state_res.specs.Resolution.{auth_difference, full_conflicted, power_events, resolve}

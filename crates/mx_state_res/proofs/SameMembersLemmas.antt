@@ -1,21 +1,22 @@
 -- States resolve by what states there are, in whatever order and however often.
 use Rattle.std.proofs.Common.{◌≡◌, ℕ, Bool, true, not, ◌&&◌, ◌||◌, inl, inr, List, [], ◌∷◌, filter, flat_map, map, Option, Some, None, refl, sym, ap, ap₂, subst, ◌∙◌}
 use Rattle.std.specs.List.{All, list_any, list_all}
-use Rattle.mx_auth.specs.Rules.{Key}
+use Rattle.mx_pdu.specs.StateKeys.{Key}
 use Rattle.mx_auth.specs.declared.versions.RoomVersion.{RoomVersion}
 use Rattle.mx_graph.specs.Record.{Row, is_in, events_where}
 use Rattle.mx_graph.specs.Graph.{auth_chain}
 use Rattle.mx_graph.proofs.Members.{In, in_filter, in_filter-parts, in_flat_map, in_flat_map-from}
 use Rattle.mx_graph.proofs.Closure.{or_cases, or_left, or_right, is_in-from, is_in-to}
-use Rattle.mx_orders.specs.StateMap.{State, entry, events_of}
+use Rattle.mx_graph.specs.StateMap.{State, entry, events_of}
 use Rattle.mx_orders.proofs.Members.{in_map, in_map-from}
 use Rattle.mx_state_res.specs.Numbered.{checked}
-use Rattle.mx_state_res.specs.Resolution.{has_entry, in_every, unconflicted, conflicted, auth_difference, full_conflicted, overwritten, resolve}
+use Rattle.mx_states.specs.Entries.{has_entry, overwritten}
+use Rattle.mx_state_res.specs.Resolution.{in_every, unconflicted, conflicted, auth_difference, full_conflicted, resolve}
 use Rattle.mx_state_res.proofs.TestLemmas.{one-answer, and-make, and-first, and-second}
-use Rattle.mx_state_res.proofs.KeyLemmas.{Sorted, sorted-filter}
+use Rattle.mx_states.proofs.KeyLemmas.{Sorted, sorted-filter}
 use Rattle.mx_state_res.proofs.SetLemmas.{all-at, all-of}
-use Rattle.mx_state_res.proofs.EntryLemmas.{same-states}
-use Rattle.mx_state_res.proofs.DifferingLemmas.{has-found}
+use Rattle.mx_states.proofs.EntryLemmas.{same-states}
+use Rattle.mx_states.proofs.DifferingLemmas.{has-found}
 use Rattle.mx_state_res.proofs.NumberedConflictLemmas.{agreed-all, at-sorted, has-some}
 use Rattle.mx_state_res.proofs.OrderLemmas.{resolve-is}
 

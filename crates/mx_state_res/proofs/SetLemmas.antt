@@ -12,7 +12,7 @@ use Rattle.mx_graph.proofs.Members.{In, in_filter-parts}
 use Rattle.mx_graph.proofs.Closure.{or_left, or_right, same_tests, range-parts, in_places, is_in-from, is_in-to}
 use Rattle.mx_graph.proofs.ReachedLemmas.{rising-filter}
 use Rattle.mx_orders.specs.Lists.{Distinct}
-use Rattle.mx_orders.specs.StateMap.{State}
+use Rattle.mx_graph.specs.StateMap.{State}
 
 -- the states behind some references
 abbrev pub shown : List (Bor State) → List State

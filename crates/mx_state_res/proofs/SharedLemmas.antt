@@ -5,15 +5,16 @@ use Rattle.std.specs.Ordering.{is_eq}
 use Rattle.std.specs.FinMap.Entries.{find}
 use Rattle.std.specs.declared.alloc.Global.{Global}
 use Rattle.mx_redact.specs.Fields.{is_some_and}
-use Rattle.mx_auth.specs.Rules.{Key}
+use Rattle.mx_pdu.specs.StateKeys.{Key}
 use Rattle.mx_graph.specs.Graph.{IsSound}
 use Rattle.mx_graph.specs.Record.{Row, is_in}
 use Rattle.mx_graph.proofs.Members.{In, in_filter, in_filter-parts, in_flat_map}
 use Rattle.mx_graph.proofs.Closure.{or_cases, or_left, or_right, is_in-from, is_in-to}
-use Rattle.mx_orders.specs.StateMap.{State, events_of, key_cmp}
+use Rattle.mx_graph.specs.StateMap.{State, events_of, key_cmp}
 use Rattle.mx_orders.proofs.Members.{in_map, in_map-from}
 use Rattle.mx_state_res.specs.ChainDifference.{chain_difference}
-use Rattle.mx_state_res.specs.Resolution.{has_entry, in_every, unconflicted, auth_difference}
+use Rattle.mx_states.specs.Entries.{has_entry}
+use Rattle.mx_state_res.specs.Resolution.{in_every, unconflicted, auth_difference}
 use Rattle.mx_state_res.proofs.TestLemmas.{and-first, and-second, one-answer}
 use Rattle.mx_state_res.proofs.SetLemmas.{shown, all-of, flat_map-map}
 use Rattle.mx_state_res.proofs.AgreedLemmas.{agreed-known}

@@ -1,17 +1,21 @@
 -- For proofs, and for the clauses of what is kept of a resolution.
-use Rattle.std.specs.Prelude.{◌≡◌, ◌≤◌, ◌<◌, ℕ, Bool, true, false, ◌||◌, List, [], ◌∷◌, Some, All, IfSome, is_some, length, map, slice_index_or}
+use Rattle.std.specs.Prelude.{◌≡◌, ◌≤◌, ◌<◌, ℕ, Bool, true, false, ◌||◌, List, [], ◌∷◌, Some, All, IfSome, is_some, length, map, slice_index_or, take}
 use Rattle.std.specs.declared.cmp.Ordering.{Ordering}
 use Rattle.std.specs.Ordering.{is_gt}
 use Rattle.std.specs.FinMap.Entries.{put}
 use Rattle.mx_redact.specs.Fields.{is_some_and}
-use Rattle.mx_auth.specs.Rules.{Key, key_of}
+use Rattle.mx_pdu.specs.StateKeys.{Key}
+use Rattle.mx_auth.specs.Rules.{key_of}
 use Rattle.mx_auth.specs.declared.versions.RoomVersion.{RoomVersion}
 use Rattle.mx_graph.specs.Record.{Row, event, is_in}
-use Rattle.mx_orders.specs.StateMap.{State, entry, key_cmp}
+use Rattle.mx_graph.specs.StateMap.{State, entry, key_cmp}
 use Rattle.mx_state_res.specs.ChainDifference.{cites}
 use Rattle.mx_state_res.specs.LaterResolution.{IsOneMore, checking_order, is_put, is_reached, stays}
-use Rattle.mx_state_res.specs.Numbered.{AllAlike, AreKnown, state_at, without}
-use Rattle.mx_state_res.specs.Resolution.{after_check, full_conflicted, has_entry, power_events, resolve, unconflicted}
+use Rattle.mx_states.specs.Numbered.{AllAlike, state_at, without}
+use Rattle.mx_state_res.specs.Numbered.{AreKnown}
+use Rattle.mx_state_res.specs.Resolution.{after_check, full_conflicted, iterative_auth_checks, power_events, resolve, unconflicted}
+use Rattle.mx_states.specs.Entries.{has_entry}
+use Rattle.mx_state_res.specs.TouchedKeys.{HasKeysOf}
 use Rattle.mx_state_res.specs.declared.kept_resolutions.KeptResolution.{KeptResolution}
 use Rattle.mx_state_res.specs.declared.kept_resolutions.checked_events.CheckedEvent.{CheckedEvent}
 use Rattle.mx_state_res.specs.declared.kept_resolutions.outcomes.Outcome.{Outcome}
@@ -84,8 +88,13 @@ pub record IsKept (v : RoomVersion) (rows : List Row) (states : List State) (kep
   pub known : AreKnown rows (states_of states kept)
   pub at_keys : DifferAtKeys rows (states_of states kept) (first_of states kept) kept
   pub checked : AreChecked v rows (unconflicted (states_of states kept)) kept.order.items
+  pub touched : All (HasKeysOf v rows kept.touched) kept.order.items
   pub below : kept.resolved < length states
   pub resolved : state_at states kept.resolved ≡ resolve v rows (states_of states kept)
+
+-- the state in which the event at a place of the order was checked
+abbrev pub state_before : RoomVersion → List Row → List State → KeptResolution → ℕ → State
+state_before v rows states kept place = iterative_auth_checks v rows (unconflicted (states_of states kept)) (take place (events_checked kept.order.items))
 
 -- at a key that is in conflict a state has an event that was checked, or none
 abbrev pub IsKeptAside : KeptResolution → State → Key → Type 0

@@ -5,15 +5,17 @@ use Rattle.std.specs.Ordering.{eq_by_cmp, is_eq}
 use Rattle.std.specs.FinMap.Entries.{is_sorted, put}
 use Rattle.mx_redact.specs.Fields.{is_some_and}
 use Rattle.mx_pdu.specs.Event.{is_state}
-use Rattle.mx_auth.specs.Rules.{Key, key_of}
+use Rattle.mx_pdu.specs.StateKeys.{Key}
+use Rattle.mx_auth.specs.Rules.{key_of}
 use Rattle.mx_auth.specs.declared.versions.RoomVersion.{RoomVersion}
 use Rattle.mx_graph.specs.Record.{Row, event, is_in}
 use Rattle.mx_graph.specs.Graph.{auth_chain}
 use Rattle.mx_orders.specs.Lists.{In}
-use Rattle.mx_orders.specs.StateMap.{State, key_cmp, entry, events_of, with_event}
+use Rattle.mx_graph.specs.StateMap.{State, key_cmp, entry, events_of}
+use Rattle.mx_orders.specs.StateMap.{with_event}
 use Rattle.mx_orders.specs.Mainline.{power_key, mainline, mainline_cmp, mainline_order, put_in_order}
 use Rattle.mx_state_res.specs.ChainDifference.{cites}
-use Rattle.mx_state_res.specs.Numbered.{AllAlike}
+use Rattle.mx_states.specs.Numbered.{AllAlike}
 use Rattle.mx_state_res.specs.Resolution.{unconflicted, full_conflicted, is_power_event, power_events, is_allowed, iterative_auth_checks, resolve}
 
 -- the mainline by which events in conflict are ordered, where none of them is a power event

@@ -1,16 +1,18 @@
 -- State resolution, version 2 (Matrix specification, Room Version 2, state resolution).
-use Rattle.std.specs.Prelude.{ℕ, ◌==◌, Bool, not, ◌&&◌, ◌||◌, if◌then◌else◌, List, [], ◌∷◌, codes, map, filter, flat_map, fold, Option, None, Some, option_and_then, is_none}
+use Rattle.std.specs.Prelude.{ℕ, Bool, not, ◌&&◌, ◌||◌, if◌then◌else◌, List, [], ◌∷◌, codes, map, filter, flat_map, fold, Option, None, Some, option_and_then, is_none}
 use Rattle.std.specs.Option.{option_or}
 use Rattle.std.specs.List.{list_any, list_all}
-use Rattle.std.specs.FinMap.Entries.{put}
-use Rattle.mx_redact.specs.Fields.{Event, is_some_and, is_text}
+use Rattle.mx_redact.specs.Fields.{Event, is_text}
 use Rattle.mx_pdu.specs.Event.{has_kind, has_membership, is_state, sender_of, state_key_of}
 use Rattle.mx_auth.specs.StateView.{StateView}
-use Rattle.mx_auth.specs.Rules.{Key, same_key, needed_keys, rules}
+use Rattle.mx_pdu.specs.StateKeys.{Key}
+use Rattle.mx_auth.specs.Rules.{same_key, needed_keys, rules}
 use Rattle.mx_auth.specs.declared.versions.RoomVersion.{RoomVersion}
 use Rattle.mx_graph.specs.Record.{Row, row, event, events_where, is_in}
 use Rattle.mx_graph.specs.Graph.{auth_chain}
-use Rattle.mx_orders.specs.StateMap.{State, key_cmp, entry, events_of, with_event, view_by, auth_event_at}
+use Rattle.mx_graph.specs.StateMap.{State, entry, events_of}
+use Rattle.mx_states.specs.Entries.{has_entry, overwritten}
+use Rattle.mx_orders.specs.StateMap.{with_event, view_by, auth_event_at}
 use Rattle.mx_orders.specs.PowerOrder.{power_order}
 use Rattle.mx_orders.specs.Mainline.{power_key, mainline, mainline_order}
 
@@ -25,9 +27,6 @@ is_removal e =
 unfoldable pub is_power_event : Event → Bool
 is_power_event e =
     is_state e && (has_kind (codes "m.room.power_levels") e || has_kind (codes "m.room.join_rules") e || is_removal e)
-
-abbrev pub has_entry : Key × ℕ → State → Bool
-has_entry e s = is_some_and (λ p. p == e.1) (entry s e.0)
 
 abbrev pub in_every : List State → Key × ℕ → Bool
 in_every states e = list_all (has_entry e) states
@@ -86,10 +85,6 @@ power_events rows full =
     let power = filter (λ p. is_power_event (event rows p)) full in
     let chain = auth_chain rows power in
     filter (λ p. is_in power p || is_in chain p) full
-
--- a state, with the entries of another put over it
-abbrev pub overwritten : State → State → State
-overwritten s others = fold (λ t e. put key_cmp e.0 e.1 t) s others
 
 -- the resolved state of these states of a room of this version
 unfoldable pub resolve : RoomVersion → List Row → List State → State

@@ -3,6 +3,7 @@
 pub(crate) mod chain_difference;
 mod chain_walks;
 pub(crate) mod dense_difference;
+mod event_masks;
 mod masks;
 mod row_sets;
 mod state_sets;

@@ -3,7 +3,8 @@ ghost use Rattle.std.specs.Prelude.{◌≡◌, ◌<◌, ◌++◌, ℕ, All, IfOk
 ghost use Rattle.std.specs.FinMap.Entries.{is_sorted};
 ghost use Rattle.std.specs.List.{list_all};
 ghost use Rattle.mx_graph.specs.Edges.{Rises};
-ghost use Rattle.mx_orders.specs.StateMap.{events_of as events_in, key_cmp};
+ghost use Rattle.mx_graph.specs.StateMap.{events_of as events_in, key_cmp};
+ghost use Rattle.mx_states.specs.Entries.{has_entry};
 ghost use Rattle.mx_state_res.specs.Agreed.{IsAgreed};
 ghost use Rattle.mx_state_res.specs.Resolution as definition;
 
@@ -12,9 +13,8 @@ pub(crate) mod numbered_conflicts;
 pub(crate) mod rising_lists;
 
 use crate::chains::chain_difference::chain_difference;
-use crate::entries::StateEntry;
-use crate::state_maps::StateMap;
 use mx_graph::{EventNo, Graph, graph_is_sound, rising};
+use mx_states::{StateEntry, StateMap, has_entry};
 use std::alloc::{AllocError, Global};
 
 /// The unconflicted state: the entries that every state has. `AllocError` where no memory is left.
@@ -33,7 +33,7 @@ pub fn unconflicted(alloc: Global, states: &[&StateMap]) -> Result<StateMap, All
 // The entries of a state that each of the others has.
 fn shared(alloc: Global, state: &StateMap, others: &[&StateMap]) -> Result<StateMap, AllocError>
     ensures entries { IfOk result (λ agreed. agreed
-        ≡ filter (λ e. list_all (λ s. definition.has_entry e s.now) others.now) state.now) }
+        ≡ filter (λ e. list_all (λ s. has_entry e s.now) others.now) state.now) }
     ensures sorted { T (is_sorted key_cmp state.now) }
 {
     let mut agreed = StateMap::new(alloc);
@@ -47,19 +47,9 @@ fn shared(alloc: Global, state: &StateMap, others: &[&StateMap]) -> Result<State
 
 // Whether every state has an entry.
 fn is_in_every(states: &[&StateMap], entry: &StateEntry) -> bool
-    ensures { result ≡ list_all (λ s. definition.has_entry entry.now s.now) states.now }
+    ensures { result ≡ list_all (λ s. has_entry entry.now s.now) states.now }
 {
     states.iter().all(|state| has_entry(state, entry))
-}
-
-/// Whether a state has an entry.
-pub(crate) fn has_entry(state: &StateMap, entry: &StateEntry) -> bool
-    ensures { result ≡ definition.has_entry entry.now state.now }
-{
-    match state.get(entry.kind(), entry.state_key()) {
-        Some(event) => event == entry.event(),
-        None => false,
-    }
 }
 
 /// For each state, the events of its entries that are not in the unconflicted state.
@@ -69,7 +59,7 @@ pub(crate) fn conflicted_events(
     states: &[&StateMap],
 ) -> Result<Vec<Vec<EventNo>>, AllocError>
     ensures { IfOk result (λ found. map (λ events. events.items) found.items ≡ map
-        (λ s. events_in (filter (λ e. not (definition.has_entry e agreed.now)) s.now)) states.now) }
+        (λ s. events_in (filter (λ e. not (has_entry e agreed.now)) s.now)) states.now) }
 {
     let mut found = Vec::new(alloc);
     for state in states {
@@ -87,9 +77,9 @@ fn push_conflicted(
     state: &StateMap,
 ) -> Result<(), AllocError>
     ensures ok { OnOk result (found.new.items ≡ found.old.items
-        ++ events_in (filter (λ e. not (definition.has_entry e agreed.now)) state.now)) }
+        ++ events_in (filter (λ e. not (has_entry e agreed.now)) state.now)) }
     ensures err { OnErr result ((count : ℕ) × (found.new.items ≡ found.old.items
-        ++ events_in (filter (λ e. not (definition.has_entry e agreed.now)) (take count state.now)))) }
+        ++ events_in (filter (λ e. not (has_entry e agreed.now)) (take count state.now)))) }
 {
     for entry in state.entries() {
         if !has_entry(agreed, entry) {

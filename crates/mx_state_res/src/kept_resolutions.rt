@@ -1,27 +1,30 @@
 // The resolution of states to which one is added, from the one before.
 ghost use Rattle.std.specs.Prelude.{◌≡◌, ◌<◌, ℕ, All, IfOk, IfSome, None, length, map};
 ghost use Rattle.mx_state_res.specs.KeptResolutions.{IsKept};
-ghost use Rattle.mx_state_res.specs.Numbered.{AreAdded, AreKnown, state_at};
+ghost use Rattle.mx_state_res.specs.Numbered.{AreAdded, AreKnown};
+ghost use Rattle.mx_states.specs.Numbered.{state_at};
 ghost use Rattle.mx_state_res.specs.Resolution as definition;
 
 use crate::kept_resolutions::checked_events::CheckedEvent;
 use crate::kept_resolutions::first_records::kept_resolution;
 use crate::kept_resolutions::one_more::resolve_one_more;
+use crate::kept_resolutions::touched_keys::TouchedKeys;
 use crate::numbered_resolution::resolve_numbered;
-use crate::state_maps::StateMap;
-use crate::states::States;
-use crate::states::state_numbers::StateNo;
 use mx_auth::RoomVersion;
 use mx_graph::Graph;
+use mx_states::{StateMap, StateNo, States};
 use std::alloc::{AllocError, Global};
 
 pub(crate) mod added_events;
 pub(crate) mod added_places;
 pub(crate) mod checked_events;
+pub(crate) mod checked_places;
 mod first_records;
 mod one_more;
 pub(crate) mod outcomes;
 pub(crate) mod reached_events;
+pub(crate) mod standing_events;
+pub(crate) mod touched_keys;
 
 // Of fewer states than these nothing is kept.
 const FEWEST_STATES: usize = 8;
@@ -37,6 +40,8 @@ pub struct KeptResolution {
     pub differing: StateMap,
     /// The events in conflict, in the order in which they were checked.
     pub order: Vec<CheckedEvent>,
+    /// The keys that these events have to do with.
+    pub touched: TouchedKeys,
     /// Whether each of these events stands at one of these keys, or in the first of the states.
     pub are_settled: bool,
     /// What they resolve to.

@@ -1,12 +1,12 @@
 // Laws of state resolution.
 ghost use Rattle.std.specs.Prelude.{◌≡◌, [], ◌∷◌, All, List};
-ghost use Rattle.mx_orders.specs.StateMap.{State};
+ghost use Rattle.mx_graph.specs.StateMap.{State};
 ghost use Rattle.mx_state_res.specs.Resolution as definition;
 ghost use Rattle.mx_state_res.specs.LaterResolution.{ResolvesFromTheOneBefore};
 
-use crate::state_maps::StateMap;
 use mx_auth::RoomVersion;
 use mx_graph::{Graph, graph_is_sound};
+use mx_states::StateMap;
 
 /// A law: of equal states the resolution is that state, whatever events they have. It changes nothing: this is what it
 /// ensures.

@@ -5,22 +5,17 @@
 mod chains;
 mod checks;
 mod conflicts;
-mod entries;
 mod kept_resolutions;
 mod laws;
 mod numbered_resolution;
 pub mod plain;
 mod resolving;
-mod snapshots;
-mod state_maps;
-mod states;
 
 pub use chains::chain_difference::sparse_chain_difference;
 pub use chains::dense_difference::dense_chain_difference;
 pub use checks::judged_states::usable_auth_event;
 pub use checks::powers::power_events;
 pub use conflicts::{full_conflicted, unconflicted};
-pub use entries::StateEntry;
 pub use kept_resolutions::checked_events::CheckedEvent;
 pub use kept_resolutions::{KeptResolution, resolve_keeping};
 pub use laws::{
@@ -29,8 +24,3 @@ pub use laws::{
 };
 pub use numbered_resolution::resolve_numbered;
 pub use resolving::resolve;
-pub use state_maps::StateMap;
-pub use states::States;
-pub use states::event_tests::EventTest;
-pub use states::state_numbers::StateNo;
-pub use states::state_refs::StateRef;

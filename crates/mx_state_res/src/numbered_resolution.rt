@@ -1,19 +1,18 @@
 // The resolution of some of a room's states.
 ghost use Rattle.std.specs.Prelude.{◌≡◌, ◌<◌, ◌++◌, ◌∷◌, ℕ, All, IfOk, List, OnErr, length, map};
-ghost use Rattle.mx_orders.specs.StateMap.{State};
-ghost use Rattle.mx_state_res.specs.Numbered.{AreAdded, AreKnown, IsDiffering, edited, state_at};
+ghost use Rattle.mx_graph.specs.StateMap.{State};
+ghost use Rattle.mx_state_res.specs.Numbered.{AreAdded, AreKnown};
+ghost use Rattle.mx_states.specs.Numbered.{IsDiffering, edited, state_at};
 ghost use Rattle.mx_state_res.specs.Resolution as definition;
 
 use crate::checks::conflict_checks::check_conflicted;
 use crate::checks::working_states::WorkingState;
 use crate::conflicts::numbered_conflicts::{all_are_sorted, full_conflicted_at};
-use crate::state_maps::StateMap;
-use crate::states::States;
-use crate::states::number_sets::{each_once, rise};
-use crate::states::state_changes::{StateChange, least_change, restored_puts};
-use crate::states::state_numbers::StateNo;
 use mx_auth::RoomVersion;
 use mx_graph::Graph;
+use mx_states::{
+    StateChange, StateMap, StateNo, States, each_once, least_change, restored_puts, rise,
+};
 use std::alloc::{AllocError, Global};
 
 /// The one state that some of a room's states resolve to, by its number. See [`resolve`].

@@ -2,13 +2,12 @@
 ghost use Rattle.std.specs.Prelude.{◌≡◌, ◌<◌, All, IfOk, length, map};
 ghost use Rattle.mx_state_res.specs.Resolution as definition;
 
-use crate::checks::auth_checks::overwrite;
 use crate::checks::conflict_checks::check_conflicted;
 use crate::checks::working_states::WorkingState;
 use crate::conflicts::{full_conflicted, unconflicted};
-use crate::state_maps::StateMap;
 use mx_auth::RoomVersion;
 use mx_graph::Graph;
+use mx_states::{StateMap, overwrite};
 use std::alloc::{AllocError, Global};
 
 /// The one state that states of a room of this version resolve to. Of no state it is the empty state, of one state that state.

@@ -5,8 +5,9 @@ use crate::rows::{event_at, next};
 use mx_graph::Graph;
 use mx_state_res::plain::plain_full_conflicted;
 use mx_state_res::{
-    StateMap, dense_chain_difference, full_conflicted, sparse_chain_difference, unconflicted,
+    dense_chain_difference, full_conflicted, sparse_chain_difference, unconflicted,
 };
+use mx_states::StateMap;
 use std::alloc::Global;
 use std::test::Fail;
 

@@ -4,7 +4,8 @@ ghost use Rattle.mx_state_res.specs.Numbered.{AreKnown};
 use crate::rows::{Written, event_at, next, row};
 use mx_auth::RoomVersion;
 use mx_graph::{Graph, GraphRow};
-use mx_state_res::{StateMap, StateNo, States, resolve, resolve_numbered};
+use mx_state_res::{resolve, resolve_numbered};
+use mx_states::{StateMap, StateNo, States};
 use std::alloc::Global;
 use std::test::Fail;
 

@@ -2,8 +2,8 @@ ghost use Rattle.std.specs.Prelude.{◌<◌, IfSome, length};
 
 use crate::rows::next;
 use mx_graph::EventNo;
-use mx_state_res::plain::PlainStates;
-use mx_state_res::{StateMap, StateNo, States};
+use mx_states::plain::PlainStates;
+use mx_states::{StateMap, StateNo, States};
 use std::alloc::Global;
 use std::test::Fail;
 

@@ -5,7 +5,10 @@ mod calls;
 mod responses;
 
 pub use calls::{CallShards, shards_of};
-pub use mx_log::{HostLineOutcome, InputError, first_line, host_by_line, read_all};
+pub use mx_log::{
+    HostLine, HostLineOutcome, InputError, first_line, host_answer_line, host_by_line, read_all,
+    read_host_line,
+};
 pub use mx_requests::{
     Fault, LARGEST_BODY, ReplyBody, Routes, WireCall, WireReply, WireRequest, WireServer,
     fault_reply, memory_reply,

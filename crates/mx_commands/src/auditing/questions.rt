@@ -8,7 +8,7 @@ use mx_audit::{RoomAudit, lines_of_resolution, resolution_before, state_lines};
 use mx_graph::EventNo;
 use mx_ident::EventId;
 use mx_options::{AskedOf, EventQuestion};
-use mx_state_res::StateRef;
+use mx_states::StateRef;
 use std::alloc::Global;
 use std::io::Write;
 

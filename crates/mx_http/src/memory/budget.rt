@@ -26,6 +26,14 @@ impl MemoryBudget {
         }
     }
 
+    /// How many bytes are held now.
+    pub fn held_bytes(&self) -> u64 {
+        match self.table() {
+            Ok(table) => table.bytes() as u64,
+            Err(_refused) => 0,
+        }
+    }
+
     fn table(&self) -> Result<MutexGuard<'_, Holdings>, AllocError> {
         lock(&self.holdings).ok_or(AllocError)
     }

@@ -21,7 +21,7 @@ pub(crate) fn step_line(alloc: Global, reply: &StepReply) -> Result<Vec<u8>, All
     ensures { IfOk result (λ line. line.items ≡ definition.step_output reply.now) }
 {
     match reply {
-        StepReply::OfRoom(answer) => host_line(alloc, answer),
+        StepReply::OfRoom(answer) => host_answer_line(alloc, answer),
         StepReply::Opened(events) => count_line(alloc, b"open", *events as u64),
         StepReply::Replayed(body) => body_line(alloc, b"kept", body.as_bytes()),
         StepReply::Busy => flag_line(alloc, b"busy"),
@@ -33,8 +33,11 @@ pub(crate) fn step_line(alloc: Global, reply: &StepReply) -> Result<Vec<u8>, All
     }
 }
 
-// A room answers a line of a step only where the line hosts it.
-fn host_line(alloc: Global, answer: &Answer) -> Result<Vec<u8>, AllocError>
+/// The line that tells what a line which hosts a room is answered, in canonical JSON and without its newline. By any other
+/// answer the line has no form.
+///
+/// `AllocError` where no memory was left.
+pub fn host_answer_line(alloc: Global, answer: &Answer) -> Result<Vec<u8>, AllocError>
     ensures { IfOk result (λ line. line.items ≡ definition.host_output answer.now) }
 {
     match answer {

@@ -8,7 +8,8 @@ ghost use Rattle.mx_state_res.specs.Masks.{has, waits, is_due, is_there, AreKept
 
 use crate::chains::chain_walks::{ChainWalk, Taken};
 use crate::chains::dense_difference::dense_chain_difference;
-use crate::chains::masks::{differs, every, only};
+use crate::chains::event_masks::masks_by_event;
+use crate::chains::masks::{differs, every};
 use crate::chains::state_sets::MOST_STATES;
 use mx_graph::{EventNo, Graph, graph_is_sound, rising, set_of};
 use std::alloc::{AllocError, Global};
@@ -77,9 +78,9 @@ pub(crate) fn walked_chain_difference(
 /// share, rising: of any number of sets, by a map of the events that wait.
 ///
 /// It walks from the last event down, and ends where every set reaches all that is left: no event is visited below the
-/// place where the chains meet. The time is that of the edges from there up, times the sets and a logarithm, and that of
-/// a sort of the shared events. `AllocError` where no memory is left. Source: the Matrix specification, Room Version 2,
-/// "State resolution", auth difference.
+/// place where the chains meet. The time is that of the edges from there up, times the sets and a logarithm, that of a
+/// look-up for each event of each set, and that of a sort of the shared events. `AllocError` where no memory is left.
+/// Source: the Matrix specification, Room Version 2, "State resolution", auth difference.
 pub fn sparse_chain_difference(
     alloc: Global,
     graph: &Graph,
@@ -155,7 +156,7 @@ fn mark_starts(walk: &mut ChainWalk, graph: &Graph, all: &[bool]) -> Result<(), 
     Ok(())
 }
 
-// What the events of each set cite waits for it.
+// What the events of each set cite waits for it. Each event is looked at once, for all sets that have it.
 fn mark_apart(
     alloc: Global,
     walk: &mut ChainWalk,
@@ -175,33 +176,8 @@ fn mark_apart(
         ≡ (waits walk.old.masks p i
         || definition.is_cited graph.now (slice_index_or (map (λ others. others.items) apart.now) i []) p)) }
 {
-    let states = apart.len();
-    for (i, others) in apart.iter().enumerate() {
-        let mask = only(alloc, states, i)?;
-        mark_cited(walk, graph, others, &mask)?;
-    }
-    Ok(())
-}
-
-// What these events cite waits, for the states of a mask.
-fn mark_cited(
-    walk: &mut ChainWalk,
-    graph: &Graph,
-    events: &[EventNo],
-    mask: &[bool],
-) -> Result<(), AllocError>
-    requires kept { AreKept walk.old.states walk.old.masks walk.old.unsettled }
-    requires wide { length mask.now ≡ walk.old.states }
-    requires known { All (λ s. s < length graph.now) events.now }
-    ensures states { walk.new.states ≡ walk.old.states }
-    ensures starts { walk.new.starts ≡ walk.old.starts }
-    ensures kept { OnOk result (AreKept walk.new.states walk.new.masks walk.new.unsettled) }
-    ensures there { OnOk result ((p : ℕ) → is_there walk.new.masks p
-        ≡ (is_there walk.old.masks p || definition.is_cited graph.now events.now p)) }
-    ensures marked { OnOk result ((p i : ℕ) → waits walk.new.masks p i
-        ≡ (waits walk.old.masks p i || (definition.is_cited graph.now events.now p && has mask.now i))) }
-{
-    for event in events {
+    let masks = masks_by_event(alloc, apart)?;
+    for (event, mask) in masks.iter() {
         walk.mark_all(graph.auth_events(*event), mask)?;
     }
     Ok(())

@@ -24,6 +24,15 @@ pub(crate) fn only(alloc: Global, states: usize, state: usize) -> Result<Vec<boo
     Ok(mask)
 }
 
+/// One state more.
+pub(crate) fn add_state(mask: &mut Vec<bool>, state: usize)
+    requires { state < vec_len mask.old }
+    ensures wide { vec_len mask.new ≡ vec_len mask.old }
+    ensures each { (i : ℕ) → has mask.new.items i ≡ (has mask.old.items i || (state == i)) }
+{
+    mask[state] = true;
+}
+
 /// The states of another mask too.
 pub(crate) fn add_states(mask: &mut Vec<bool>, other: &[bool])
     requires { length other.now ≡ vec_len mask.old }

@@ -5,7 +5,6 @@ ghost use Rattle.mx_state_res.specs.Resolution as definition;
 
 use crate::checks::judged_states::is_allowed;
 use crate::checks::working_states::WorkingState;
-use crate::state_maps::StateMap;
 use mx_auth::RoomVersion;
 use mx_graph::{EventNo, Graph};
 use std::alloc::AllocError;
@@ -55,18 +54,6 @@ fn check(
         if is_allowed(version, graph, state, number) {
             state.insert(event.kind(), state_key, number)?;
         }
-    }
-    Ok(())
-}
-
-/// Puts the entries of another state over a state. At an error some of them were put.
-pub(crate) fn overwrite(state: &mut StateMap, others: &StateMap) -> Result<(), AllocError>
-    ensures ok { OnOk result (state.new ≡ definition.overwritten state.old others.now) }
-    ensures err { OnErr result ((count : ℕ)
-        × (state.new ≡ definition.overwritten state.old (take count others.now))) }
-{
-    for entry in others.entries() {
-        state.insert(entry.kind(), entry.state_key(), entry.event())?;
     }
     Ok(())
 }

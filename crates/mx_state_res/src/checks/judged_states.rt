@@ -2,7 +2,8 @@
 ghost use Rattle.std.specs.Prelude.{◌≡◌, ◌<◌, All, IfSome, None, Some, if◌then◌else◌, length};
 ghost use Rattle.std.specs.Option.{option_copied, option_or};
 ghost use Rattle.mx_graph.specs.Record as record_of;
-ghost use Rattle.mx_orders.specs.StateMap.{auth_event_at, entry as entry_at};
+ghost use Rattle.mx_orders.specs.StateMap.{auth_event_at};
+ghost use Rattle.mx_graph.specs.StateMap.{entry as entry_at};
 ghost use Rattle.mx_state_res.specs.Numbered.{shown_by};
 ghost use Rattle.mx_state_res.specs.Resolution as definition;
 
@@ -26,7 +27,7 @@ impl<'a, 's> Model for JudgedState<'a, 's> {
     ghost use Rattle.std.specs.Prelude.{List, ℕ, ◌<◌, All, length};
     ghost use Rattle.mx_auth.specs.declared.versions.RoomVersion.{RoomVersion};
     ghost use Rattle.mx_graph.specs.Record.{Row};
-    ghost use Rattle.mx_orders.specs.StateMap.{State};
+    ghost use Rattle.mx_graph.specs.StateMap.{State};
     ghost use Rattle.mx_state_res.specs.Numbered.{shown_by};
     ghost use Rattle.mx_state_res.specs.StateCode.{judged_code};
 
@@ -44,7 +45,7 @@ impl<'a, 's> JudgedState<'a, 's> {
     ghost use Rattle.std.specs.Prelude.{◌≡◌, ◌<◌, IfSome, length};
     ghost use Rattle.std.specs.Option.{option_or};
     ghost use Rattle.mx_graph.specs.Record as record_of;
-    ghost use Rattle.mx_orders.specs.StateMap.{entry as entry_at};
+    ghost use Rattle.mx_graph.specs.StateMap.{entry as entry_at};
     ghost use Rattle.mx_state_res.specs.Resolution as definition;
 
     // The number of the event at a type and a state key.

@@ -1,12 +1,11 @@
 // States that are worked on while states are resolved.
 ghost use Rattle.std.specs.Prelude.{◌≡◌, [], OnErr, OnOk, T, unwrap_or};
 ghost use Rattle.std.specs.FinMap.Entries.{is_sorted, put};
-ghost use Rattle.mx_orders.specs.StateMap.{entry, key_cmp};
+ghost use Rattle.mx_graph.specs.StateMap.{entry, key_cmp};
 ghost use Rattle.mx_state_res.specs.Numbered.{shown_by};
 
-use crate::state_maps::StateMap;
-use crate::states::state_refs::StateRef;
 use mx_graph::EventNo;
+use mx_states::{StateMap, StateRef};
 use std::alloc::{AllocError, Global};
 use std::marker::Model;
 
@@ -22,7 +21,7 @@ pub(crate) struct WorkingState<'s> {
 impl<'s> Model for WorkingState<'s> {
     ghost use Rattle.std.specs.Prelude.{[], T, unwrap_or};
     ghost use Rattle.std.specs.FinMap.Entries.{is_sorted};
-    ghost use Rattle.mx_orders.specs.StateMap.{State, key_cmp};
+    ghost use Rattle.mx_graph.specs.StateMap.{State, key_cmp};
     ghost use Rattle.mx_state_res.specs.StateCode.{edit_code};
 
     ghost Value = { State × (State × State) };

@@ -3,18 +3,17 @@ ghost use Rattle.std.specs.Prelude.{◌≡◌, ◌<◌, ◌∷◌, ◌++◌, ℕ
 ghost use Rattle.std.specs.FinMap.Entries.{is_sorted};
 ghost use Rattle.mx_graph.specs.Edges.{Rises};
 ghost use Rattle.mx_graph.specs.Record.{is_in};
-ghost use Rattle.mx_orders.specs.StateMap.{events_of as events_in, key_cmp};
+ghost use Rattle.mx_graph.specs.StateMap.{events_of as events_in, key_cmp};
 ghost use Rattle.mx_state_res.specs.ChainDifference as differences;
-ghost use Rattle.mx_state_res.specs.Numbered.{AreKnown, IsDiffering, state_at, without};
+ghost use Rattle.mx_state_res.specs.Numbered.{AreKnown};
+ghost use Rattle.mx_states.specs.Numbered.{IsDiffering, state_at, without};
 ghost use Rattle.mx_state_res.specs.Resolution as definition;
 
 use crate::chains::chain_difference::chain_difference;
 use crate::conflicts::cited_events::cite_within;
 use crate::conflicts::joined;
-use crate::state_maps::StateMap;
-use crate::states::States;
-use crate::states::state_numbers::StateNo;
 use mx_graph::{EventNo, Graph, graph_is_sound, rising};
+use mx_states::{StateMap, StateNo, States};
 use std::alloc::{AllocError, Global};
 
 /// The full conflicted set of some states, rising, where `differing` has the keys at which they are not all alike, and

@@ -5,22 +5,20 @@ ghost use Rattle.mx_auth.specs.Rules.{key_of};
 ghost use Rattle.mx_graph.specs.Record as record_of;
 ghost use Rattle.mx_graph.specs.Record.{is_in};
 ghost use Rattle.mx_orders.specs.Lists.{In};
-ghost use Rattle.mx_orders.specs.StateMap.{entry as entry_at, key_cmp};
+ghost use Rattle.mx_graph.specs.StateMap.{entry as entry_at, key_cmp};
 ghost use Rattle.mx_state_res.specs.KeptResolutions.{DifferAtKeys, IsAdded, IsKeptAside, events_checked, first_of, states_of};
-ghost use Rattle.mx_state_res.specs.Numbered.{AreKnown, state_at};
+ghost use Rattle.mx_state_res.specs.Numbered.{AreKnown};
+ghost use Rattle.mx_states.specs.Numbered.{state_at};
 ghost use Rattle.mx_state_res.specs.Resolution as definition;
 
 use crate::checks::powers::is_power_event;
 use crate::conflicts::numbered_conflicts::all_are_sorted;
-use crate::entries::StateEntry;
 use crate::kept_resolutions::KeptResolution;
 use crate::kept_resolutions::checked_events::is_checked;
 use crate::kept_resolutions::reached_events::reach_alike;
-use crate::states::States;
-use crate::states::state_numbers::StateNo;
-use crate::states::state_refs::StateRef;
 use mx_auth::is_at;
 use mx_graph::{EventNo, Graph, graph_is_sound};
+use mx_states::{StateEntry, StateNo, StateRef, States};
 use std::alloc::{AllocError, Global};
 
 // With so many of the states that were resolved, from the last, a new one is compared.

@@ -1,23 +1,23 @@
 // What is kept of a resolution that was worked out from nothing.
 ghost use Rattle.std.specs.Prelude.{◌≡◌, ◌<◌, All, IfOk, IfSome, IsTrue, length, map, true};
 ghost use Rattle.mx_orders.specs.Mainline.{mainline, mainline_order as ordered, power_key};
-ghost use Rattle.mx_orders.specs.StateMap.{entry as entry_at};
+ghost use Rattle.mx_graph.specs.StateMap.{entry as entry_at};
 ghost use Rattle.mx_state_res.specs.KeptResolutions.{AreChecked, IsKept, events_checked, is_settled};
-ghost use Rattle.mx_state_res.specs.Numbered.{AreKnown, state_at, without};
+ghost use Rattle.mx_state_res.specs.Numbered.{AreKnown};
+ghost use Rattle.mx_states.specs.Numbered.{state_at, without};
 ghost use Rattle.mx_state_res.specs.Resolution as definition;
-ghost use Rattle.mx_state_res.specs.Resolution.{has_entry};
+ghost use Rattle.mx_states.specs.Entries.{has_entry};
 
 use crate::checks::powers::power_events;
 use crate::checks::working_states::WorkingState;
 use crate::conflicts::numbered_conflicts::{all_are_sorted, full_conflicted_at};
 use crate::kept_resolutions::KeptResolution;
 use crate::kept_resolutions::checked_events::{CheckedEvent, checked_each};
-use crate::state_maps::StateMap;
-use crate::states::States;
-use crate::states::state_numbers::StateNo;
+use crate::kept_resolutions::touched_keys::touched_keys;
 use mx_auth::RoomVersion;
 use mx_graph::{EventNo, Graph};
 use mx_orders::mainline_order;
+use mx_states::{StateMap, StateNo, States};
 use std::alloc::{AllocError, Global};
 
 /// What is kept of a resolution, where the events in conflict are no power events.
@@ -50,11 +50,13 @@ pub(crate) fn kept_resolution(
     }
     let are_settled = are_all_settled(graph, states, *base, &differing, &full);
     let order = order_checked(version, alloc, graph, states, *base, &differing, &full)?;
+    let touched = touched_keys(version, alloc, graph, &order)?;
     let numbers = Vec::from_slice(alloc, numbers)?;
     Ok(Some(KeptResolution {
         numbers,
         differing,
         order,
+        touched,
         are_settled,
         resolved,
     }))
@@ -76,6 +78,7 @@ fn order_checked(
     ensures order { IfOk result (λ order. events_checked order.items
         ≡ ordered graph.now (mainline graph.now (entry_at (without differing.now (state_at states.now base)) power_key)) full.now) }
     ensures checked { IfOk result (λ order. AreChecked version graph.now (without differing.now (state_at states.now base)) order.items) }
+    ensures known { IfOk result (λ order. All (λ checked. checked.event < length graph.now) order.items) }
 {
     states.state_is_sorted(base);
     let mut state = WorkingState::without(alloc, states.state(base), differing);

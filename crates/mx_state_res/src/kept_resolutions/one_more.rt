@@ -1,21 +1,23 @@
 // One state more among those that were resolved.
 ghost use Rattle.std.specs.Prelude.{◌≡◌, ◌<◌, All, IfOk, IfSome, IsTrue, List, None, Some, false, length};
 ghost use Rattle.std.specs.Ordering.{is_eq};
-ghost use Rattle.mx_auth.specs.Rules.{Key, key_of};
+ghost use Rattle.mx_pdu.specs.StateKeys.{Key};
+ghost use Rattle.mx_auth.specs.Rules.{key_of};
 ghost use Rattle.mx_graph.specs.Record as record_of;
 ghost use Rattle.mx_graph.specs.Record.{Row};
-ghost use Rattle.mx_orders.specs.StateMap.{entry as entry_at, key_cmp};
+ghost use Rattle.mx_graph.specs.StateMap.{entry as entry_at, key_cmp};
 ghost use Rattle.mx_state_res.specs.KeptResolutions.{IsKept, made_by};
-ghost use Rattle.mx_state_res.specs.Numbered.{AreAdded, AreKnown, state_at};
+ghost use Rattle.mx_state_res.specs.Numbered.{AreAdded, AreKnown};
+ghost use Rattle.mx_states.specs.Numbered.{state_at};
 
 use crate::kept_resolutions::KeptResolution;
 use crate::kept_resolutions::added_events::added_event;
 use crate::kept_resolutions::checked_events::CheckedEvent;
 use crate::kept_resolutions::outcomes::{Outcome, outcome_of};
-use crate::states::States;
-use crate::states::state_numbers::StateNo;
+use crate::kept_resolutions::touched_keys::add_keys;
 use mx_auth::RoomVersion;
 use mx_graph::{EventNo, Graph, graph_is_sound};
+use mx_states::{StateNo, States};
 use std::alloc::{AllocError, Global};
 
 // Where more keys are in conflict, the newest state is not what is resolved.
@@ -59,6 +61,7 @@ pub(crate) fn resolve_one_more(
     let resolved = resolved_by(alloc, graph, states, &kept, *newest, event, outcome)?;
     kept.differing.insert(row.kind(), state_key, event)?;
     let is_put = outcome.is_put();
+    add_keys(version, graph, &mut kept.touched, event, is_put)?;
     kept.order.insert(place, CheckedEvent { event, is_put })?;
     kept.numbers.push(*newest)?;
     kept.resolved = resolved;

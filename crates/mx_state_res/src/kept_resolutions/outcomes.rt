@@ -1,26 +1,25 @@
 // What becomes of an event among others that are checked.
-ghost use Rattle.std.specs.Prelude.{◌≡◌, ◌≤◌, ◌<◌, ◌++◌, ◌∷◌, IfOk, IfSome, Some, T, [], All, drop, false, length, take};
-ghost use Rattle.std.specs.FinMap.Entries.{is_sorted};
-ghost use Rattle.mx_auth.specs.Rules.{Key, key_of};
+ghost use Rattle.std.specs.Prelude.{◌≡◌, ◌≤◌, ◌<◌, ◌++◌, ◌∷◌, IfOk, IfSome, Some, [], drop, false, length, take};
+ghost use Rattle.mx_pdu.specs.StateKeys.{Key};
+ghost use Rattle.mx_auth.specs.Rules.{key_of};
 ghost use Rattle.mx_graph.specs.Record as record_of;
 ghost use Rattle.mx_graph.specs.Record.{is_in};
 ghost use Rattle.mx_orders.specs.Mainline.{mainline_cmp, put_in_order};
-ghost use Rattle.mx_orders.specs.StateMap.{key_cmp};
-ghost use Rattle.mx_state_res.specs.KeptResolutions.{AreChecked, IsKept, IsOutcome, events_checked, states_of};
+ghost use Rattle.mx_state_res.specs.KeptResolutions.{IsKept, IsOutcome, events_checked, state_before, states_of};
 ghost use Rattle.mx_state_res.specs.LaterResolution.{agreed_line};
-ghost use Rattle.mx_state_res.specs.Numbered.{AreKnown, shown_by, state_at};
+ghost use Rattle.mx_state_res.specs.Numbered.{AreKnown};
+ghost use Rattle.mx_states.specs.Numbered.{state_at};
 ghost use Rattle.mx_state_res.specs.Resolution.{iterative_auth_checks, unconflicted};
 
 use crate::checks::working_states::WorkingState;
 use crate::kept_resolutions::KeptResolution;
 use crate::kept_resolutions::added_places::place_of;
-use crate::kept_resolutions::checked_events::{
-    CheckedEvent, is_put, put_each, stays, stays_unneeded,
-};
-use crate::state_maps::StateMap;
-use crate::states::States;
+use crate::kept_resolutions::checked_events::is_put;
+use crate::kept_resolutions::checked_places::{KeptChecks, is_put_at_place, stays_behind};
+use crate::kept_resolutions::standing_events::PutEvent;
 use mx_auth::RoomVersion;
 use mx_graph::{EventNo, Graph, graph_is_sound};
+use mx_states::{StateMap, States};
 use std::alloc::{AllocError, Global};
 
 /// What becomes of an event among others that are checked.
@@ -95,9 +94,14 @@ pub(crate) fn outcome_of(
         let outcome = outcome_at_end(version, alloc, graph, states, kept, event);
         return Ok(Some((place, outcome)));
     }
-    let (before, after) = kept.order.split_at(place);
-    put_each(graph, &mut state, before)?;
-    match outcome_in(version, graph, &mut state, event, after)? {
+    let checks = KeptChecks {
+        version,
+        alloc,
+        graph,
+        states,
+        kept,
+    };
+    match outcome_at(&checks, place, event)? {
         Some(outcome) => Ok(Some((place, outcome))),
         None => Ok(None),
     }
@@ -127,35 +131,35 @@ fn outcome_at_end(
     }
 }
 
-// What becomes of an event that is checked in a state, and followed by others.
-fn outcome_in(
-    version: RoomVersion,
-    graph: &Graph,
-    state: &mut WorkingState<'_>,
+// What becomes of an event at a place among others that are checked.
+fn outcome_at(
+    checks: &KeptChecks<'_>,
+    place: usize,
     event: EventNo,
-    after: &[CheckedEvent],
 ) -> Result<Option<Outcome>, AllocError>
-    requires event { event < length graph.now }
-    requires after { All (λ checked. checked.event < length graph.now) after.now }
-    requires known { All (λ e. e.1 < length graph.now) (shown_by state.old) }
-    requires sorted { T (is_sorted key_cmp (shown_by state.old)) }
-    requires checked { AreChecked version graph.now (shown_by state.old) after.now }
-    ensures { (key : Key) → key_of (record_of.event graph.now event) ≡ Some key → IfOk result (λ told. IfSome told
-        (IsOutcome version graph.now key event (shown_by state.old) (events_checked after.now))) }
+    requires known { AreKnown checks.now.graph.now checks.now.states.now }
+    requires kept { IsKept checks.now.version checks.now.graph.now checks.now.states.now checks.now.kept.now }
+    requires place { place ≤ length checks.now.kept.now.order.items }
+    requires event { event < length checks.now.graph.now }
+    ensures { (key : Key) → key_of (record_of.event checks.now.graph.now event) ≡ Some key → IfOk result (λ told. IfSome told
+        (IsOutcome checks.now.version checks.now.graph.now key event
+        (state_before checks.now.version checks.now.graph.now checks.now.states.now checks.now.kept.now place)
+        (drop place (events_checked checks.now.kept.now.order.items)))) }
 {
-    if !is_put(version, graph, state, event) {
+    if !is_put_at_place(checks, place, event)? {
         return Ok(Some(Outcome::Refused));
     }
-    let row = &graph.row(event).event;
+    let row = &checks.graph.row(event).event;
     let kind = row.kind();
     let Some(state_key) = row.state_key() else {
         return Ok(None);
     };
-    if let Some(is_last) = stays_unneeded(version, graph, kind, state_key, after) {
-        return Ok(Some(Outcome::of_put(is_last)));
-    }
-    state.insert(kind, state_key, event)?;
-    let Some(is_last) = stays(version, graph, state, kind, state_key, after)? else {
+    let put = PutEvent {
+        event,
+        kind,
+        state_key,
+    };
+    let Some(is_last) = stays_behind(checks, place, &put)? else {
         return Ok(None);
     };
     Ok(Some(Outcome::of_put(is_last)))

@@ -2,15 +2,14 @@
 ghost use Rattle.std.specs.Prelude.{◌≡◌, ◌<◌, ℕ, All, IfSome, length, true};
 ghost use Rattle.mx_graph.specs.Graph.{auth_chain};
 ghost use Rattle.mx_graph.specs.Record.{is_in};
-ghost use Rattle.mx_orders.specs.StateMap.{events_of};
+ghost use Rattle.mx_graph.specs.StateMap.{events_of};
 ghost use Rattle.mx_state_res.specs.ChainDifference.{cites};
 ghost use Rattle.mx_state_res.specs.KeptResolutions.{AllCiteReached, CitesReached, events_checked};
 ghost use Rattle.mx_state_res.specs.LaterResolution.{is_reached};
 
-use crate::entries::StateEntry;
 use crate::kept_resolutions::checked_events::{CheckedEvent, is_checked};
-use crate::states::state_refs::StateRef;
 use mx_graph::{EventNo, Graph, graph_is_sound};
+use mx_states::{StateEntry, StateRef};
 
 /// Whether each of two states reaches what the events of the other one at these keys cite. It takes no memory.
 pub(crate) fn reach_alike(

@@ -4,14 +4,14 @@ ghost use Rattle.std.specs.List.{list_all, list_any};
 ghost use Rattle.mx_graph.specs.Edges.{Rises};
 ghost use Rattle.mx_graph.specs.Graph.{auth_chain};
 ghost use Rattle.mx_graph.specs.Record.{is_in};
-ghost use Rattle.mx_orders.specs.StateMap.{events_of as events_in};
+ghost use Rattle.mx_graph.specs.StateMap.{events_of as events_in};
 ghost use Rattle.mx_state_res.specs.Agreed.{IsAgreed};
 ghost use Rattle.mx_state_res.specs.Resolution as definition;
 
 use crate::conflicts::rising_lists::stands_in;
 use crate::conflicts::{conflicted_events, events_of, joined};
-use crate::state_maps::StateMap;
 use mx_graph::{EventNo, Graph, rising};
+use mx_states::StateMap;
 use std::alloc::{AllocError, Global};
 
 /// The set of [`full_conflicted`](crate::full_conflicted), by a plain body under the same contract: it joins the whole

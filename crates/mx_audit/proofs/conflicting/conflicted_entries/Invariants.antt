@@ -1,5 +1,5 @@
 use Rattle.std.proofs.Common.{◌≡◌, filter, map, not, take}
-use Rattle.mx_state_res.specs.Resolution.{has_entry}
+use Rattle.mx_states.specs.Entries.{has_entry}
 use Rattle.mx_audit.proofs.conflicting.conflicted_entries.Given as goal
 
 -- those of the states so far

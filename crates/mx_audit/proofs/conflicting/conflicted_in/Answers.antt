@@ -1,10 +1,11 @@
 use Rattle.std.proofs.Common.{◌+◌, ℕ, Bool, not, drop, filter, sym, ap, subst, ◌∙◌, arith}
 use Rattle.std.specs.FinMap.Entries.{put}
-use Rattle.mx_auth.specs.Rules.{Key}
-use Rattle.mx_orders.specs.StateMap.{key_cmp}
-use Rattle.mx_state_res.specs.Resolution.{has_entry, overwritten}
-use Rattle.mx_state_res.proofs.KeyLemmas.{Sorted, sorted-filter}
-use Rattle.mx_state_res.proofs.AgreedLemmas.{overwritten-empty, put-kept, put-other}
+use Rattle.mx_pdu.specs.StateKeys.{Key}
+use Rattle.mx_graph.specs.StateMap.{key_cmp}
+use Rattle.mx_states.specs.Entries.{has_entry, overwritten}
+use Rattle.mx_states.proofs.KeyLemmas.{Sorted, sorted-filter}
+use Rattle.mx_states.proofs.OverwrittenLemmas.{overwritten-empty}
+use Rattle.mx_state_res.proofs.AgreedLemmas.{put-kept, put-other}
 use Rattle.mx_lines.proofs.WalkLemmas.{left-at}
 use Rattle.mx_audit.proofs.conflicting.conflicted_in.Goals as goal
 use Rattle.mx_audit.proofs.conflicting.conflicted_in.Goals.{then-lacks+in_ok-insert, else-lacks}

@@ -1,5 +1,5 @@
 use Rattle.std.proofs.Common.{◌≡◌, drop, filter, not}
-use Rattle.mx_state_res.specs.Resolution.{has_entry, overwritten}
+use Rattle.mx_states.specs.Entries.{has_entry, overwritten}
 use Rattle.mx_audit.proofs.conflicting.conflicted_in.Given as goal
 
 -- the entries so far, with those that are left, are all

@@ -2,7 +2,7 @@ use Rattle.std.proofs.Common.{◌++◌, ◌∷◌, [], Some, codes, refl, subst,
 use Rattle.std.specs.Str.{chars}
 use Rattle.serde_json.specs.Data.{string}
 use Rattle.mx_canon.specs.Canonical.{value_text}
-use Rattle.mx_auth.specs.Rules.{Key}
+use Rattle.mx_pdu.specs.StateKeys.{Key}
 use Rattle.mx_lines.proofs.LineLemmas.{object-written}
 use Rattle.mx_lines.specs.Lines.{text_or_null}
 use Rattle.mx_lines.specs.Written.{opened, with_members}

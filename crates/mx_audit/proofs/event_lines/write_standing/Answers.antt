@@ -2,7 +2,7 @@ use Rattle.std.proofs.Common.{◌∷◌, [], Some, codes, subst, ap₂, ◌∙�
 use Rattle.std.specs.Str.{chars}
 use Rattle.serde_json.specs.Data.{boolean}
 use Rattle.mx_graph.specs.Record.{Row}
-use Rattle.mx_orders.specs.StateMap.{State}
+use Rattle.mx_graph.specs.StateMap.{State}
 use Rattle.mx_audit.specs.EventLines.{stands_in}
 use Rattle.mx_lines.specs.Written.{with_members}
 use Rattle.mx_audit.proofs.event_lines.write_standing.Goals as goal

@@ -1,6 +1,6 @@
 use Rattle.std.proofs.Common.{◌≡◌, ◌+◌, ◌++◌, suc, drop, sym, ap, ◌∙◌, arith, subst, append_assoc, append-nil}
 use Rattle.std.proofs.lemmas.List.{drop_all}
-use Rattle.mx_orders.specs.StateMap.{State}
+use Rattle.mx_graph.specs.StateMap.{State}
 use Rattle.mx_audit.specs.EventLines.{conflict_text, conflicts_text}
 use Rattle.mx_lines.proofs.WalkLemmas.{left-at}
 use Rattle.mx_audit.proofs.resolution_lines.write_conflicts.Goals as goal

@@ -2,7 +2,7 @@ use Rattle.std.proofs.Common.{◌≡◌, ◌<◌, ℕ, List, Option, length, not
 use Rattle.std.specs.List.{All}
 use Rattle.mx_graph.specs.Record.{is_in}
 use Rattle.mx_orders.specs.Lists.{Distinct}
-use Rattle.mx_orders.specs.StateMap.{State, entry}
+use Rattle.mx_graph.specs.StateMap.{State, entry}
 use Rattle.mx_orders.specs.PowerOrder.{power_order}
 use Rattle.mx_orders.specs.Mainline.{power_key, mainline, mainline_order}
 use Rattle.mx_state_res.specs.Resolution.{unconflicted, full_conflicted, power_events, iterative_auth_checks}

@@ -13,3 +13,8 @@ returns-clause-cited c p q l m =
     let es = c.args.collected.now.events.items in
     let passed : p < c.loop-event.event-index = omega arith in
     ap (λ xs. is_in xs q) (c.loop-event.invariant.so_far p passed) ∙ named-places es (get (slice_cmp nat_cmp) c.args.collected.now.places) c.requires (cited_ids (event_at es p)) q m
+
+pub returns-clause-found : goal.returns-clause-found
+returns-clause-found c p l =
+    let passed : p < c.loop-event.event-index = omega arith in
+    c.loop-event.invariant.so_far p passed

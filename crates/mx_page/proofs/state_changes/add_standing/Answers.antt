@@ -1,6 +1,6 @@
 use Rattle.std.proofs.Common.{◌++◌, ◌+◌, arith, drop, ap, ◌∙◌}
 use Rattle.std.specs.List.{flat_map}
-use Rattle.mx_orders.specs.StateMap.{State}
+use Rattle.mx_graph.specs.StateMap.{State}
 use Rattle.mx_page.specs.Changes.{change_at}
 use Rattle.mx_page.proofs.PieceLemmas.{list-on, list-all}
 use Rattle.mx_page.proofs.state_changes.add_standing.Goals as goal

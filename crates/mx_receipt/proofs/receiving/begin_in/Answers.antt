@@ -2,8 +2,10 @@ use Rattle.std.proofs.Common.{◌≡◌, ◌<◌, ◌++◌, ◌∷◌, List, [],
 use Rattle.mx_graph.specs.Adding.{add_error}
 use Rattle.mx_graph.specs.Graph.{IsSound}
 use Rattle.mx_graph.specs.Record.{Row}
-use Rattle.mx_orders.specs.StateMap.{State, with_event}
-use Rattle.mx_state_res.specs.Numbered.{AreAdded, state_at}
+use Rattle.mx_graph.specs.StateMap.{State}
+use Rattle.mx_orders.specs.StateMap.{with_event}
+use Rattle.mx_state_res.specs.Numbered.{AreAdded}
+use Rattle.mx_states.specs.Numbered.{state_at}
 use Rattle.mx_receipt.specs.Receipt.{resolve_in}
 use Rattle.mx_receipt.specs.Judgements.{IsHeld, IsJudged, afters, is_marked, judged_by, judged_in}
 use Rattle.mx_receipt.specs.Receipt.{states_at}

@@ -4,7 +4,7 @@ use Rattle.mx_auth.specs.Rules.{rules}
 use Rattle.mx_graph.specs.Edges.{Rises}
 use Rattle.mx_graph.specs.Record.{is_in, events_where, prev_events}
 use Rattle.mx_orders.specs.StateMap.{with_event, view}
-use Rattle.mx_state_res.specs.Numbered.{state_at}
+use Rattle.mx_states.specs.Numbered.{state_at}
 use Rattle.mx_receipt.specs.Receipt.{resolve_in, version_in}
 use Rattle.mx_receipt.specs.Judgements.{Judged, judged_in, kept_of, afters, verdicts_in, AreAfter, AreCovered, Knows, replaced}
 use Rattle.mx_receipt.specs.Receipt.{states_at, state_before_next, is_rejected, accept_or, auth_failure}

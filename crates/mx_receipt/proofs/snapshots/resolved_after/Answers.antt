@@ -1,7 +1,7 @@
 use Rattle.std.proofs.Common.{◌≡◌, ◌<◌, [], ◌∷◌, length, ap, map, subst, ◌∙◌, arith}
 use Rattle.std.specs.Prelude.{slice_index_or}
 use Rattle.std.specs.List.{All}
-use Rattle.mx_state_res.specs.Numbered.{state_at}
+use Rattle.mx_states.specs.Numbered.{state_at}
 use Rattle.mx_receipt.specs.Receipt.{resolve_in, version_in}
 use Rattle.mx_state_res.proofs.SameMembersLemmas.{all-within, resolve-each}
 use Rattle.mx_receipt.proofs.HeldLemmas.{after-numbers, numbered}

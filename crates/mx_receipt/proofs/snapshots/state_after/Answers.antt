@@ -2,9 +2,9 @@ use Rattle.std.proofs.Common.{◌<◌, length}
 use Rattle.std.proofs.lemmas.List.Elements.{All-get_or}
 use Rattle.std.specs.Prelude.{[]}
 use Rattle.std.specs.List.{All}
-use Rattle.mx_orders.specs.StateMap.{key_cmp}
-use Rattle.mx_state_res.specs.Numbered.{state_at}
-use Rattle.mx_state_res.proofs.KnownLemmas.{put-known}
+use Rattle.mx_graph.specs.StateMap.{key_cmp}
+use Rattle.mx_states.specs.Numbered.{state_at}
+use Rattle.mx_states.proofs.KnownLemmas.{put-known}
 use Rattle.mx_receipt.proofs.HeldLemmas.{one-added}
 use Rattle.mx_receipt.proofs.snapshots.state_after.Goals as goal
 

@@ -3,7 +3,7 @@ use Rattle.std.specs.Prelude.{min}
 use Rattle.mx_canon.specs.Canonical.{largest}
 use Rattle.mx_graph.specs.Depths.{greatest_depth}
 use Rattle.mx_orders.specs.Mainline.{sorted}
-use Rattle.mx_orders.specs.StateMap.{entry}
+use Rattle.mx_graph.specs.StateMap.{entry}
 use Rattle.mx_receipt.specs.Receipt.{current_state, rows_of}
 use Rattle.mx_room.specs.Answers.{join_keys}
 use Rattle.mx_room.specs.Queries.{depth_falling, ids_of, join_event, join_prev_events}

@@ -5,6 +5,7 @@ use Rattle.mx_pdu.specs.Event.{room_of}
 use Rattle.mx_keeper.specs.declared.rows.ShardRow.{ShardRow}
 use Rattle.mx_room.specs.Queries.{room_version}
 use Rattle.mx_room.specs.RoomView.{RoomView}
+use Rattle.mx_room.proofs.RoomLemmas.{at-error}
 use Rattle.mx_shard.specs.Inside.{rows_at}
 use Rattle.mx_shard.proofs.ChangeLemmas.{not_host, new_hosted, no_cause}
 use Rattle.mx_shard.proofs.hosting.hosting_in.Goals as goal
@@ -31,3 +32,21 @@ returns-in-Err-Memory-clause-memory c =
     let missing : find (λ (r : RoomView). bytes_eq r.id (room_of c.args.offered.now.pdu)) c.args.rooms.now ≡ None =
     ap (λ id. find (λ (r : RoomView). bytes_eq r.id id) c.args.rooms.now) (sym c.room_id.ensures) ∙ sym c.room_with.ensures ∙ ap option_copied c.in_default.is in
     new_hosted c.args.rooms.now c.args.offered.now missing (no_cause c.args.offered.now c.in-Err-Memory.field-0 c.in-Err-Memory.field-0-is c.in-Err-Memory.ensures.refused)
+
+pub returns-in_err-id-in-Ok-clause-memory : goal.returns-in_err-id-in-Ok-clause-memory
+returns-in_err-id-in-Ok-clause-memory c =
+    let missing : find (λ (r : RoomView). bytes_eq r.id (room_of c.args.offered.now.pdu)) c.args.rooms.now ≡ None =
+    ap (λ id. find (λ (r : RoomView). bytes_eq r.id id) c.args.rooms.now) (sym c.room_id.ensures) ∙ sym c.room_with.ensures ∙ ap option_copied c.in_default.is in
+    at-error c.from_residual-in_err-id-in-Ok.result (new_hosted c.args.rooms.now c.args.offered.now missing c.in-Ok.ensures.free)
+
+pub returns-in_err-event-in-Ok-clause-memory : goal.returns-in_err-event-in-Ok-clause-memory
+returns-in_err-event-in-Ok-clause-memory c =
+    let missing : find (λ (r : RoomView). bytes_eq r.id (room_of c.args.offered.now.pdu)) c.args.rooms.now ≡ None =
+    ap (λ id. find (λ (r : RoomView). bytes_eq r.id id) c.args.rooms.now) (sym c.room_id.ensures) ∙ sym c.room_with.ensures ∙ ap option_copied c.in_default.is in
+    at-error c.from_residual-in_err-event-in-Ok.result (new_hosted c.args.rooms.now c.args.offered.now missing c.in-Ok.ensures.free)
+
+pub returns-in_err-row-in-Ok-clause-memory : goal.returns-in_err-row-in-Ok-clause-memory
+returns-in_err-row-in-Ok-clause-memory c =
+    let missing : find (λ (r : RoomView). bytes_eq r.id (room_of c.args.offered.now.pdu)) c.args.rooms.now ≡ None =
+    ap (λ id. find (λ (r : RoomView). bytes_eq r.id id) c.args.rooms.now) (sym c.room_id.ensures) ∙ sym c.room_with.ensures ∙ ap option_copied c.in_default.is in
+    at-error c.from_residual-in_err-row-in-Ok.result (new_hosted c.args.rooms.now c.args.offered.now missing c.in-Ok.ensures.free)

@@ -1,5 +1,5 @@
 use Rattle.std.proofs.Common.{◌≡◌, filter, map, take}
-use Rattle.mx_orders.specs.StateMap.{events_of}
+use Rattle.mx_graph.specs.StateMap.{events_of}
 use Rattle.mx_state_res.proofs.ConflictLemmas.{lacks}
 use Rattle.mx_state_res.proofs.conflicts.conflicted_events.Given as goal
 

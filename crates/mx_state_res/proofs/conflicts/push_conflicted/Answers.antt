@@ -1,5 +1,5 @@
 use Rattle.std.proofs.Common.{◌≡◌, ◌++◌, Result, Ok, Err, OnErr, take, filter, ap, ◌∙◌, rules}
-use Rattle.mx_orders.specs.StateMap.{events_of}
+use Rattle.mx_graph.specs.StateMap.{events_of}
 use Rattle.mx_state_res.proofs.ConflictLemmas.{lacks}
 use Rattle.mx_state_res.proofs.conflicts.push_conflicted.Goals as goal
 

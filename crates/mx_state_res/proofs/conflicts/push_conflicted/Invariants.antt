@@ -1,5 +1,5 @@
 use Rattle.std.proofs.Common.{◌≡◌, ◌++◌, take, filter}
-use Rattle.mx_orders.specs.StateMap.{events_of}
+use Rattle.mx_graph.specs.StateMap.{events_of}
 use Rattle.mx_state_res.proofs.ConflictLemmas.{lacks}
 use Rattle.mx_state_res.proofs.conflicts.push_conflicted.Given as goal
 

@@ -2,11 +2,12 @@ use Rattle.std.proofs.Common.{◌≡◌, ◌+◌, ℕ, Bool, drop, filter, sym, 
 use Rattle.std.proofs.lemmas.List.{drop_more}
 use Rattle.std.specs.List.{list_all}
 use Rattle.std.specs.FinMap.Entries.{put}
-use Rattle.mx_auth.specs.Rules.{Key}
-use Rattle.mx_orders.specs.StateMap.{State, key_cmp}
-use Rattle.mx_state_res.specs.Resolution.{has_entry, overwritten}
-use Rattle.mx_state_res.proofs.KeyLemmas.{Sorted, sorted-filter}
-use Rattle.mx_state_res.proofs.AgreedLemmas.{overwritten-empty, put-kept, put-other}
+use Rattle.mx_pdu.specs.StateKeys.{Key}
+use Rattle.mx_graph.specs.StateMap.{State, key_cmp}
+use Rattle.mx_states.specs.Entries.{has_entry, overwritten}
+use Rattle.mx_states.proofs.KeyLemmas.{Sorted, sorted-filter}
+use Rattle.mx_states.proofs.OverwrittenLemmas.{overwritten-empty}
+use Rattle.mx_state_res.proofs.AgreedLemmas.{put-kept, put-other}
 use Rattle.mx_state_res.proofs.conflicts.shared.Goals as goal
 use Rattle.mx_state_res.proofs.conflicts.shared.Goals.{then-is_in_every+in_ok-insert, else-is_in_every}
 

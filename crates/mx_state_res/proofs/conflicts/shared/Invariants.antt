@@ -1,6 +1,6 @@
 use Rattle.std.proofs.Common.{◌≡◌, drop, filter}
 use Rattle.std.specs.List.{list_all}
-use Rattle.mx_state_res.specs.Resolution.{has_entry, overwritten}
+use Rattle.mx_states.specs.Entries.{has_entry, overwritten}
 use Rattle.mx_state_res.proofs.conflicts.shared.Given as goal
 
 -- the shared entries so far, with those that are left, are all

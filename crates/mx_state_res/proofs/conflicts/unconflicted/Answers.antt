@@ -3,7 +3,8 @@ use Rattle.std.proofs.lemmas.List.{nil_from_length}
 use Rattle.std.proofs.lemmas.Result.{IfOk-weaker}
 use Rattle.std.specs.List.{list_all}
 use Rattle.mx_state_res.specs.Agreed.{IsAgreed}
-use Rattle.mx_state_res.specs.Resolution.{has_entry, unconflicted}
+use Rattle.mx_states.specs.Entries.{has_entry}
+use Rattle.mx_state_res.specs.Resolution.{unconflicted}
 use Rattle.mx_state_res.proofs.SetLemmas.{shown}
 use Rattle.mx_state_res.proofs.AgreedLemmas.{agreed-is, agreed-none, agreed-every}
 use Rattle.mx_state_res.proofs.conflicts.unconflicted.Goals as goal

@@ -1,7 +1,7 @@
 use Rattle.std.proofs.Common.{◌≡◌, map, ap, subst, ◌∙◌}
 use Rattle.std.specs.Prelude.{IfSome}
 use Rattle.mx_state_res.specs.KeptResolutions.{IsKept}
-use Rattle.mx_state_res.specs.Numbered.{state_at}
+use Rattle.mx_states.specs.Numbered.{state_at}
 use Rattle.mx_state_res.specs.Resolution.{resolve}
 use Rattle.mx_state_res.specs.declared.kept_resolutions.KeptResolution.{KeptResolution}
 use Rattle.mx_state_res.proofs.KeptGrowthLemmas.{grown-states, option-grown}

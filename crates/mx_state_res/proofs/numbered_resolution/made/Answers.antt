@@ -1,6 +1,6 @@
 use Rattle.std.proofs.Common.{refl, sym}
-use Rattle.mx_state_res.specs.Numbered.{state_at}
-use Rattle.mx_state_res.proofs.ChangeLemmas.{change-none}
+use Rattle.mx_states.specs.Numbered.{state_at}
+use Rattle.mx_state_res.proofs.ResolvingLemmas.{change-none}
 use Rattle.mx_state_res.proofs.numbered_resolution.made.Goals as goal
 
 pub returns-then-is_empty-clause-made : goal.returns-then-is_empty-clause-made

@@ -1,9 +1,9 @@
 use Rattle.std.proofs.Common.{length, map, sym, ap, ◌∙◌, eqb-true}
 use Rattle.std.proofs.lemmas.List.{nil_from_length}
-use Rattle.mx_state_res.specs.Numbered.{state_at}
+use Rattle.mx_states.specs.Numbered.{state_at}
 use Rattle.mx_state_res.specs.Resolution.{resolve}
 use Rattle.mx_state_res.proofs.NumberedLemmas.{empty-added}
-use Rattle.mx_state_res.proofs.ChangeLemmas.{nothing-at, resolve-none}
+use Rattle.mx_state_res.proofs.ResolvingLemmas.{nothing-at, resolve-none}
 use Rattle.mx_state_res.proofs.numbered_resolution.resolve_each.Goals as goal
 
 pub returns-in_default-clause-resolved : goal.returns-in_default-clause-resolved

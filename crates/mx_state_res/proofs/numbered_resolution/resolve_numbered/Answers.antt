@@ -1,7 +1,7 @@
 use Rattle.std.proofs.Common.{◌≡◌, ◌<◌, length, map, ap, ◌∙◌}
 use Rattle.std.proofs.lemmas.Result.{IfOk-weaker}
 use Rattle.mx_graph.specs.Record.{is_in}
-use Rattle.mx_state_res.specs.Numbered.{state_at}
+use Rattle.mx_states.specs.Numbered.{state_at}
 use Rattle.mx_state_res.specs.Resolution.{resolve}
 use Rattle.mx_state_res.proofs.SameMembersLemmas.{all-within, resolve-each}
 use Rattle.mx_state_res.proofs.numbered_resolution.resolve_numbered.Goals as goal

@@ -1,7 +1,7 @@
 use Rattle.std.proofs.Common.{◌≡◌, ◌<◌, length, drop}
 use Rattle.std.proofs.lemmas.List.Elements.{All-take, All-drop}
-use Rattle.mx_state_res.specs.Numbered.{state_at, without}
-use Rattle.mx_state_res.proofs.ChangeLemmas.{alike-at}
+use Rattle.mx_states.specs.Numbered.{state_at, without}
+use Rattle.mx_state_res.proofs.ResolvingLemmas.{alike-at}
 use Rattle.mx_state_res.proofs.numbered_resolution.resolving_change.Goals as goal
 
 pub least_change-requires-clause-alike : goal.least_change-requires-clause-alike

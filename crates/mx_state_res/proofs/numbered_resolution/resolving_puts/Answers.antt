@@ -1,10 +1,11 @@
 use Rattle.std.proofs.Common.{◌≡◌, ◌<◌, length, sym, ap, ap₂, subst, ◌∙◌}
 use Rattle.std.specs.List.{All}
-use Rattle.mx_state_res.specs.Numbered.{checked, edited, shown_by, state_at, without}
-use Rattle.mx_state_res.proofs.KeyLemmas.{Sorted}
+use Rattle.mx_state_res.specs.Numbered.{checked, shown_by}
+use Rattle.mx_states.specs.Numbered.{edited, state_at, without}
+use Rattle.mx_states.proofs.KeyLemmas.{Sorted}
 use Rattle.mx_state_res.proofs.NumberedLemmas.{first-number}
 use Rattle.mx_state_res.proofs.NumberedConflictLemmas.{known-one}
-use Rattle.mx_state_res.proofs.ChangeLemmas.{resolved-at, restored-known, without-known}
+use Rattle.mx_state_res.proofs.ResolvingLemmas.{resolved-at, restored-known, without-known}
 use Rattle.mx_state_res.proofs.numbered_resolution.resolving_puts.Goals as goal
 
 pub check_conflicted-requires-clause-known : goal.check_conflicted-requires-clause-known

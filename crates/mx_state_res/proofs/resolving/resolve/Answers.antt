@@ -3,7 +3,7 @@ use Rattle.std.specs.List.{All}
 use Rattle.mx_graph.proofs.Members.{In}
 use Rattle.mx_state_res.specs.Numbered.{checked}
 use Rattle.mx_state_res.proofs.AgreedLemmas.{agreed-known}
-use Rattle.mx_state_res.proofs.EntryLemmas.{puts-alone}
+use Rattle.mx_state_res.proofs.WorkingLemmas.{puts-alone}
 use Rattle.mx_state_res.proofs.SetLemmas.{shown}
 use Rattle.mx_state_res.proofs.OrderLemmas.{unconflicted-known, overwritten-known, resolve-is}
 use Rattle.mx_state_res.proofs.resolving.resolve.Goals as goal

@@ -1,7 +1,7 @@
 use Rattle.std.proofs.Common.{◌<◌, length, sym, subst, rules}
 use Rattle.std.specs.List.{All}
-use Rattle.mx_orders.specs.StateMap.{key_cmp}
-use Rattle.mx_state_res.proofs.KnownLemmas.{put-known}
+use Rattle.mx_graph.specs.StateMap.{key_cmp}
+use Rattle.mx_states.proofs.KnownLemmas.{put-known}
 use Rattle.mx_state_tests.proofs.conflict_tests.random_state.Goals as goal
 
 pub loop-kind-preserved : goal.loop-kind-preserved

@@ -1,7 +1,7 @@
 use Rattle.std.proofs.Common.{◌<◌, length, sym, subst, rules}
 use Rattle.std.specs.List.{All}
-use Rattle.mx_orders.specs.StateMap.{key_cmp}
-use Rattle.mx_state_res.proofs.KnownLemmas.{put-known}
+use Rattle.mx_graph.specs.StateMap.{key_cmp}
+use Rattle.mx_states.proofs.KnownLemmas.{put-known}
 use Rattle.mx_state_tests.proofs.resolution_tests.put_event.Goals as goal
 
 pub returns : goal.returns

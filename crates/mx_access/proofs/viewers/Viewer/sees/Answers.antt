@@ -1,5 +1,5 @@
 use Rattle.std.proofs.Common.{◌≡◌, List, sym, ap, ◌∙◌}
-use Rattle.mx_orders.specs.StateMap.{State}
+use Rattle.mx_graph.specs.StateMap.{State}
 use Rattle.mx_receipt.specs.Receipt.{Kept, state_before}
 use Rattle.mx_access.specs.Access.{visible_under}
 use Rattle.mx_access.specs.ViewerView.{ViewerView}

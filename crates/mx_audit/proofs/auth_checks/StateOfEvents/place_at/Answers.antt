@@ -1,5 +1,6 @@
 use Rattle.std.proofs.Common.{ap, sym, ◌∙◌}
-use Rattle.mx_orders.specs.StateMap.{entry, state_of}
+use Rattle.mx_graph.specs.StateMap.{entry}
+use Rattle.mx_orders.specs.StateMap.{state_of}
 use Rattle.mx_orders.proofs.StateLemmas.{entry-state_of}
 use Rattle.mx_receipt.specs.Receipt.{rows_of}
 use Rattle.mx_audit.proofs.auth_checks.StateOfEvents.place_at.Goals as goal

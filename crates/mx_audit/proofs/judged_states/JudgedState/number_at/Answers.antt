@@ -1,6 +1,6 @@
 use Rattle.std.proofs.Common.{◌<◌, length, IfSome, sym, subst}
-use Rattle.mx_orders.specs.StateMap.{key_cmp}
-use Rattle.mx_state_res.proofs.KnownLemmas.{find-known}
+use Rattle.mx_graph.specs.StateMap.{key_cmp}
+use Rattle.mx_states.proofs.KnownLemmas.{find-known}
 use Rattle.mx_audit.proofs.judged_states.JudgedState.number_at.Goals as goal
 
 -- the state's events are known

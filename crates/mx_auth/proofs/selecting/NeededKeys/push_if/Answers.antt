@@ -1,5 +1,5 @@
 use Rattle.std.proofs.Common.{arith, length-set, ◌∙◌, ap, ◌++◌, ◌∷◌, [], List}
-use Rattle.mx_auth.specs.Rules.{Key}
+use Rattle.mx_pdu.specs.StateKeys.{Key}
 use Rattle.mx_auth.proofs.KeyLemmas.{room_left, one_more}
 use Rattle.mx_auth.proofs.selecting.NeededKeys.push_if.Goals as goal
 

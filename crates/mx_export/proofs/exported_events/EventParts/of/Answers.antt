@@ -17,7 +17,7 @@ returns-clause-sound c =
     let event = object (members_view c.args.event.now.entries) in
     subst (AreOf _) (sym (value-read c.args.text.items event c.requires.reads)) (record {
       text = c.requires.text;
-      id = c.in_ok-id.ensures;
+      id = c.requires.id;
       room = c.in_ok-room_id.ensures;
       sender = c.in_ok-sender.ensures;
       prev = c.in_ok-prev_events.ensures;

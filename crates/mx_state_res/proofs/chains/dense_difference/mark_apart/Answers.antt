@@ -2,6 +2,7 @@ use Rattle.std.proofs.Common.{◌≡◌, ◌<◌, ◌==◌, ◌^◌, [], ℕ, Ve
 use Rattle.std.proofs.lemmas.List.{get_or-map}
 use Rattle.std.proofs.lemmas.Nat.{pow_below}
 use Rattle.std.specs.declared.alloc.Global.{Global}
+use Rattle.mx_state_res.specs.ChainDifference.{is_cited}
 use Rattle.mx_state_res.specs.RowSets.{has_state, is_reached}
 use Rattle.mx_state_res.proofs.ApartLemmas.{apart-below, apart-rest}
 use Rattle.mx_state_res.proofs.StateSetLemmas.{has-only}
@@ -31,6 +32,6 @@ loop-i-preserved c =
       all = c.mark_each.ensures.all ∙ c.loop-i.invariant.all;
       len = c.mark_each.ensures.len ∙ c.loop-i.invariant.len;
       counted = c.mark_each.ensures.counted;
-      below = apart-below rows lists i others here first old new mask only c.mark_each.ensures.reached c.loop-i.invariant.below c.loop-i.invariant.others;
-      others = apart-rest rows lists i others here first old new mask only c.mark_each.ensures.reached c.loop-i.invariant.below c.loop-i.invariant.others;
+      below = apart-below (is_cited rows) lists i others here first old new mask only c.mark_each.ensures.reached c.loop-i.invariant.below c.loop-i.invariant.others;
+      others = apart-rest (is_cited rows) lists i others here first old new mask only c.mark_each.ensures.reached c.loop-i.invariant.below c.loop-i.invariant.others;
     }

@@ -1,7 +1,7 @@
 use Rattle.std.proofs.Common.{◌<◌, length, sym, subst}
 use Rattle.std.specs.List.{All}
-use Rattle.mx_orders.specs.StateMap.{State, key_cmp}
-use Rattle.mx_state_res.proofs.KnownLemmas.{put-known}
+use Rattle.mx_graph.specs.StateMap.{State, key_cmp}
+use Rattle.mx_states.proofs.KnownLemmas.{put-known}
 use Rattle.mx_state_res.proofs.checks.auth_checks.check.Goals as goal
 
 -- the event that is put is known, and so were the others

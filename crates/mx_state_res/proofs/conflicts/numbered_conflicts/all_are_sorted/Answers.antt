@@ -2,9 +2,9 @@ use Rattle.std.proofs.Common.{ℕ, ◌+◌, take, ◌∷◌, [], ◌++◌, ◌�
 use Rattle.std.proofs.lemmas.List.{take_more, take_all}
 use Rattle.std.proofs.lemmas.List.Elements.{All-append}
 use Rattle.std.specs.List.{All}
-use Rattle.mx_state_res.specs.Numbered.{state_at}
-use Rattle.mx_state_res.proofs.KeyLemmas.{Sorted}
-use Rattle.mx_state_res.proofs.DifferingLemmas.{all-only}
+use Rattle.mx_states.specs.Numbered.{state_at}
+use Rattle.mx_states.proofs.KeyLemmas.{Sorted}
+use Rattle.mx_states.proofs.DifferingLemmas.{all-only}
 use Rattle.mx_state_res.proofs.conflicts.numbered_conflicts.all_are_sorted.Goals as goal
 
 pub loop-number-preserved : goal.loop-number-preserved

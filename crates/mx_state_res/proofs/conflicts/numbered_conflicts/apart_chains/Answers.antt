@@ -1,11 +1,11 @@
 use Rattle.std.proofs.Common.{◌<◌, ◌∙◌, Vec, ℕ, length, map, ap}
 use Rattle.std.specs.declared.alloc.Global.{Global}
 use Rattle.mx_graph.specs.Record.{is_in}
-use Rattle.mx_orders.specs.StateMap.{events_of}
-use Rattle.mx_state_res.specs.Numbered.{state_at, without}
+use Rattle.mx_graph.specs.StateMap.{events_of}
+use Rattle.mx_states.specs.Numbered.{state_at, without}
 use Rattle.mx_state_res.proofs.NumberedConflictLemmas.{shared-known, known-one}
 use Rattle.mx_state_res.proofs.SameMembersLemmas.{all-within}
-use Rattle.mx_state_res.proofs.SharedEventLemmas.{difference-same}
+use Rattle.mx_state_res.proofs.SameChainLemmas.{difference-same}
 use Rattle.mx_state_res.proofs.conflicts.numbered_conflicts.apart_chains.Goals as goal
 
 pub chain_difference-requires-clause-shared : goal.chain_difference-requires-clause-shared

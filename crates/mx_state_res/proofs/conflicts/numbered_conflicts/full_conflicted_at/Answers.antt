@@ -2,9 +2,9 @@ use Rattle.std.proofs.Common.{◌<◌, ◌++◌, ℕ, Vec, length, map, flat_map
 use Rattle.std.specs.List.{All}
 use Rattle.std.specs.declared.alloc.Global.{Global}
 use Rattle.mx_graph.specs.Record.{is_in}
-use Rattle.mx_orders.specs.StateMap.{events_of}
+use Rattle.mx_graph.specs.StateMap.{events_of}
 use Rattle.mx_state_res.specs.ChainDifference.{chain_difference}
-use Rattle.mx_state_res.specs.Numbered.{state_at, without}
+use Rattle.mx_states.specs.Numbered.{state_at, without}
 use Rattle.mx_state_res.proofs.ConflictLemmas.{full-known}
 use Rattle.mx_state_res.proofs.NumberedLemmas.{known-at}
 use Rattle.mx_state_res.proofs.NumberedConflictLemmas.{apart-known, full-at}

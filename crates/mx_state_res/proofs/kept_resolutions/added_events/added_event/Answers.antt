@@ -1,8 +1,8 @@
 use Rattle.std.proofs.Common.{◌-◌, arith, subst, sym}
 use Rattle.std.specs.List.{All}
 use Rattle.mx_graph.proofs.Members.{In}
-use Rattle.mx_state_res.specs.Numbered.{state_at}
-use Rattle.mx_state_res.proofs.KeyLemmas.{Sorted}
+use Rattle.mx_states.specs.Numbered.{state_at}
+use Rattle.mx_states.proofs.KeyLemmas.{Sorted}
 use Rattle.mx_state_res.proofs.KeptResolutionLemmas.{in-place}
 use Rattle.mx_state_res.proofs.kept_resolutions.added_events.added_event.Goals as goal
 

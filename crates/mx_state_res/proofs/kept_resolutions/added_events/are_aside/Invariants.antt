@@ -1,6 +1,6 @@
 use Rattle.std.proofs.Common.{◌≡◌, ◌⊎◌, ℕ, take}
 use Rattle.std.specs.List.{All}
-use Rattle.mx_auth.specs.Rules.{Key}
+use Rattle.mx_pdu.specs.StateKeys.{Key}
 use Rattle.mx_state_res.specs.KeptResolutions.{IsKeptAside}
 use Rattle.mx_state_res.proofs.kept_resolutions.added_events.are_aside.Given as goal
 

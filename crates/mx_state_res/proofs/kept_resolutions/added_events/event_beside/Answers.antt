@@ -2,17 +2,17 @@ use Rattle.std.proofs.Common.{◌≡◌, ◌<◌, ◌∷◌, ◌⊎◌, [], ℕ,
 use Rattle.std.specs.Prelude.{is_some}
 use Rattle.std.specs.List.{All}
 use Rattle.std.proofs.lemmas.List.Elements.{All-cons, All-nil}
-use Rattle.mx_auth.specs.Rules.{Key}
+use Rattle.mx_pdu.specs.StateKeys.{Key}
 use Rattle.mx_graph.specs.Record.{is_in}
 use Rattle.mx_graph.proofs.Members.{In}
-use Rattle.mx_orders.specs.StateMap.{State, entry}
+use Rattle.mx_graph.specs.StateMap.{State, entry}
 use Rattle.mx_orders.proofs.Members.{in_map}
 use Rattle.mx_state_res.specs.KeptResolutions.{AllCiteReached, IsKeptAside, events_checked, states_of}
 use Rattle.mx_state_res.specs.LaterResolution.{agreed_line}
-use Rattle.mx_state_res.specs.Numbered.{AllAlike, state_at}
+use Rattle.mx_states.specs.Numbered.{AllAlike, state_at}
 use Rattle.mx_state_res.specs.Resolution.{full_conflicted}
 use Rattle.mx_state_res.proofs.BesideLemmas.{beside, cites-within}
-use Rattle.mx_state_res.proofs.KeyLemmas.{Sorted}
+use Rattle.mx_states.proofs.KeyLemmas.{Sorted}
 use Rattle.mx_state_res.proofs.LaterOrderLemmas.{distinct-full, order-members}
 use Rattle.mx_state_res.proofs.NumberedConflictLemmas.{at-sorted}
 use Rattle.mx_state_res.proofs.SetLemmas.{all-at}

@@ -2,7 +2,7 @@ use Rattle.std.proofs.Common.{◌≡◌, ◌⊎◌, None, Some, ap, length, subs
 use Rattle.std.specs.Prelude.{is_some}
 use Rattle.mx_auth.specs.Rules.{key_of}
 use Rattle.mx_graph.specs.Record.{Row, is_in}
-use Rattle.mx_orders.specs.StateMap.{entry}
+use Rattle.mx_graph.specs.StateMap.{entry}
 use Rattle.mx_state_res.specs.KeptResolutions.{events_checked}
 use Rattle.mx_state_res.specs.Resolution.{is_power_event}
 use Rattle.mx_state_res.proofs.KeptResolutionLemmas.{at-key, entry-known}

@@ -1,7 +1,8 @@
 use Rattle.std.proofs.Common.{◌≡◌, ◌&&◌, [], ap, false, sym, ◌∙◌}
 use Rattle.std.specs.Prelude.{bytes_eq, codes}
 use Rattle.std.specs.List.{list_any}
-use Rattle.mx_auth.specs.Rules.{Key, needed_keys, same_key}
+use Rattle.mx_pdu.specs.StateKeys.{Key}
+use Rattle.mx_auth.specs.Rules.{needed_keys, same_key}
 use Rattle.mx_graph.specs.Record.{Row, event}
 use Rattle.mx_state_res.proofs.NeedLemmas.{is_put-unneeded}
 use Rattle.mx_state_res.proofs.kept_resolutions.checked_events.needs.Goals as goal

@@ -3,7 +3,7 @@ use Rattle.std.proofs.lemmas.List.{take_all}
 use Rattle.std.proofs.lemmas.List.Elements.{All-more}
 use Rattle.std.specs.List.{All}
 use Rattle.mx_state_res.specs.KeptResolutions.{is_settled}
-use Rattle.mx_state_res.specs.Numbered.{state_at}
+use Rattle.mx_states.specs.Numbered.{state_at}
 use Rattle.mx_state_res.proofs.kept_resolutions.first_records.are_all_settled.Goals as goal
 
 pub loop-event-preserved : goal.loop-event-preserved

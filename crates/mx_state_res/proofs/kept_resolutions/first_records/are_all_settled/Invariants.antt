@@ -1,7 +1,7 @@
 use Rattle.std.proofs.Common.{◌≡◌, ℕ, take, true}
 use Rattle.std.specs.List.{All}
 use Rattle.mx_state_res.specs.KeptResolutions.{is_settled}
-use Rattle.mx_state_res.specs.Numbered.{state_at}
+use Rattle.mx_states.specs.Numbered.{state_at}
 use Rattle.mx_state_res.proofs.kept_resolutions.first_records.are_all_settled.Given as goal
 
 -- the events so far stand there

@@ -2,10 +2,11 @@ use Rattle.std.proofs.Common.{true, ◌≡◌, [], ℕ, refl, ap, subst, sym, �
 use Rattle.std.specs.Prelude.{is_some, option_copied, slice_get}
 use Rattle.std.specs.List.{All}
 use Rattle.mx_orders.specs.Mainline.{mainline, mainline_order, power_key}
-use Rattle.mx_orders.specs.StateMap.{entry}
+use Rattle.mx_graph.specs.StateMap.{entry}
 use Rattle.mx_state_res.specs.KeptResolutions.{is_settled}
-use Rattle.mx_state_res.specs.Numbered.{state_at, without}
+use Rattle.mx_states.specs.Numbered.{state_at, without}
 use Rattle.mx_state_res.specs.Resolution.{power_events}
+use Rattle.mx_state_res.specs.TouchedKeys.{HasKeysOf}
 use Rattle.mx_state_res.proofs.FirstRecordLemmas.{first-record}
 use Rattle.mx_state_res.proofs.KeptResolutionLemmas.{has-first, none-left}
 use Rattle.mx_state_res.proofs.kept_resolutions.first_records.kept_resolution.Goals as goal
@@ -28,4 +29,5 @@ returns c =
     full c.in_ok-full.ensures.set c.in_ok-full.ensures.known no_power _ c.in_ok-numbers.ensures.items refl
     (c.in_ok-order.ensures.order ∙ ap (mainline_order rows (mainline rows (entry (without d (state_at states base)) power_key))) c.deref-3.ensures.value)
     c.in_ok-order.ensures.checked
-    (λ yes. subst (All (λ (p : ℕ). is_settled rows d (state_at states base) p ≡ true)) c.deref-2.ensures.value (c.are_all_settled-are_settled.ensures yes)) c.requires.below c.requires.resolved
+    (λ yes. subst (All (λ (p : ℕ). is_settled rows d (state_at states base) p ≡ true)) c.deref-2.ensures.value (c.are_all_settled-are_settled.ensures yes))
+    (subst (All (HasKeysOf v rows c.in_ok-touched.touched)) c.deref-4.ensures.value c.in_ok-touched.ensures) c.requires.below c.requires.resolved

@@ -1,6 +1,6 @@
 use Rattle.std.proofs.Common.{length, ap, sym, ◌∙◌, arith}
 use Rattle.std.specs.Prelude.{is_some}
-use Rattle.mx_state_res.specs.Numbered.{state_at}
+use Rattle.mx_states.specs.Numbered.{state_at}
 use Rattle.mx_state_res.proofs.KeptResolutionLemmas.{one-entry}
 use Rattle.mx_state_res.proofs.kept_resolutions.one_more.differ_there.Goals as goal
 

@@ -1,14 +1,15 @@
 use Rattle.std.proofs.Common.{◌≡◌, ◌<◌, ◌++◌, ◌∷◌, [], ℕ, drop, inl, length, refl, Some, take, ap, subst, sym, ◌∙◌}
 use Rattle.std.specs.Prelude.{IfSome, is_some, true}
 use Rattle.std.specs.FinMap.Entries.{put}
-use Rattle.mx_auth.specs.Rules.{Key, key_of}
+use Rattle.mx_pdu.specs.StateKeys.{Key}
+use Rattle.mx_auth.specs.Rules.{key_of}
 use Rattle.mx_graph.specs.Record.{Row, event}
 use Rattle.mx_graph.proofs.Members.{In}
 use Rattle.mx_orders.specs.Mainline.{mainline_cmp, put_in_order}
-use Rattle.mx_orders.specs.StateMap.{State, entry, key_cmp}
+use Rattle.mx_graph.specs.StateMap.{State, entry, key_cmp}
 use Rattle.mx_state_res.specs.KeptResolutions.{IsAdded, IsOutcome, events_checked, states_of}
 use Rattle.mx_state_res.specs.LaterResolution.{agreed_line}
-use Rattle.mx_state_res.specs.Numbered.{state_at}
+use Rattle.mx_states.specs.Numbered.{state_at}
 use Rattle.mx_state_res.specs.Resolution.{iterative_auth_checks, unconflicted}
 use Rattle.mx_state_res.specs.declared.kept_resolutions.outcomes.Outcome.{Outcome}
 use Rattle.mx_state_res.proofs.KeptGrowthLemmas.{kept-one-more}
@@ -57,4 +58,4 @@ returns-clause-kept c =
     let grown : c.insert.new.self ≡ put key_cmp key x kept.differing = c.in_ok-insert.ensures.ok ∙ ap (λ k. put key_cmp k x kept.differing) key_is in
     let added = c.in_ok-resolved.ensures.added rows one.known c.requires.known in
     kept-one-more v rows c.graph_is_sound.ensures states added.more c.resolved_by.new.states kept _ c.requires.kept newest key x told.before c.requires.known below one c.in-Some-3.place placed c.in-Some-3.outcome outcome
-    (record { event = x; is_put = c.is_put-is_put.result }) refl c.is_put-is_put.ensures c.in_ok-push.ensures.items grown refl c.in_ok-insert-2.ensures.items added.are c.in_ok-resolved.ensures.number (c.in_ok-resolved.ensures.resolved key one.at_key)
+    (record { event = x; is_put = c.is_put-is_put.result }) refl c.is_put-is_put.ensures c.in_ok-push.ensures.items grown refl c.in_ok-insert-2.ensures.items c.in_ok-add_keys.ensures.stay c.in_ok-add_keys.ensures.added added.are c.in_ok-resolved.ensures.number (c.in_ok-resolved.ensures.resolved key one.at_key)

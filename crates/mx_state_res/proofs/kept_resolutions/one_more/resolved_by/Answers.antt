@@ -3,13 +3,14 @@ use Rattle.std.specs.List.{All}
 use Rattle.std.proofs.lemmas.List.Elements.{All-cons, All-nil}
 use Rattle.std.specs.FinMap.Entries.{put}
 use Rattle.std.specs.Ordering.{is_eq}
-use Rattle.mx_auth.specs.Rules.{Key, key_of}
+use Rattle.mx_pdu.specs.StateKeys.{Key}
+use Rattle.mx_auth.specs.Rules.{key_of}
 use Rattle.mx_graph.specs.Record.{Row, event}
-use Rattle.mx_orders.specs.StateMap.{State, key_cmp}
+use Rattle.mx_graph.specs.StateMap.{State, key_cmp}
 use Rattle.mx_state_res.specs.KeptResolutions.{made_by}
-use Rattle.mx_state_res.specs.Numbered.{state_at}
+use Rattle.mx_states.specs.Numbered.{state_at}
 use Rattle.mx_state_res.proofs.KeptResolutionLemmas.{last-added, put-over, row-key}
-use Rattle.mx_state_res.proofs.KnownLemmas.{put-known}
+use Rattle.mx_states.proofs.KnownLemmas.{put-known}
 use Rattle.mx_state_res.proofs.NumberedConflictLemmas.{known-one}
 use Rattle.mx_state_res.proofs.kept_resolutions.one_more.resolved_by.Goals as goal
 

@@ -1,7 +1,8 @@
 use Rattle.std.proofs.Common.{◌≡◌, ◌<◌, length, refl, ap, subst, sym, ◌∙◌}
 use Rattle.std.specs.List.{All}
 use Rattle.mx_state_res.specs.LaterResolution.{is_put}
-use Rattle.mx_state_res.specs.Numbered.{shown_by, state_at, without}
+use Rattle.mx_state_res.specs.Numbered.{shown_by}
+use Rattle.mx_states.specs.Numbered.{state_at, without}
 use Rattle.mx_state_res.proofs.KeptStateLemmas.{all-left}
 use Rattle.mx_state_res.proofs.NumberedConflictLemmas.{known-one}
 use Rattle.mx_state_res.proofs.kept_resolutions.outcomes.outcome_at_end.Goals as goal

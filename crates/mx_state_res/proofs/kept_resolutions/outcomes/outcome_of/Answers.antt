@@ -2,15 +2,16 @@ use Rattle.std.proofs.Common.{[], ◌≡◌, ◌<◌, ◌++◌, ◌∷◌, drop,
 use Rattle.std.specs.Prelude.{IfSome, is_none, option_copied, slice_get}
 use Rattle.std.specs.List.{All}
 use Rattle.std.proofs.lemmas.List.{drop-map, drop_all, length-map, take-map, take_all}
-use Rattle.mx_orders.specs.StateMap.{entry}
+use Rattle.mx_graph.specs.StateMap.{entry}
 use Rattle.mx_orders.specs.Mainline.{mainline, mainline_cmp, power_key, put_in_order}
-use Rattle.mx_state_res.specs.KeptResolutions.{AreChecked, IsInOrder, IsOutcome, events_checked, first_of, states_of}
+use Rattle.mx_state_res.specs.KeptResolutions.{IsInOrder, IsOutcome, events_checked, first_of, state_before, states_of}
 use Rattle.mx_state_res.specs.LaterResolution.{agreed_line, checking_order}
-use Rattle.mx_state_res.specs.Numbered.{shown_by, state_at, without}
+use Rattle.mx_state_res.specs.Numbered.{shown_by}
+use Rattle.mx_states.specs.Numbered.{state_at, without}
 use Rattle.mx_state_res.specs.Resolution.{full_conflicted, iterative_auth_checks, unconflicted}
 use Rattle.mx_state_res.specs.declared.kept_resolutions.checked_events.CheckedEvent.{CheckedEvent}
-use Rattle.mx_state_res.proofs.ChangeLemmas.{without-known}
-use Rattle.mx_state_res.proofs.KeyLemmas.{Sorted, sorted-filter}
+use Rattle.mx_state_res.proofs.ResolvingLemmas.{without-known}
+use Rattle.mx_states.proofs.KeyLemmas.{Sorted, sorted-filter}
 use Rattle.mx_state_res.proofs.KeptResolutionLemmas.{first-below, first-is}
 use Rattle.mx_state_res.proofs.KeptStateLemmas.{resolved-is}
 use Rattle.mx_state_res.proofs.LaterCheckLemmas.{sorted-checks}
@@ -30,54 +31,6 @@ place_of-requires-clause-order c =
     let events : events_checked c.deref-2.result.now ≡ checking_order rows ss = ap events_checked c.deref-2.ensures.value ∙ c.requires.kept.at_keys.order in
     subst (λ l. IsInOrder (mainline_cmp rows l) (events_checked c.deref-2.result.now)) (sym line)
     (subst (IsInOrder (mainline_cmp rows (agreed_line rows ss))) (sym events) (order-in-order rows (agreed_line rows ss) (full_conflicted rows ss)))
-
-pub put_each-requires-clause-known : goal.put_each-requires-clause-known
-put_each-requires-clause-known c =
-    let n = length c.args.graph.now in
-    let below : c.in-Some.base.now < length c.args.states.now = first-below (length c.args.states.now) c.args.kept.now.numbers.items c.in-Some.base.now (ap (λ xs. slice_get xs 0) (sym c.deref.ensures.value) ∙ sym c.first.ensures.value ∙ ap option_copied c.in-Some.is) c.requires.kept.numbers in
-    subst (All (λ e. e.1 < n)) (sym (ap shown_by c.without-state.ensures ∙ ap (without c.args.kept.now.differing) c.state.ensures))
-    (without-known n c.args.kept.now.differing (state_at c.args.states.now c.in-Some.base.now) (known-one c.args.graph.now c.args.states.now c.in-Some.base.now c.requires.known below))
-
-pub outcome_in-requires-clause-sorted : goal.outcome_in-requires-clause-sorted
-outcome_in-requires-clause-sorted c =
-    let v = c.args.version in
-    let rows = c.args.graph.now in
-    let kept = c.args.kept.now in
-    let ss = states_of c.args.states.now kept in
-    let at = c.requires.kept.at_keys in
-    let place = c.in_ok-place.place in
-    let base : c.in-Some.base.now ≡ slice_index_or kept.numbers.items 0 0 = first-is kept.numbers.items c.in-Some.base.now (ap (λ xs. slice_get xs 0) (sym c.deref.ensures.value) ∙ sym c.first.ensures.value ∙ ap option_copied c.in-Some.is) in
-    let shown : shown_by c.without-state.result ≡ unconflicted ss =
-    ap shown_by c.without-state.ensures ∙ ap (without kept.differing) (c.state.ensures ∙ ap (state_at c.args.states.now) base) ∙ sym at.agreed in
-    let front : c.split_at.result.0.now ≡ take place kept.order.items = c.split_at.ensures.front ∙ ap (take place) c.deref-3.ensures.value in
-    let back : c.split_at.result.1.now ≡ drop place kept.order.items = c.split_at.ensures.back ∙ ap (drop place) c.deref-3.ensures.value in
-    let before : AreChecked v rows (shown_by c.without-state.result) c.split_at.result.0.now =
-    subst (λ t. AreChecked v rows t c.split_at.result.0.now) (sym shown) (subst (AreChecked v rows (unconflicted ss)) (sym front) (checked-before v rows kept.order.items place (unconflicted ss) c.requires.kept.checked)) in
-    let state : shown_by c.put_each.new.state ≡ iterative_auth_checks v rows (unconflicted ss) (take place (events_checked kept.order.items)) =
-    c.in_ok-put_each.ensures.ok v before ∙ (λ i. iterative_auth_checks v rows (shown i) (events_checked (front i))) ∙ ap (iterative_auth_checks v rows (unconflicted ss)) (sym (take-map (λ (q : CheckedEvent). q.event) place kept.order.items)) in
-    let agreed_sorted : Sorted (unconflicted ss) = subst Sorted (sym at.agreed) (sorted-filter (λ e. is_none (entry kept.differing e.0)) (first_of c.args.states.now kept) (subst (λ n. Sorted (state_at c.args.states.now n)) base c.state_is_sorted.ensures)) in
-    subst Sorted (sym state) (sorted-checks v rows (take place (events_checked kept.order.items)) (unconflicted ss) agreed_sorted)
-
-pub outcome_in-requires-clause-checked : goal.outcome_in-requires-clause-checked
-outcome_in-requires-clause-checked c =
-    let v = c.args.version in
-    let rows = c.args.graph.now in
-    let kept = c.args.kept.now in
-    let ss = states_of c.args.states.now kept in
-    let at = c.requires.kept.at_keys in
-    let place = c.in_ok-place.place in
-    let base : c.in-Some.base.now ≡ slice_index_or kept.numbers.items 0 0 = first-is kept.numbers.items c.in-Some.base.now (ap (λ xs. slice_get xs 0) (sym c.deref.ensures.value) ∙ sym c.first.ensures.value ∙ ap option_copied c.in-Some.is) in
-    let shown : shown_by c.without-state.result ≡ unconflicted ss =
-    ap shown_by c.without-state.ensures ∙ ap (without kept.differing) (c.state.ensures ∙ ap (state_at c.args.states.now) base) ∙ sym at.agreed in
-    let front : c.split_at.result.0.now ≡ take place kept.order.items = c.split_at.ensures.front ∙ ap (take place) c.deref-3.ensures.value in
-    let back : c.split_at.result.1.now ≡ drop place kept.order.items = c.split_at.ensures.back ∙ ap (drop place) c.deref-3.ensures.value in
-    let before : AreChecked v rows (shown_by c.without-state.result) c.split_at.result.0.now =
-    subst (λ t. AreChecked v rows t c.split_at.result.0.now) (sym shown) (subst (AreChecked v rows (unconflicted ss)) (sym front) (checked-before v rows kept.order.items place (unconflicted ss) c.requires.kept.checked)) in
-    let state : shown_by c.put_each.new.state ≡ iterative_auth_checks v rows (unconflicted ss) (take place (events_checked kept.order.items)) =
-    c.in_ok-put_each.ensures.ok v before ∙ (λ i. iterative_auth_checks v rows (shown i) (events_checked (front i))) ∙ ap (iterative_auth_checks v rows (unconflicted ss)) (sym (take-map (λ (q : CheckedEvent). q.event) place kept.order.items)) in
-    subst (λ t. AreChecked v rows t c.split_at.result.1.now) (sym state)
-    (subst (AreChecked v rows (iterative_auth_checks v rows (unconflicted ss) (take place (events_checked kept.order.items)))) (sym back)
-    (checked-behind v rows kept.order.items place (unconflicted ss) c.requires.kept.checked))
 
 pub returns-in-Some-2-clause-placed : goal.returns-in-Some-2-clause-placed
 returns-in-Some-2-clause-placed c =
@@ -100,23 +53,9 @@ returns-in-Some-2-clause-outcome c =
     let v = c.args.version in
     let rows = c.args.graph.now in
     let kept = c.args.kept.now in
-    let ss = states_of c.args.states.now kept in
-    let at = c.requires.kept.at_keys in
     let place = c.in_ok-place.place in
-    let base : c.in-Some.base.now ≡ slice_index_or kept.numbers.items 0 0 = first-is kept.numbers.items c.in-Some.base.now (ap (λ xs. slice_get xs 0) (sym c.deref.ensures.value) ∙ sym c.first.ensures.value ∙ ap option_copied c.in-Some.is) in
-    let shown : shown_by c.without-state.result ≡ unconflicted ss =
-    ap shown_by c.without-state.ensures ∙ ap (without kept.differing) (c.state.ensures ∙ ap (state_at c.args.states.now) base) ∙ sym at.agreed in
-    let front : c.split_at.result.0.now ≡ take place kept.order.items = c.split_at.ensures.front ∙ ap (take place) c.deref-3.ensures.value in
-    let back : c.split_at.result.1.now ≡ drop place kept.order.items = c.split_at.ensures.back ∙ ap (drop place) c.deref-3.ensures.value in
-    let before : AreChecked v rows (shown_by c.without-state.result) c.split_at.result.0.now =
-    subst (λ t. AreChecked v rows t c.split_at.result.0.now) (sym shown) (subst (AreChecked v rows (unconflicted ss)) (sym front) (checked-before v rows kept.order.items place (unconflicted ss) c.requires.kept.checked)) in
-    let state : shown_by c.put_each.new.state ≡ iterative_auth_checks v rows (unconflicted ss) (take place (events_checked kept.order.items)) =
-    c.in_ok-put_each.ensures.ok v before ∙ (λ i. iterative_auth_checks v rows (shown i) (events_checked (front i))) ∙ ap (iterative_auth_checks v rows (unconflicted ss)) (sym (take-map (λ (q : CheckedEvent). q.event) place kept.order.items)) in
-    let rest : events_checked c.split_at.result.1.now ≡ drop place (events_checked kept.order.items) = ap events_checked back ∙ sym (drop-map (λ (q : CheckedEvent). q.event) place kept.order.items) in
     λ key at_key.
-    subst (λ t. IsOutcome v rows key c.args.event t (drop place (events_checked kept.order.items)) c.in-Some-2.outcome) state
-    (subst (λ ps. IsOutcome v rows key c.args.event (shown_by c.put_each.new.state) ps c.in-Some-2.outcome) rest
-    (subst (λ o. IfSome o (IsOutcome v rows key c.args.event (shown_by c.put_each.new.state) (events_checked c.split_at.result.1.now))) c.in-Some-2.is (c.in_ok-outcome.ensures key at_key)))
+    subst (λ o. IfSome o (IsOutcome v rows key c.args.event (state_before v rows c.args.states.now kept place) (drop place (events_checked kept.order.items)))) c.in-Some-2.is (c.in_ok-outcome.ensures key at_key)
 
 pub returns-then-place-len-clause-placed : goal.returns-then-place-len-clause-placed
 returns-then-place-len-clause-placed c =

@@ -2,10 +2,10 @@ use Rattle.std.proofs.Common.{◌≡◌, ◌<◌, ℕ, length, subst, sym, ap, �
 use Rattle.std.specs.Prelude.{IfSome}
 use Rattle.std.proofs.lemmas.List.{take_all}
 use Rattle.std.proofs.lemmas.List.Elements.{All-more}
-use Rattle.mx_auth.specs.Rules.{Key}
-use Rattle.mx_orders.specs.StateMap.{entry, key_cmp}
+use Rattle.mx_pdu.specs.StateKeys.{Key}
+use Rattle.mx_graph.specs.StateMap.{entry, key_cmp}
 use Rattle.mx_state_res.specs.KeptResolutions.{AllCiteReached, CitesReached, events_checked}
-use Rattle.mx_state_res.proofs.KnownLemmas.{find-known}
+use Rattle.mx_states.proofs.KnownLemmas.{find-known}
 use Rattle.mx_state_res.proofs.kept_resolutions.reached_events.cite_reached.Goals as goal
 
 pub cites_reached-requires-clause-event : goal.cites_reached-requires-clause-event

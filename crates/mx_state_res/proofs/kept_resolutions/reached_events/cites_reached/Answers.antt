@@ -3,7 +3,7 @@ use Rattle.std.specs.Prelude.{IfSome}
 use Rattle.mx_graph.specs.Record.{is_in}
 use Rattle.mx_graph.specs.Graph.{auth_chain}
 use Rattle.mx_graph.proofs.Closure.{is_in-to, or_left, or_right}
-use Rattle.mx_orders.specs.StateMap.{events_of}
+use Rattle.mx_graph.specs.StateMap.{events_of}
 use Rattle.mx_state_res.specs.KeptResolutions.{CitesReached, events_checked}
 use Rattle.mx_state_res.specs.LaterResolution.{is_reached}
 use Rattle.mx_state_res.proofs.ChainLemmas.{chain-least}

@@ -1,13 +1,13 @@
 use Rattle.std.proofs.Common.{◌≡◌, ◌<◌, ℕ, Some, length, subst, sym, true, ◌∙◌}
 use Rattle.std.specs.Prelude.{IfSome}
-use Rattle.mx_auth.specs.Rules.{Key}
+use Rattle.mx_pdu.specs.StateKeys.{Key}
 use Rattle.mx_graph.specs.Record.{is_in}
 use Rattle.mx_graph.specs.Graph.{auth_chain}
 use Rattle.mx_graph.proofs.Closure.{is_in-from, or_left}
-use Rattle.mx_orders.specs.StateMap.{entry, events_of, key_cmp}
+use Rattle.mx_graph.specs.StateMap.{entry, events_of, key_cmp}
 use Rattle.mx_orders.proofs.Members.{in_map}
 use Rattle.mx_state_res.proofs.ChainLemmas.{chain-least}
-use Rattle.mx_state_res.proofs.KnownLemmas.{find-known}
+use Rattle.mx_states.proofs.KnownLemmas.{find-known}
 use Rattle.mx_state_res.proofs.NumberedConflictLemmas.{find-in}
 use Rattle.mx_state_res.proofs.kept_resolutions.reached_events.is_cited.Goals as goal
 

@@ -1,8 +1,8 @@
 use Rattle.std.proofs.Common.{◌≡◌, ℕ, eqb-true, subst, sym, true, ◌∙◌}
-use Rattle.mx_auth.specs.Rules.{Key}
+use Rattle.mx_pdu.specs.StateKeys.{Key}
 use Rattle.mx_graph.specs.Record.{is_in}
 use Rattle.mx_graph.proofs.Closure.{is_in-from}
-use Rattle.mx_orders.specs.StateMap.{events_of}
+use Rattle.mx_graph.specs.StateMap.{events_of}
 use Rattle.mx_orders.proofs.Members.{in_map}
 use Rattle.mx_state_res.proofs.NumberedConflictLemmas.{find-in}
 use Rattle.mx_state_res.proofs.kept_resolutions.reached_events.stands_in.Goals as goal

@@ -2,7 +2,7 @@ use Rattle.std.proofs.Common.{◌≡◌, map, take}
 use Rattle.std.specs.List.{All}
 use Rattle.mx_graph.specs.Edges.{Rises}
 use Rattle.mx_graph.specs.Graph.{auth_chain}
-use Rattle.mx_orders.specs.StateMap.{events_of}
+use Rattle.mx_graph.specs.StateMap.{events_of}
 use Rattle.mx_state_res.proofs.plain.plain_conflicts.auth_chains.Given as goal
 
 -- the chains so far

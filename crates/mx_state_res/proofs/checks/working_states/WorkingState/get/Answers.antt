@@ -1,8 +1,8 @@
 use Rattle.std.proofs.Common.{◌≡◌, [], true, false, not, None, is_none, is_some, ap, sym, unwrap_or, ◌∙◌}
-use Rattle.mx_auth.specs.Rules.{Key}
-use Rattle.mx_orders.specs.StateMap.{entry}
+use Rattle.mx_pdu.specs.StateKeys.{Key}
+use Rattle.mx_graph.specs.StateMap.{entry}
 use Rattle.mx_state_res.specs.Numbered.{shown_by}
-use Rattle.mx_state_res.proofs.EntryLemmas.{found-put, found-taken, found-base}
+use Rattle.mx_state_res.proofs.WorkingLemmas.{found-put, found-taken, found-base}
 use Rattle.mx_state_res.proofs.checks.working_states.WorkingState.get.Goals as goal
 
 pub returns-in-Some : goal.returns-in-Some

@@ -1,11 +1,12 @@
 use Rattle.std.proofs.Common.{[], ap, subst, sym, unwrap_or, ◌∙◌}
 use Rattle.std.specs.FinMap.Entries.{put}
-use Rattle.mx_auth.specs.Rules.{Key}
-use Rattle.mx_orders.specs.StateMap.{key_cmp}
-use Rattle.mx_state_res.specs.Numbered.{edited, shown_by}
-use Rattle.mx_state_res.proofs.KeyLemmas.{Sorted}
-use Rattle.mx_state_res.proofs.PlaceLemmas.{sorted-put}
-use Rattle.mx_state_res.proofs.EntryLemmas.{put-edited}
+use Rattle.mx_pdu.specs.StateKeys.{Key}
+use Rattle.mx_graph.specs.StateMap.{key_cmp}
+use Rattle.mx_states.specs.Numbered.{edited}
+use Rattle.mx_state_res.specs.Numbered.{shown_by}
+use Rattle.mx_states.proofs.KeyLemmas.{Sorted}
+use Rattle.mx_states.proofs.PlaceLemmas.{sorted-put}
+use Rattle.mx_state_res.proofs.WorkingLemmas.{put-edited}
 use Rattle.mx_state_res.proofs.checks.working_states.WorkingState.insert.Goals as goal
 
 pub invariant_of-self : goal.invariant_of-self

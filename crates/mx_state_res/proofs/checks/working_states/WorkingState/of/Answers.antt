@@ -1,4 +1,4 @@
-use Rattle.mx_state_res.proofs.AgreedLemmas.{overwritten-empty}
+use Rattle.mx_states.proofs.OverwrittenLemmas.{overwritten-empty}
 use Rattle.mx_state_res.proofs.checks.working_states.WorkingState.of.Goals as goal
 
 pub returns-clause-shown : goal.returns-clause-shown

@@ -1,7 +1,0 @@
-use Rattle.std.proofs.Common.{◌≡◌, take}
-use Rattle.mx_state_res.specs.Resolution.{overwritten}
-use Rattle.mx_state_res.proofs.checks.auth_checks.overwrite.Given as goal
-
--- the state with the entries so far
-abbrev pub invariant-loop-entry : goal.invariant-loop-entry
-invariant-loop-entry l = l.state ≡ overwritten l.fn.state (take l.entry-index l.entry-items)

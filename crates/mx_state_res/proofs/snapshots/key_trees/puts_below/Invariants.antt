@@ -1,6 +1,0 @@
-use Rattle.std.proofs.Common.{◌≡◌, ◌++◌, drop}
-use Rattle.mx_state_res.specs.KeyTrees.{halved}
-use Rattle.mx_state_res.proofs.snapshots.key_trees.puts_below.Given as goal
-
-abbrev pub invariant-loop-place : goal.invariant-loop-place
-invariant-loop-place l = l.below.items ++ halved l.remainder (drop l.place-index l.puts) ≡ halved l.remainder l.puts

@@ -1,6 +1,0 @@
-use Rattle.std.proofs.Common.{◌<◌, ◌+◌, ℕ, get_or}
-use Rattle.mx_state_res.proofs.states.number_sets.rise.Given as goal
-
--- those so far rise
-abbrev pub invariant-loop-place : goal.invariant-loop-place
-invariant-loop-place l = (k : ℕ) → k + 1 < l.place → get_or l.numbers k 0 < get_or l.numbers (k + 1) 0

@@ -1,9 +1,0 @@
-use Rattle.std.proofs.Common.{◌≡◌, ◌||◌, drop}
-use Rattle.std.specs.Prelude.{is_some}
-use Rattle.mx_auth.specs.Rules.{Key}
-use Rattle.mx_orders.specs.StateMap.{entry}
-use Rattle.mx_state_res.specs.KeyNumbers.{has_number_in}
-use Rattle.mx_state_res.proofs.states.numbered_entries.put_differing.Given as goal
-
-abbrev pub invariant-loop-number : goal.invariant-loop-number
-invariant-loop-number l = (key : Key) → (is_some (entry l.found key) || has_number_in l.keys (drop l.number-index l.differing) key) ≡ (is_some (entry l.initial.found key) || has_number_in l.keys l.differing key)

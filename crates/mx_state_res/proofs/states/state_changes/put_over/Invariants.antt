@@ -1,8 +1,0 @@
-use Rattle.std.proofs.Common.{◌≡◌, drop}
-use Rattle.mx_state_res.specs.Numbered.{really_put, state_at}
-use Rattle.mx_state_res.specs.Resolution.{overwritten}
-use Rattle.mx_state_res.proofs.states.state_changes.put_over.Given as goal
-
--- the entries so far, with those that are left, are all
-abbrev pub invariant-loop-entry : goal.invariant-loop-entry
-invariant-loop-entry l = overwritten l.found (really_put (state_at l.states l.number) (drop l.entry-index l.entry-items)) ≡ really_put (state_at l.states l.number) l.entry-items

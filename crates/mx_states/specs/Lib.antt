@@ -1,0 +1,11 @@
+pub mod Entries
+pub mod Numbered
+pub mod StateCode
+pub mod Places
+pub mod SnapshotEntries
+pub mod KeyTrees
+pub mod StoredSnapshots
+pub mod MemberKeys
+pub mod MemberLists
+pub mod KeyNumbers
+pub mod ChangedKeys
