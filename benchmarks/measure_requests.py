@@ -17,12 +17,28 @@ from measure import HERE, PROGRAM, instructions
 KINDS = ("event", "state", "state_ids", "event_auth", "backfill", "get_missing_events", "make_join", "unknown_path")
 
 
-def log_of(*words):
+def log_by(*words: object) -> bytes:
+    """The log that make_log.py makes by these words."""
     made = subprocess.run([sys.executable, HERE / "make_log.py", *map(str, words)], stdout=subprocess.PIPE, check=True)
     return made.stdout
 
 
-def main():
+def instructions_of_query(program: Path, events: int, members: int, kind: str) -> int:
+    """The instructions of a query of this kind, in a room of so many messages and members."""
+    count = 200 if kind in ("event", "event_auth", "make_join", "unknown_path") else 20
+    room = ("--events", events, "--members", members)
+    asked = instructions(program, log_by(*room, "--ask", count, "--kind", kind))
+    return (asked - instructions(program, log_by(*room))) // count
+
+
+def instructions_of_put(program: Path, events: int, form: str) -> int:
+    """The instructions of an event that is sent alone, of so many, by a request (`call`) or by three lines (`step`)."""
+    start = instructions(program, log_by("--events", 0, "--batch", 1, "--form", form))
+    sent = instructions(program, log_by("--events", events, "--batch", 1, "--form", form))
+    return (sent - start) // events
+
+
+def main() -> None:
     parser = argparse.ArgumentParser(description=__doc__, formatter_class=argparse.RawDescriptionHelpFormatter)
     parser.add_argument("--program", type=Path, default=PROGRAM)
     parser.add_argument("--events", default="1000,10000")
@@ -31,25 +47,16 @@ def main():
     sizes = list(map(int, options.events.split(",")))
     print("| query | " + " | ".join(f"{events:,}" for events in sizes) + " |")
     print("|---|" + "---|" * len(sizes))
-    rooms = {events: ("--events", events, "--members", options.members) for events in sizes}
-    alone = {events: instructions(options.program, log_of(*room)) for events, room in rooms.items()}
     for kind in KINDS:
-        count = 200 if kind in ("event", "event_auth", "make_join", "unknown_path") else 20
-        each = []
-        for events, room in rooms.items():
-            ran = instructions(options.program, log_of(*room, "--ask", count, "--kind", kind))
-            each.append(f"{(ran - alone[events]) // count:,}")
+        each = (f"{instructions_of_query(options.program, events, options.members, kind):,}" for events in sizes)
         print(f"| {kind} | " + " | ".join(each) + " |", flush=True)
     print()
     print("| one event a transaction | " + " | ".join(f"{events:,}" for events in sizes) + " |")
     print("|---|" + "---|" * len(sizes))
     for form in ("step", "call"):
-        each = []
-        for events in sizes:
-            start = instructions(options.program, log_of("--events", 0, "--batch", 1, "--form", form))
-            ran = instructions(options.program, log_of("--events", events, "--batch", 1, "--form", form))
-            each.append(f"{(ran - start) // events:,}")
+        each = (f"{instructions_of_put(options.program, events, form):,}" for events in sizes)
         print(f"| {form} | " + " | ".join(each) + " |", flush=True)
 
 
-main()
+if __name__ == "__main__":
+    main()
