@@ -28,7 +28,7 @@ use Rattle.mx_receipt.specs.contracts.timelines.Timeline as timeline
 use Rattle.mx_room.specs.contracts.rooms.Room.TheInside as room_inside
 use Rattle.mx_room.specs.contracts.rooms.Room as room
 use Rattle.mx_room.specs.contracts.event_lists.EventList as event_list
-use Rattle.mx_room.specs.contracts.join_templates.JoinTemplate as join_template
+use Rattle.mx_room.specs.contracts.queries.join_templates.JoinTemplate as join_template
 use Rattle.mx_room.specs.contracts.joining.Joined as joined
 use Rattle.mx_room.specs.contracts.joining.JoinReply as join_reply
 use Rattle.mx_room.specs.contracts.queries.QueryReply as query_reply

@@ -10,7 +10,6 @@ ghost use Rattle.std.specs.Prelude.{◌≡◌, OnErr, OnOk};
 
 mod counted_input;
 mod noted_output;
-mod server_lines;
 
 use counted_input::CountedInput;
 use mx_command_line::{Command, CommandLineError, Invocation};
@@ -22,8 +21,8 @@ use mx_directory::{ProgressLine, StartError, migrate};
 use mx_line_queue::LineOutput;
 use mx_options::{AuditOptions, MigrateOptions, ServeOptions};
 use mx_server::serve;
+use mx_watch::ServerLines;
 use noted_output::NotedOutput;
-use server_lines::ServerLines;
 use std::alloc::{AllocError, AllocGlobal, Global};
 use std::env;
 use std::fs::File;

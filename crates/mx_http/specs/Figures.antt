@@ -1,8 +1,8 @@
 -- How the connections of a listener are counted by what they do.
 use Rattle.std.specs.Prelude.{ℕ, ◌+◌, ◌-◌, ◌^◌, min}
-use Rattle.mx_http.specs.declared.activities.Activity.{Activity}
-use Rattle.mx_http.specs.declared.activities.Activity.TheVariants.{IdleSince, SlowSince, Busy, GivenUp}
-use Rattle.mx_http.specs.declared.connection_figures.ConnectionFigures.{ConnectionFigures}
+use Rattle.mx_http.specs.declared.places.activities.Activity.{Activity}
+use Rattle.mx_http.specs.declared.places.activities.Activity.TheVariants.{IdleSince, SlowSince, Busy, GivenUp}
+use Rattle.mx_http.specs.declared.places.connection_figures.ConnectionFigures.{ConnectionFigures}
 
 -- no connection is open, and so many bytes are held
 abbrev pub no_connection : ℕ → ConnectionFigures

@@ -3,7 +3,7 @@ use Rattle.std.specs.Prelude.{ℕ, ◌+◌, Bool, nat_le, ◌||◌, if◌then◌
 use Rattle.std.specs.List.{sum_by}
 use Rattle.std.specs.Option.{option_or}
 use Rattle.mx_http.specs.Places.{longer}
-use Rattle.mx_http.specs.declared.giving_way.Wait.{Wait}
+use Rattle.mx_http.specs.declared.places.giving_way.Wait.{Wait}
 use Rattle.mx_http.specs.declared.memory.closing.Awaited.{Awaited}
 use Rattle.mx_http.specs.declared.memory.closing.Awaited.TheVariants.{Client, Room}
 use Rattle.mx_http.specs.declared.memory.closing.Holder.{Holder}

@@ -1,11 +1,11 @@
 -- Which of the open connections gives way to a new one.
 use Rattle.std.specs.Prelude.{ℕ, ◌+◌, nat_le, if◌then◌else◌, List, [], ◌∷◌, Option, Some, None, option_map}
 use Rattle.std.specs.Option.{option_or}
-use Rattle.mx_http.specs.declared.activities.Activity.{Activity}
-use Rattle.mx_http.specs.declared.activities.Activity.TheVariants.{IdleSince, SlowSince, Busy, GivenUp}
-use Rattle.mx_http.specs.declared.activities.Waiting.{Waiting}
-use Rattle.mx_http.specs.declared.activities.Waiting.TheVariants.{Idle, Slow}
-use Rattle.mx_http.specs.declared.giving_way.Wait.{Wait}
+use Rattle.mx_http.specs.declared.places.activities.Activity.{Activity}
+use Rattle.mx_http.specs.declared.places.activities.Activity.TheVariants.{IdleSince, SlowSince, Busy, GivenUp}
+use Rattle.mx_http.specs.declared.places.activities.Waiting.{Waiting}
+use Rattle.mx_http.specs.declared.places.activities.Waiting.TheVariants.{Idle, Slow}
+use Rattle.mx_http.specs.declared.places.giving_way.Wait.{Wait}
 
 -- since when it waits so for its client
 abbrev pub since : Waiting → Activity → Option ℕ

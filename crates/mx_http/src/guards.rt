@@ -1,7 +1,7 @@
 // What the thread that takes connections in and the one that serves one of them know of it together.
 ghost use Rattle.futures.specs.Task.{Keeps};
 
-use crate::activities::Activity;
+use crate::places::activities::Activity;
 use crate::stages::{Progress, Stage};
 use futures::task::{Context, Poll};
 use std::alloc::{AllocError, Global};

@@ -2,20 +2,17 @@
 //! answer the requests which may have to wait. What a request is answered is the responder's.
 #![tactic(auto)]
 
-mod activities;
 mod answering;
 mod bodies;
-mod connection_figures;
 mod connections;
 mod endings;
-mod giving_way;
 mod guards;
 mod heads;
 mod listening;
 mod making;
 mod memory;
 mod messages;
-mod open_connections;
+mod places;
 mod pool;
 mod quiet;
 mod runtimes;
@@ -24,11 +21,11 @@ mod turns;
 mod workers;
 
 pub use answering::Unanswered;
-pub use connection_figures::{ConnectionFigures, ConnectionWatch};
 pub use connections::{Source, serve_one};
 pub use endings::Ending;
 pub use listening::{Announcer, Limits, ListenerHandle, Responders, ServeError, serve_on};
 pub use memory::RoomClosings;
 pub use messages::{AskedCall, HttpReply, HttpRequest, ReadRequest, Responder};
+pub use places::connection_figures::{ConnectionFigures, ConnectionWatch};
 pub use pool::claims::Claim;
 pub use runtimes::ServerRuntime;

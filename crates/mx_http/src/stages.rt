@@ -1,10 +1,10 @@
 // How far a connection is with its requests, and since when its client is waited for.
 ghost use Rattle.std.specs.Prelude.{◌≡◌, ◌≢◌, ℕ, Some, None, IsSome, true, false};
 ghost use Rattle.mx_http.specs.declared.stages.Stage.TheVariants as is_at;
-ghost use Rattle.mx_http.specs.declared.activities.Activity.TheVariants.{IdleSince, SlowSince, Busy};
+ghost use Rattle.mx_http.specs.declared.places.activities.Activity.TheVariants.{IdleSince, SlowSince, Busy};
 
-use crate::activities::Activity;
 use crate::guards::SharedActivity;
+use crate::places::activities::Activity;
 use std::cell::Cell;
 use std::rc::Rc;
 use std::sync::Arc;

@@ -11,7 +11,8 @@ use Rattle.mx_requests.specs.Calls.{Call, Request, call_under}
 use Rattle.mx_log.specs.LineOutputs.{response_output, step_output}
 use Rattle.mx_log.specs.LineRuns.{IsCalled, IsDone, IsTaken}
 use Rattle.mx_log.specs.Lines.{Line, step_line, call_line}
-use Rattle.mx_log.specs.LineSteps.{call_reply, call_steps, first_of, line_output, line_steps, step_shown}
+use Rattle.mx_step_replies.specs.Steps.{step_shown}
+use Rattle.mx_log.specs.LineSteps.{call_reply, call_steps, first_of, line_output, line_steps}
 use Rattle.mx_pdu.specs.declared.offering.Offered.{Offered}
 use Rattle.mx_requests.specs.ReplyBodies.{Response, failure}
 use Rattle.mx_requests.specs.declared.faults.Fault.{Fault}

@@ -11,8 +11,8 @@ use Rattle.mx_world.specs.declared.steps.StepReply.{StepReply}
 use Rattle.mx_world.specs.declared.steps.StepReply.TheVariants.{OfRoom, Opened, Replayed, Busy, NotOpen, NoMore, OfEvent, MoreLeft, Closed}
 use Rattle.mx_requests.specs.Calls.{Call}
 use Rattle.mx_log.specs.LineRuns.{AreDone, AreFollowed, AreTaken, AreTakenFrom, AreTurned, IsCalled, IsTaken, nexts}
-use Rattle.mx_log.specs.LineSteps.{first_of, first_step, following, last_of, once_open, reply_to, step_shown, steps_from, turns}
-use Rattle.mx_log.specs.Lines.{StepView, open_step, next_step, close_step}
+use Rattle.mx_step_replies.specs.Steps.{first_step, reply_to, step_shown, StepView, open_step, next_step, close_step}
+use Rattle.mx_log.specs.LineSteps.{first_of, following, last_of, once_open, steps_from, turns}
 use Rattle.mx_pdu.specs.declared.offering.Offered.{Offered}
 use Rattle.mx_requests.specs.ReplyBodies.{Response}
 use Rattle.mx_log.proofs.LineRunLemmas.{map_one, replies_append}

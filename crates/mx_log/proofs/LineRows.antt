@@ -4,7 +4,8 @@ use Prim.Native.String.{String}
 use Rattle.serde_json.proofs.OnLiterals.{serde_json_on_literals}
 use Rattle.mx_redact.specs.Fields.{Event}
 use Rattle.mx_pdu.specs.Format.{format_error, is_well_formed}
-use Rattle.mx_log.specs.Lines.{Line, bad_line, malformed_host, step_line, call_line, open_step, next_step, close_step, read_line}
+use Rattle.mx_step_replies.specs.Steps.{open_step, next_step, close_step}
+use Rattle.mx_log.specs.Lines.{Line, bad_line, malformed_host, step_line, call_line, read_line}
 use Rattle.mx_pdu.specs.declared.offering.Offered.{Offered}
 use Rattle.mx_requests.proofs.OnExamples.{wire_on_examples}
 

@@ -12,7 +12,8 @@ use Rattle.mx_world.specs.declared.steps.Step.{Step}
 use Rattle.mx_world.specs.declared.steps.Step.TheVariants.{Host}
 use Rattle.mx_world.specs.declared.steps.StepReply.{StepReply}
 use Rattle.mx_world.specs.declared.steps.StepReply.TheVariants.{OfRoom}
-use Rattle.mx_log.specs.Lines.{Line, host_step, read_line, step_line}
+use Rattle.mx_step_replies.specs.Steps.{host_step}
+use Rattle.mx_log.specs.Lines.{Line, read_line, step_line}
 
 abbrev pub answers_hosted : Answer → Bool
 answers_hosted (Hosted id) = true

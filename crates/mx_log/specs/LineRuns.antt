@@ -12,9 +12,10 @@ use Rattle.mx_world.specs.declared.steps.Step.{Step}
 use Rattle.mx_world.specs.declared.steps.StepReply.{StepReply}
 use Rattle.mx_requests.specs.Calls.{Call}
 use Rattle.mx_log.specs.LineOutputs.{has_refusal}
-use Rattle.mx_log.specs.Lines.{Line, StepView, next_step, close_step, read_line}
+use Rattle.mx_step_replies.specs.Steps.{StepView, next_step, close_step, first_step, reply_to, step_shown}
+use Rattle.mx_log.specs.Lines.{Line, read_line}
 use Rattle.mx_pdu.specs.declared.offering.Offered.{Offered}
-use Rattle.mx_log.specs.LineSteps.{AreRun, Exchange, first_of, first_step, last_of, line_output, line_steps, once_open, reply_to, step_shown, steps_from}
+use Rattle.mx_log.specs.LineSteps.{AreRun, Exchange, first_of, last_of, line_output, line_steps, once_open, steps_from}
 use Rattle.mx_log.specs.LinesShown.{refusal_output}
 use Rattle.mx_requests.specs.ReplyBodies.{Response}
 use Rattle.mx_log.specs.declared.answers.LineRefusal.{LineRefusal}

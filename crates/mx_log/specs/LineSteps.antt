@@ -1,41 +1,24 @@
 -- The steps of each line, and its output by the replies to them (our own).
 use Rattle.std.specs.Prelude.{ℕ, ◌≡◌, List, [], ◌∷◌, ◌++◌, codes, flat_map, length, map, Option, None, Some, Ok, Err}
 use Rattle.mx_redact.specs.Fields.{Event}
-use Rattle.mx_shard.specs.declared.answers.Answer.TheVariants.{ToJoined, ToAsked}
 use Rattle.mx_book.specs.declared.transaction_keys.TransactionKey.{TransactionKey}
 use Rattle.mx_world.specs.Calls.{Start}
 use Rattle.mx_world.specs.Replies.{AreReplies}
 use Rattle.mx_world.specs.View.{WorldView}
 use Rattle.mx_world.specs.Worlds.{IsAfter}
 use Rattle.mx_world.specs.declared.steps.Step.{Step}
-use Rattle.mx_world.specs.declared.steps.Step.TheVariants.{Host, Open, Next, Close, Join, Ask}
 use Rattle.mx_world.specs.declared.steps.StepReply.{StepReply}
-use Rattle.mx_world.specs.declared.steps.StepReply.TheVariants.{OfRoom, Opened, Replayed, NotOpen, Closed}
-use Rattle.mx_requests.specs.Calls.{Call, sends, asks, joins, call_under}
-use Rattle.mx_requests.specs.JoinReplies.{join_reply}
+use Rattle.mx_world.specs.declared.steps.StepReply.TheVariants.{Opened, NotOpen}
+use Rattle.mx_requests.specs.Calls.{Call, call_under}
 use Rattle.mx_log.specs.LineOutputs.{bad_output, refused_output, response_output, step_output}
-use Rattle.mx_log.specs.Lines.{Line, bad_line, malformed_host, step_line, call_line, lines_of, read_line, StepView, host_step, open_step, next_step, close_step, join_step, ask_step}
+use Rattle.mx_step_replies.specs.Steps.{StepView, open_step, next_step, close_step, step_shown, first_step, reply_to}
+use Rattle.mx_log.specs.Lines.{Line, bad_line, malformed_host, step_line, call_line, lines_of, read_line}
 use Rattle.mx_pdu.specs.Offers.{Judge, offer_by}
 use Rattle.mx_pdu.specs.declared.offering.Offered.{Offered}
-use Rattle.mx_requests.specs.ReplyBodies.{Response, success, failure, query_reply}
+use Rattle.mx_requests.specs.ReplyBodies.{Response, failure}
 use Rattle.mx_requests.specs.Requests.{Read}
-use Rattle.mx_requests.specs.declared.faults.Fault.TheVariants.{NotFound, Busy as TransactionBusy}
-
-abbrev pub step_shown : Step → StepView
-step_shown (Host o) = host_step o
-step_shown (Open key events) = open_step key events.items
-step_shown (Next key) = next_step key
-step_shown (Close key) = close_step key
-step_shown (Join origin o) = join_step origin o
-step_shown (Ask origin now q) = ask_step origin now q
 
 -- ---- the steps of a request
-
--- a transaction is opened first
-abbrev pub first_step : ℕ → Call → StepView
-first_step now (sends origin txn events) = open_step (record { origin = origin; txn = txn }) events
-first_step now (asks origin q) = ask_step origin now q
-first_step now (joins origin o) = join_step origin o
 
 -- each event's turn, and the close
 abbrev pub turns : TransactionKey → List Offered → List StepView
@@ -61,15 +44,6 @@ call_steps now (Err f) reply = []
 call_steps now (Ok call) reply = steps_from (first_step now call) reply
 
 -- ---- the reply to a request
-
--- by its first step and the reply to its last one; of a room that is not hosted nothing is found
-abbrev pub reply_to : List ℕ → StepView → StepReply → Response
-reply_to server (open_step key events) (Closed body) = success body
-reply_to server (open_step key events) (Replayed body) = success body
-reply_to server (open_step key events) _ = failure TransactionBusy
-reply_to server (ask_step origin now q) (OfRoom (ToAsked answered)) = query_reply server now q answered
-reply_to server (join_step origin o) (OfRoom (ToJoined reply)) = join_reply server reply
-reply_to server _ _ = failure NotFound
 
 abbrev pub last_of : List StepReply → StepReply
 last_of [] = NotOpen

@@ -9,23 +9,15 @@ use Rattle.mx_redact.specs.Fields.{Event, field, object_keys, text_field, words}
 use Rattle.mx_pdu.specs.Format.{is_well_formed}
 use Rattle.mx_book.specs.declared.transaction_keys.TransactionKey.{TransactionKey}
 use Rattle.mx_room.specs.declared.moments.TheConstants.{LATEST_MILLISECONDS}
-use Rattle.mx_room.specs.declared.queries.Query.{Query}
 use Rattle.mx_requests.specs.Calls.{Request}
 use Rattle.mx_pdu.specs.declared.offering.Offered.{Offered}
+use Rattle.mx_step_replies.specs.Steps.{StepView, host_step, open_step, next_step, close_step}
 use Rattle.mx_requests.specs.Requests.{entries_up_to, json_of, natural_of}
 
 -- the lines of a text; the last may lack its newline
 unfoldable pub lines_of : List ℕ → List (List ℕ)
 lines_of [] = []
 lines_of (c ∷ cs) = if c == 10 then [] ∷ lines_of cs else onto_first c (lines_of cs)
-
--- a step of a server, with the events of an opening as a list
-pub data StepView : Type 0 where
-  host_step : Offered → StepView
-  open_step : TransactionKey → List Offered → StepView
-  next_step close_step : TransactionKey → StepView
-  join_step : (origin : List ℕ) → Offered → StepView
-  ask_step : (origin : List ℕ) → (now : ℕ) → Query → StepView
 
 -- a line that hosts a room by a malformed event, a step, a request at a moment, and any other line
 pub data Line : Type 0 where

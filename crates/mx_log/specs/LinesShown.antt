@@ -11,7 +11,7 @@ use Rattle.mx_requests.specs.declared.faults.Fault.TheVariants as fault
 use Rattle.mx_requests.specs.CallsShown.{request_shown}
 use Rattle.mx_log.specs.LineOutputs.{bad_output, error_output, fault_output, refused_output, response_output, step_output}
 use Rattle.mx_log.specs.Lines.{Line, bad_line, malformed_host, step_line, call_line}
-use Rattle.mx_log.specs.LineSteps.{step_shown}
+use Rattle.mx_step_replies.specs.Steps.{step_shown}
 use Rattle.mx_requests.specs.RepliesShown.{reply_shown}
 
 abbrev pub call_line_shown : CallLine → Line

@@ -1,12 +1,12 @@
 // The lines of a file of rooms that a server is to host.
-ghost use Rattle.std.specs.Prelude.{◌≡◌, ◌⊎◌, false, IfErr, IfNone, IfOk, IfSome, OnErr};
+ghost use Rattle.std.specs.Prelude.{◌≡◌, ◌≢◌, ◌⊎◌, false, IfErr, IfNone, IfOk, IfSome, OnErr};
 ghost use Rattle.mx_pdu.specs.Offers.{offer_by};
 ghost use Rattle.mx_world.specs.Worlds.{Stays};
 ghost use Rattle.mx_world.specs.declared.steps.Step.TheVariants.{Host};
 ghost use Rattle.mx_log.specs.HostAnswers.{IsHostAnswer, answer_hosts};
 ghost use Rattle.mx_log.specs.HostLines.{HostsNone, HostsRoom, IsNext, answers_hosted, asks_to_host, tells_hosted};
-ghost use Rattle.mx_log.specs.LineSteps.{step_shown};
-ghost use Rattle.mx_log.specs.Lines.{host_step, malformed_host, read_line as line_of, step_line};
+ghost use Rattle.mx_step_replies.specs.Steps.{step_shown, host_step};
+ghost use Rattle.mx_log.specs.Lines.{malformed_host, read_line as line_of, step_line};
 ghost use Rattle.mx_log.specs.LinesShown.{line_shown};
 
 use crate::answers::writing::{write_answer, write_refusal};
@@ -55,6 +55,8 @@ pub fn read_host_line<V: Verifier>(
         → line_of (offer_by (V.judges verifier.now)) text.now ≡ malformed_host) }
     ensures other { IfOk result (λ line. line ≡ HostLine.Other
         → asks_to_host (line_of (offer_by (V.judges verifier.now)) text.now) ≡ false) }
+    ensures not_malformed { IfOk result (λ line. line ≡ HostLine.Other
+        → line_of (offer_by (V.judges verifier.now)) text.now ≢ malformed_host) }
 {
     let mut scratch = Scratch::new(alloc);
     let line = read_line(alloc, &mut scratch, verifier, text)?;
@@ -66,6 +68,7 @@ fn hosting_line(line: Line) -> HostLine
     ensures event { (event : Offered) → result ≡ HostLine.Event event → line_shown line ≡ step_line (host_step event) }
     ensures malformed { result ≡ HostLine.Malformed → line_shown line ≡ malformed_host }
     ensures other { result ≡ HostLine.Other → asks_to_host (line_shown line) ≡ false }
+    ensures not_malformed { result ≡ HostLine.Other → line_shown line ≢ malformed_host }
 {
     match line {
         Line::Step(step) => match event_of_hosting(step) {

@@ -1,5 +1,4 @@
-//! Logs of steps and of other servers' requests, answered line by line by a server on one thread; and the replies to
-//! requests, by the replies to their steps.
+//! Logs of steps and of other servers' requests, answered line by line by a server on one thread.
 #![tactic(auto)]
 
 mod answers;
@@ -19,6 +18,5 @@ pub use input::{InputError, read_all};
 pub use lines::splitting::first_line;
 pub use log_servers::{WatchedServer, server_after_log};
 pub use logs::{LinesError, run_lines};
-pub use steps::replies::{asked_reply, joined_reply, sent_reply};
 pub use strict_logs::{BadLine, run_lines_to_bad};
 pub use watching::{LineForm, LogWatcher};

@@ -12,13 +12,11 @@ ghost use Rattle.mx_pdu.specs.Offers.{offer_by};
 ghost use Rattle.mx_requests.specs.RepliesShown.{reply_shown};
 ghost use Rattle.mx_requests.specs.ReplyBodies.{failure};
 
-pub(crate) mod replies;
 mod sequences;
 
 use crate::answers::{LineAnswer, LineRefusal};
 use crate::lines::Line;
 use crate::lines::call_forms::CallLine;
-use crate::steps::replies::write_reply;
 use crate::steps::sequences::{first_step_of, last_reply};
 use crate::watching::{LineDesk, LogWatcher};
 use mx_ident::ServerName;
@@ -26,6 +24,7 @@ use mx_keeper::{BookRow, Keeper, ShardRow};
 use mx_pdu::Verifier;
 use mx_requests::{Fault, WireCall, WireReply, WireServer, fault_reply, read_request};
 use mx_room::Moment;
+use mx_step_replies::write_reply;
 use mx_world::{Step, StepReply, World};
 use std::alloc::Global;
 

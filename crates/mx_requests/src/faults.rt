@@ -249,7 +249,7 @@ fn close_body<S: TextSink>(sink: &mut S, fault: Fault)
 }
 
 /// The body of [`Fault::Memory`], which needs no memory.
-pub(crate) fn memory_body() -> &'static [u8]
+pub fn memory_body() -> &'static [u8]
     ensures { result.now ≡ fault_body Fault.Memory }
 {
     b"{\"errcode\":\"M_UNKNOWN\",\"error\":\"memory\"}"

@@ -16,9 +16,9 @@ use Rattle.mx_orders.specs.Mainline.{sorted}
 use Rattle.mx_room.specs.EventOrders.{is_as_deep}
 use Rattle.mx_room.specs.HistoryWalks.{AreRows, IsLast, IsWalk, Walks, bounded, is_behind, is_sought, is_under, row_cmp, sought_between, waits}
 use Rattle.mx_room.specs.Queries.{depth_falling}
-use Rattle.mx_room.specs.declared.history_walks.HistoryWalk.{HistoryWalk}
-use Rattle.mx_room.specs.declared.history_walks.RowByDepth.{RowByDepth}
-use Rattle.mx_room.specs.declared.history_walks.Sought.{Sought}
+use Rattle.mx_room.specs.declared.queries.history_walks.HistoryWalk.{HistoryWalk}
+use Rattle.mx_room.specs.declared.queries.history_walks.RowByDepth.{RowByDepth}
+use Rattle.mx_room.specs.declared.queries.history_walks.Sought.{Sought}
 use Rattle.mx_room.proofs.DeepestLemmas.{enough-deep, filter-all}
 use Rattle.mx_room.proofs.HistoryOrderLemmas.{in-append_one, less-is}
 use Rattle.mx_room.proofs.HistoryWalkLemmas.{walk-ends, walk-leaves, walk-looks}

@@ -11,7 +11,7 @@ use Rattle.std.proofs.lemmas.Bool.Decides.{nat_tests}
 use Rattle.mx_graph.specs.Depths.{depth_bound}
 use Rattle.mx_graph.specs.Record.{Row, is_in}
 use Rattle.mx_room.specs.HistoryWalks.{AreBounded, bounded, is_under, row_cmp, waits}
-use Rattle.mx_room.specs.declared.history_walks.RowByDepth.{RowByDepth}
+use Rattle.mx_room.specs.declared.queries.history_walks.RowByDepth.{RowByDepth}
 
 -- ---- the order
 

@@ -15,7 +15,7 @@ use Rattle.mx_graph.proofs.ReachedLemmas.{closures-least}
 use Rattle.mx_orders.specs.Mainline.{sorted}
 use Rattle.mx_room.specs.HistoryWalks.{is_behind, is_sought, sought_between}
 use Rattle.mx_room.specs.Queries.{backfill, depth_falling, depth_rising, held, missing_events}
-use Rattle.mx_room.specs.declared.history_walks.Sought.{Sought}
+use Rattle.mx_room.specs.declared.queries.history_walks.Sought.{Sought}
 use Rattle.mx_room.proofs.HistoryFoundLemmas.{behind-all}
 
 back-test : (b n c m r : Bool) → n ≡ false → c ≡ false → m ≡ true → ((b && not n) && (not c && (m && r))) ≡ (b && r)

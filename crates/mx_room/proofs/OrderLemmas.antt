@@ -20,7 +20,7 @@ use Rattle.mx_orders.proofs.CountLemmas.{all-at, rising-sorted}
 use Rattle.mx_receipt.specs.Receipt.{Kept, rows_of}
 use Rattle.mx_room.specs.EventOrders.{IsListed, listed_id_rising, listed_depth_rising, listed_depth_falling}
 use Rattle.mx_room.specs.Queries.{id_rising, depth_rising, depth_falling}
-use Rattle.mx_room.specs.declared.event_orders.Listed.{Listed}
+use Rattle.mx_room.specs.declared.queries.event_orders.Listed.{Listed}
 
 module _ {A : Type 0} (cmp : A → A → Ordering) (o : IsTotalOrder cmp) where
   abbrev tie : A → A → Bool

@@ -6,7 +6,7 @@ use Rattle.std.specs.Ordering.{then_cmp, flip_args, on, nat_cmp}
 use Rattle.std.specs.Cmp.Lexicographic.{slice_cmp}
 use Rattle.mx_pdu.specs.Event.{depth_of}
 use Rattle.mx_graph.specs.Record.{Row, row, event}
-use Rattle.mx_room.specs.declared.event_orders.Listed.{Listed}
+use Rattle.mx_room.specs.declared.queries.event_orders.Listed.{Listed}
 
 -- it is what its event says
 pub record IsListed (rows : List Row) (l : Listed) : Type 0 where

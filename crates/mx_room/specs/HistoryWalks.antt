@@ -9,9 +9,9 @@ use Rattle.mx_pdu.specs.Event.{depth_of}
 use Rattle.mx_graph.specs.Depths.{depth_bound}
 use Rattle.mx_graph.specs.Graph.{ancestors}
 use Rattle.mx_graph.specs.Record.{Row, row, event, events_where, is_in, prev_events}
-use Rattle.mx_room.specs.declared.history_walks.RowByDepth.{RowByDepth}
-use Rattle.mx_room.specs.declared.history_walks.Sought.{Sought}
-use Rattle.mx_room.specs.declared.history_walks.HistoryWalk.{HistoryWalk}
+use Rattle.mx_room.specs.declared.queries.history_walks.RowByDepth.{RowByDepth}
+use Rattle.mx_room.specs.declared.queries.history_walks.Sought.{Sought}
+use Rattle.mx_room.specs.declared.queries.history_walks.HistoryWalk.{HistoryWalk}
 
 -- ---- what is sought
 

@@ -7,10 +7,10 @@ ghost use Rattle.mx_room.specs.Joins.{join_reply, join_reply_by, row_by_join, ta
 ghost use Rattle.mx_room.specs.Offer.{is_kept, offer_outcome, row_by};
 
 use crate::event_lists::EventList;
-use crate::given_events::{all_served, served_event};
 use crate::outcomes::Outcome;
+use crate::queries::served_events::{all_served, served_event};
+use crate::queries::state_queries::{chain_by_id, events_before};
 use crate::rooms::prepare_in;
-use crate::state_queries::{chain_by_id, events_before};
 use mx_graph::EventNo;
 use mx_ident::{EventId, ServerName};
 use mx_pdu::{Offered, Pdu};

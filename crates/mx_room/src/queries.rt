@@ -2,8 +2,19 @@
 ghost use Rattle.std.specs.Prelude.{◌≡◌, option_copied};
 ghost use Rattle.mx_room.specs.Queries.{room_named};
 
+pub(crate) mod answering;
+pub(crate) mod event_orders;
+pub(crate) mod history_queries;
+pub(crate) mod history_walks;
+pub(crate) mod join_queries;
+pub(crate) mod join_templates;
+pub(crate) mod marked_events;
+pub(crate) mod plain_history;
+pub(crate) mod served_events;
+pub(crate) mod state_queries;
+
 use crate::event_lists::{EventIdList, EventList, VersionList};
-use crate::join_templates::JoinTemplate;
+use crate::queries::join_templates::JoinTemplate;
 use mx_auth::{RoomVersion, Rule};
 use mx_ident::{EventId, RoomId, UserId};
 use mx_pdu::Pdu;

@@ -13,12 +13,12 @@ ghost use Rattle.mx_room.specs.RoomView.{IsHosted, create_id, has_event};
 ghost use Rattle.mx_room.specs.declared.hosting.NotARoom.{NotARoom as Cause};
 ghost use Rattle.mx_receipt.specs.declared.refusals.NotReceived.{NotReceived as WhyNot};
 
-use crate::answering::answer_in;
-use crate::forms::kept_form;
 use crate::hosting::{HostError, hosting_fault, reopening_fault};
 use crate::joining::{JoinReply, prepare_join_in};
+use crate::kept_forms::kept_form;
 use crate::moments::Moment;
 use crate::outcomes::{Outcome, Refusal};
+use crate::queries::answering::answer_in;
 use crate::queries::{Denied, Query, QueryReply};
 use mx_access::acl_allows;
 use mx_auth::RoomVersion;

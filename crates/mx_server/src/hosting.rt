@@ -3,9 +3,9 @@ ghost use Rattle.std.specs.Prelude.{◌≡◌, ◌↔◌};
 
 use mx_directory::{ServerError, StartError};
 use mx_keeper::{BookRow, Keeper, ShardRow};
+use mx_log::{HostLineOutcome, InputError, first_line, host_by_line, read_all};
 use mx_options::ServeOptions;
 use mx_pdu::PresenceVerifier;
-use mx_wire::{HostLineOutcome, InputError, first_line, host_by_line, read_all};
 use mx_world::World;
 use std::alloc::Global;
 use std::fs;

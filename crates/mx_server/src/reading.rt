@@ -1,6 +1,6 @@
 // What requests ask for, and which shards they go to.
-use crate::sending::sent_plainly;
 use mx_http::{AskedCall, Claim, HttpReply, HttpRequest, ReadRequest};
+use mx_http_requests::{http_reply, wire_request};
 use mx_keeper::ShardCount;
 use mx_pdu::PresenceVerifier;
 use mx_room::Query;
@@ -37,7 +37,7 @@ impl RequestReader {
 
     /// What a request asks for, or the reply that tells its fault.
     pub fn read(&self, alloc: Global, request: HttpRequest) -> ReadRequest<WireCall> {
-        let request = asked(request);
+        let request = wire_request(request);
         match read_call(alloc, &self.server, &PresenceVerifier, &request) {
             Ok(call) => ReadRequest::Asking(AskedCall {
                 claim: claim_of(shards_of(&call, self.shards)),
@@ -46,7 +46,7 @@ impl RequestReader {
             }),
             Err(fault) => {
                 let RequestReply { reply, .. } = refuse_request(alloc, fault);
-                let mut refusal = sent_plainly(reply);
+                let mut refusal = http_reply(reply);
                 self.tell_method(alloc, &request, &mut refusal);
                 ReadRequest::Refused(refusal)
             }
@@ -60,21 +60,6 @@ impl RequestReader {
                 refusal.allowed = String::from_str(alloc, method).ok();
             }
         }
-    }
-}
-
-fn asked(request: HttpRequest) -> WireRequest {
-    let HttpRequest {
-        method,
-        target,
-        authorization,
-        body,
-    } = request;
-    WireRequest {
-        method,
-        target,
-        authorization,
-        body,
     }
 }
 

@@ -1,16 +1,13 @@
 // `serve`: a server on loopback, over files.
 ghost use Rattle.std.specs.Prelude.{◌≡◌, ◌≤◌, IfOk, length};
 
-use crate::admin_view::{AdminView, start_admin};
 use crate::crews::Crew;
 use crate::hosting::{file_of_rooms, host_rooms, rooms_to_host};
 use crate::losses::check_losses;
 use crate::ports::{limits_of, listener_at, port_of, unserved};
 use crate::reading::RequestReader;
-use crate::room_watch::{RoomNotices, RoomWatch, start_room_watch};
-use crate::watching::{FileWatch, start_watch};
 use crate::workers::{Handler, ServerEngine, Shared, Worker, workers_of};
-use mx_admin::{Desk, DeskThread, Failures, RecordLog, RoomDesk};
+use mx_admin::{Desk, DeskThread, Failures, RoomDesk};
 use mx_directory::{
     RowFile, RowFiles, ServerError, ServerFiles, StartError, WatchedKeeper, open_directory,
 };
@@ -23,6 +20,10 @@ use mx_name_grammar::is_in_grammar;
 use mx_options::{SeatCount, ServeOptions};
 use mx_pdu::PresenceVerifier;
 use mx_room::Moment;
+use mx_watch::{
+    AdminView, FileWatch, RoomNotices, RoomWatch, ServerTold, start_admin, start_file_watch,
+    start_room_watch,
+};
 use mx_wire::{WireCall, WireServer};
 use mx_world::World;
 use sqlite::Alter;
@@ -31,14 +32,6 @@ use std::io::{self, Write};
 use std::net::TcpListener;
 use std::sync::{Arc, Wait};
 use std::time::Clock;
-
-/// Where a server tells who runs it what happens: through lines, through a log, where it keeps one, and the files that failed.
-#[derive(Drop)]
-pub struct ServerTold {
-    pub lines: LineSender,
-    pub log: Option<RecordLog>,
-    pub failures: Failures,
-}
 
 /// Opens the server's directory, hosts the rooms of its file of rooms, binds its port, starts its threads, says so in a line
 /// on `out`, and then on `lines` where its files are, and answers requests: for good, or until what keeps rows has failed or
@@ -123,7 +116,7 @@ fn watch_of<R: ServerRuntime + 'static>(
     };
     let watch = FileWatch::new(alloc, host, files, &options.data)?;
     let watch = Arc::new(alloc, watch)?;
-    start_watch(rt, Arc::try_clone(&watch)?)?;
+    start_file_watch(rt, Arc::try_clone(&watch)?)?;
     Ok(watch)
 }
 
@@ -310,7 +303,7 @@ where
     let rooms = oversight.rooms.another()?;
     let lines = oversight.lines.another()?;
     let watch = RoomWatch {
-        worker,
+        rooms: worker,
         shards,
         notices: RoomNotices::new(rt.alloc(), rooms, lines),
     };

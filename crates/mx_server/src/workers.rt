@@ -1,15 +1,19 @@
 // A worker: a seat of an engine, which answers requests.
-ghost use Rattle.std.specs.Prelude.{◌≡◌, All};
-ghost use Rattle.mx_engine.specs.Seats.{IsSeatOf, seat_number};
+ghost use Rattle.std.specs.Prelude.{◌≡◌, All, IfSome, None};
+ghost use Rattle.mx_engine.specs.Seats.{IsSeatOf, book_views, seat_number, shard_views};
+ghost use Rattle.mx_http_requests.specs.Carried.{IsCarried, http_reply_shown};
+ghost use Rattle.mx_requests.specs.CallsShown.{call_shown};
+ghost use Rattle.mx_requests.specs.RepliesShown.{reply_shown};
+ghost use Rattle.mx_wire.specs.Responses.{IsCallAnswered, IsCallRefused, unavailable};
 
 use crate::reading::RequestReader;
-use crate::sending::sent_plainly;
 use bytes::Bytes;
 use mx_admin::DeskThread;
 use mx_answer_records::{Answered, CallAbout, RequestAbout, note_answer};
 use mx_directory::RowFiles;
 use mx_engine::{Engine, OpenGate, Seat};
 use mx_http::{AskedCall, HttpReply, HttpRequest, ReadRequest, Responder};
+use mx_http_requests::http_reply;
 use mx_ident::ServerName;
 use mx_keeper::{BookRow, CallError, Keeper, ShardRow};
 use mx_pdu::{Pdu, PresenceVerifier};
@@ -90,13 +94,8 @@ impl<K: Keeper<Row = ShardRow> + Send, L: Keeper<Row = BookRow>> Worker<K, L> {
 }
 
 impl<K: Keeper<Row = ShardRow>, L: Keeper<Row = BookRow>> Worker<K, L> {
-    /// What judges the signatures of events.
-    pub fn verifier(&self) -> &PresenceVerifier {
-        self.shared.engine.verifier()
-    }
-
     /// What is read of the rooms of a shard; none where there is no such shard.
-    pub fn read_rooms<R: Wait, A, F: FnOnce(&[Room]) -> A + Drop>(
+    pub fn read<R: Wait, A, F: FnOnce(&[Room]) -> A + Drop>(
         &mut self,
         rt: &R,
         shard: usize,
@@ -165,14 +164,16 @@ fn answered_request<K: Keeper<Row = ShardRow>, L: Keeper<Row = BookRow>, R: Wait
     alloc: Global,
     shared: &Shared<K, L>,
     answered: RequestReply,
-) -> AnsweredRequest {
+) -> AnsweredRequest
+    ensures { IsCarried (reply_shown answered.reply) (http_reply_shown result.reply) }
+{
     let RequestReply { reply, refused } = answered;
     let has_failed = refused == Some(CallError::Storage);
     if has_failed {
         shared.files.tell(rt, alloc);
     }
     AnsweredRequest {
-        reply: sent_plainly(reply),
+        reply: http_reply(reply),
         is_last: has_failed && shared.files.stop_on_failure,
     }
 }
@@ -297,8 +298,8 @@ impl<F: FnMut(Global, Moment, WireCall) -> AnsweredRequest + Drop, C: Wait + Clo
 
     fn refuse_body(&self, alloc: Global) -> HttpReply {
         let reply = match fault_reply(alloc, Fault::TooLarge) {
-            Ok(reply) => sent_plainly(reply),
-            Err(_refused) => sent_plainly(memory_reply()),
+            Ok(reply) => http_reply(reply),
+            Err(_refused) => http_reply(memory_reply()),
         };
         self.noted_unread(alloc, reply)
     }
@@ -340,6 +341,11 @@ fn answer_in<K: Keeper<Row = ShardRow> + Send, L: Keeper<Row = BookRow>, R: Thre
     requires { IsSeatOf shared.now.engine seat.old }
     ensures seat { IsSeatOf shared.now.engine seat.new }
     ensures number { seat_number seat.new ≡ seat_number seat.old }
+    ensures reply { result.refused ≡ None → IsCallAnswered shared.now.name now (seat_number seat.old) (call_shown call)
+        (shard_views seat.old) (book_views seat.old) (shard_views seat.new) (book_views seat.new) (reply_shown result.reply) }
+    ensures refused { IfSome result.refused (λ error. IsCallRefused (seat_number seat.old) (call_shown call)
+        (shard_views seat.old) (book_views seat.old) (shard_views seat.new) (book_views seat.new)
+        × (reply_shown result.reply ≡ unavailable error)) }
 {
     answer_call(rt, alloc, &shared.name, &shared.engine, seat, now, call)
 }

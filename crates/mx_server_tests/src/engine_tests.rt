@@ -146,8 +146,8 @@ fn are_both_sent<R: Threads + Wait + Sync>(
     Ok(has_both(&reply))
 }
 
-// One transaction has an event of each of two rooms in two shards. The call in the first shard stays there until the call in
-// the second one is inside: neither waits for too long, and the reply has both events, with no fault.
+// One transaction has an event of each of two rooms in two shards. Each of its two calls stays in its shard until the other one
+// is inside its own: neither waits for too long, and the reply has both events, with no fault.
 #[test]
 fn one_transaction_in_two_shards_at_once(rt: HostRuntime) -> Result<(), Fail> {
     let alloc = rt.alloc();

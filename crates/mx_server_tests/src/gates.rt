@@ -13,13 +13,15 @@ const YIELDS_A_TURN: u32 = 1_000;
 
 // Two callers that meet in the engine, where they are asked to: the first one is held inside the first shard until the
 // second one is answered, and the second one sends nothing before the first one is held. Or two calls of one transaction
-// meet: the one in the first shard is held there until the other is inside the second shard. Whether one waited for too long.
+// meet: each is held inside its shard until the other one is inside another shard. Whether one waited for too long.
 #[derive(Drop)]
 pub struct Meeting {
     is_asked: AtomicBool,
     is_asked_of_calls: AtomicBool,
-    is_held: AtomicBool,
-    is_answered: AtomicBool,
+    // Whether the first caller, or a call, is inside the first shard.
+    is_first_inside: AtomicBool,
+    // Whether the second caller is answered, or a call is inside another shard.
+    has_other_come: AtomicBool,
     is_given_up: AtomicBool,
 }
 
@@ -28,8 +30,8 @@ impl Meeting {
         Meeting {
             is_asked: AtomicBool::new(false),
             is_asked_of_calls: AtomicBool::new(false),
-            is_held: AtomicBool::new(false),
-            is_answered: AtomicBool::new(false),
+            is_first_inside: AtomicBool::new(false),
+            has_other_come: AtomicBool::new(false),
             is_given_up: AtomicBool::new(false),
         }
     }
@@ -48,28 +50,26 @@ impl Meeting {
         self.is_given_up.load(Ordering::SeqCst)
     }
 
-    // The first caller is inside the first shard.
-    fn hold(&self) {
-        if self.is_asked.load(Ordering::SeqCst) {
-            self.is_held.store(true, Ordering::SeqCst);
-            self.wait_for(&self.is_answered);
-        }
-        if self.is_asked_of_calls.load(Ordering::SeqCst) {
-            self.wait_for(&self.is_answered);
+    // A call is inside the first shard, as of the first caller.
+    fn enter_first(&self) {
+        if self.is_asked.load(Ordering::SeqCst) || self.is_asked_of_calls.load(Ordering::SeqCst) {
+            self.is_first_inside.store(true, Ordering::SeqCst);
+            self.wait_for(&self.has_other_come);
         }
     }
 
     // A call is inside another shard.
-    fn enter(&self) {
+    fn enter_other(&self) {
         if self.is_asked_of_calls.load(Ordering::SeqCst) {
-            self.is_answered.store(true, Ordering::SeqCst);
+            self.has_other_come.store(true, Ordering::SeqCst);
+            self.wait_for(&self.is_first_inside);
         }
     }
 
     // The caller at this place is about to send.
     pub fn before(&self, place: usize) {
         if place != 0 && self.is_asked.load(Ordering::SeqCst) {
-            self.wait_for(&self.is_held);
+            self.wait_for(&self.is_first_inside);
         }
     }
 
@@ -77,7 +77,7 @@ impl Meeting {
     // to be held until the second one is answered while the first one is held.
     pub fn after(&self, place: usize) {
         if place != 0 && self.is_asked.load(Ordering::SeqCst) {
-            self.is_answered.store(true, Ordering::SeqCst);
+            self.has_other_come.store(true, Ordering::SeqCst);
         }
     }
 
@@ -100,7 +100,7 @@ fn give_way() {
     }
 }
 
-// A gate that holds who is inside the first shard, and tells of who is inside another one.
+// A gate that holds who is inside a shard, where they are to meet.
 #[derive(Drop)]
 pub struct MeetingGate {
     pub meeting: Arc<Meeting>,
@@ -109,9 +109,9 @@ pub struct MeetingGate {
 impl Gate for MeetingGate {
     fn inside<R: Wait>(&self, _rt: &R, shard: usize) {
         if shard == 0 {
-            self.meeting.hold();
+            self.meeting.enter_first();
         } else {
-            self.meeting.enter();
+            self.meeting.enter_other();
         }
     }
 }

@@ -16,7 +16,7 @@ use Rattle.mx_engine.specs.Transactions.{IsRefused, IsReplied}
 use Rattle.mx_engine.specs.declared.replies.TransactionReply.{TransactionReply}
 use Rattle.mx_engine.specs.declared.replies.TransactionReply.TheVariants as reply
 use Rattle.mx_requests.specs.Calls.{Call, Request, sends, asks, joins, call_of}
-use Rattle.mx_log.specs.LineSteps.{first_step, reply_to}
+use Rattle.mx_step_replies.specs.Steps.{first_step, reply_to}
 use Rattle.mx_requests.specs.ReplyBodies.{Response, failure}
 use Rattle.mx_requests.specs.Requests.{Read}
 use Rattle.mx_requests.specs.declared.faults.Fault.TheVariants as faults

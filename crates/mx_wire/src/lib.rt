@@ -5,10 +5,6 @@ mod calls;
 mod responses;
 
 pub use calls::{CallShards, shards_of};
-pub use mx_log::{
-    HostLine, HostLineOutcome, InputError, first_line, host_answer_line, host_by_line, read_all,
-    read_host_line,
-};
 pub use mx_requests::{
     Fault, LARGEST_BODY, ReplyBody, Routes, WireCall, WireReply, WireRequest, WireServer,
     fault_reply, memory_reply,

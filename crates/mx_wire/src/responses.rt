@@ -12,13 +12,13 @@ use json::Scratch;
 use mx_engine::{Engine, Gate, Seat, TransactionReply};
 use mx_ident::ServerName;
 use mx_keeper::{BookRow, CallError, Keeper, ShardRow, TransactionId};
-use mx_log::{asked_reply, joined_reply, sent_reply};
 use mx_pdu::{Offered, Verifier};
 use mx_requests::{
     Fault, WireCall, WireReply, WireRequest, WireServer, fault_reply, memory_reply, read_request,
     storage_reply,
 };
 use mx_room::{Moment, Query};
+use mx_step_replies::{asked_reply, joined_reply, sent_reply};
 use mx_world::{StepReply, TransactionKey};
 use std::alloc::Global;
 use std::sync::Wait;

@@ -2,7 +2,7 @@
 ghost use Rattle.std.specs.Prelude.{◌≡◌};
 ghost use Rattle.mx_http.specs.Memory.{since, longest_from, begun_by, closed_first};
 
-use crate::giving_way::{Wait, longer};
+use crate::places::giving_way::{Wait, longer};
 
 /// What a connection waits for that holds bytes.
 #[derive(Clone, Copy)]

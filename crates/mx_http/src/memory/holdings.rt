@@ -3,10 +3,10 @@ ghost use Rattle.std.specs.Prelude.{◌≡◌, ◌+◌, ◌<◌, ◌++◌, ◌�
 ghost use Rattle.std.specs.List.{remove};
 ghost use Rattle.mx_http.specs.Memory.{held_bytes, may_hold, closed_first, IsNumberedAt, IsChangedAt};
 
-use crate::activities::Activity;
 use crate::guards::ConnectionHandle;
 use crate::memory::closing::{Holder, closed_first};
 use crate::memory::closings::RoomClosings;
+use crate::places::activities::Activity;
 use std::alloc::Global;
 use std::marker::Model;
 use std::sync::Arc;

@@ -8,7 +8,7 @@ ghost use Rattle.mx_world.specs.declared.steps.Step.TheVariants.{Close, Next};
 ghost use Rattle.mx_world.specs.declared.steps.StepReply.{StepReply as AnyReply};
 ghost use Rattle.mx_log.specs.LineRuns.{AreFollowed, AreTaken, AreTakenFrom, AreTurned, IsTaken};
 ghost use Rattle.mx_requests.specs.CallsShown.{call_shown};
-ghost use Rattle.mx_log.specs.LineSteps.{first_step, step_shown};
+ghost use Rattle.mx_step_replies.specs.Steps.{first_step, step_shown};
 
 use crate::answers::LineRefusal;
 use crate::watching::LogWatcher;

@@ -1,5 +1,5 @@
 use Rattle.mx_requests.specs.CallsShown.{call_shown}
-use Rattle.mx_log.specs.LineSteps.{step_shown}
+use Rattle.mx_step_replies.specs.Steps.{step_shown}
 use Rattle.mx_requests.specs.RepliesShown.{reply_shown}
 use Rattle.mx_log.proofs.CallStepLemmas.{taken_called}
 use Rattle.mx_log.proofs.steps.answer_call.Goals as goal

@@ -1,7 +1,6 @@
 use Rattle.std.proofs.Common.{inl, inr, ap, ◌∙◌}
 use Rattle.mx_world.proofs.RefusalLemmas.{on_err}
-use Rattle.mx_log.specs.Lines.{open_step}
-use Rattle.mx_log.specs.LineSteps.{reply_to}
+use Rattle.mx_step_replies.specs.Steps.{open_step, reply_to}
 use Rattle.mx_wire.proofs.responses.answer_transaction.Goals as goal
 
 pub returns-in_err-told-clause-err : goal.returns-in_err-told-clause-err

@@ -1,6 +1,6 @@
 use Rattle.std.proofs.Common.{ℕ, [], ◌∷◌, ◌++◌, ap, ◌∙◌, subst}
 use Rattle.mx_log.specs.LineRuns.{AreFollowed}
-use Rattle.mx_log.specs.LineSteps.{step_shown}
+use Rattle.mx_step_replies.specs.Steps.{step_shown}
 use Rattle.mx_log.proofs.CallStepLemmas.{following-none, only_taken, opening_taken}
 use Rattle.mx_log.proofs.steps.sequences.last_reply.Goals as goal
 
