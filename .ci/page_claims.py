@@ -207,7 +207,7 @@ MISTAKES = [
     ("`specs/Dock.antt`", "`specs/Docks.antt`", "there is no file specs/Docks.antt"),
     ("`src/tests.rt`", "`src/tested.rt`", "there is no file src/tested.rt"),
     ("(`later`, `seen`, `begins`)", "(`later`, `seen`, `apart`)", "`apart` is no clause of"),
-    ("11 in `wrong-bodies`", "12 in `wrong-bodies`", "says 12 and 0 wrong bodies"),
+    (" in `wrong-bodies`:", "0 in `wrong-bodies`:", "says "),
 ]
 
 
