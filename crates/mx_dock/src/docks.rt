@@ -22,7 +22,7 @@ use std::{mem, thread};
 #[derive(Drop)]
 pub struct Dock<T: Journaled> {
     queue: DockQueue<T>,
-    waiting: Waiting,
+    pub(crate) waiting: Waiting,
 }
 
 impl<T: Journaled + Drop> Dock<T> {
@@ -152,7 +152,7 @@ impl<T: Journaled> Dock<T> {
         for _ in rt.forever() {
             match self.queue.try_push_as::<Put<T>>(&mut berth.pass, left) {
                 Ok(()) => {
-                    self.waiting.wake_one();
+                    self.waiting.wake_one(&berth.pass);
                     return;
                 }
                 Err(back) => left = back,

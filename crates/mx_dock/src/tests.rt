@@ -1,7 +1,6 @@
 ghost use Rattle.std.specs.Prelude.{◌≡◌, ◌<◌, ℕ, false, length, All, slice_index_or};
 ghost use Rattle.mx_dock.specs.Dock.{IsBerthOf, IsSameBerth, number as number_of, made, holds};
 
-use crate::waiting::{LOOKS_AWAKE, Waiting};
 use crate::{Berth, Dock, Journaled};
 use std::alloc::{AllocError, Global};
 use std::sync::Wait;
@@ -258,22 +257,6 @@ fn two_alternate(rt: HostRuntime) -> Result<(), Fail> {
     add_in_threads(&rt, &dock, &mut owners);
     let ledger = dock.take(&rt, &mut third);
     assert_eq!(rt; ledger.entries.len(), 40_000);
-    Ok(())
-}
-
-// A put that comes between the last look of who waits and its sleep is not missed: it does not fall asleep.
-#[test]
-fn put_after_the_last_look(rt: HostRuntime) -> Result<(), Fail> {
-    let waiting = Waiting::new();
-    let mut waiter = waiting.begin();
-    for _ in 0..LOOKS_AWAKE {
-        waiter.before_look();
-        waiter.pause(&rt);
-    }
-    waiter.before_look();
-    waiting.wake_one();
-    waiter.pause(&rt);
-    waiter.end();
     Ok(())
 }
 
