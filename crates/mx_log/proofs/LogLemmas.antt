@@ -11,7 +11,8 @@ use Rattle.mx_world.specs.Worlds.{IsAfter}
 use Rattle.mx_log.specs.LineOutputs.{has_refusal}
 use Rattle.mx_log.specs.LineRuns.{AreAnswered, IsDone, IsEnded, IsWritten, answered, not_answered}
 use Rattle.mx_log.specs.Lines.{lines_of, read_line}
-use Rattle.mx_log.specs.declared.answers.LineRefusal.TheVariants.{Memory}
+use Rattle.mx_keeper.specs.declared.refusals.CallError.TheVariants.{Memory}
+use Rattle.mx_log.specs.declared.answers.LineRefusal.TheVariants as refusal
 use Rattle.mx_log.specs.LinesShown.{refusal_output}
 use Rattle.mx_log.specs.LineSteps.{IsAnswered, nothing_yet}
 use Rattle.mx_pdu.specs.Offers.{Judge, offer_by}
@@ -49,9 +50,9 @@ answered_more offer server start lines line before between after w w' so_far (no
 }
 
 -- what is written for an answer, or for an answer that found no memory
-pub written_by : {K L : Type 0} (offer : Event → Offered) (server text output : List ℕ) (told : Bool) (old new : WorldView K L) (before after : Option (List ℕ)) → Appends before after ((if told then output else refusal_output Memory) ++ 10 ∷ []) → ((start : Start) (earlier : List Step) → IsAfter start earlier old → IsDone offer server (read_line offer text) output start earlier new) → IsWritten offer server text old new before after
+pub written_by : {K L : Type 0} (offer : Event → Offered) (server text output : List ℕ) (told : Bool) (old new : WorldView K L) (before after : Option (List ℕ)) → Appends before after ((if told then output else refusal_output (refusal.Step Memory)) ++ 10 ∷ []) → ((start : Start) (earlier : List Step) → IsAfter start earlier old → IsDone offer server (read_line offer text) output start earlier new) → IsWritten offer server text old new before after
 written_by offer server text output true old new before after appends done = answered output appends done
-written_by offer server text output false old new before after appends done = not_answered Memory appends
+written_by offer server text output false old new before after appends done = not_answered (refusal.Step Memory) appends
 
 -- a whole log, where it is known
 pub log_answered : {K L : Type 0} (judges : Judge) (server : List ℕ) (remaining before after : Option (List ℕ)) (w : WorldView K L) → IfSome remaining (λ read. AreAnswered (offer_by judges) server nothing_yet (lines_of read) before after w) → IfSome remaining (λ read. (written : List ℕ) × Appends before after written × (has_refusal written ≡ false → IsAnswered judges server read written))

@@ -19,7 +19,8 @@ use Rattle.mx_log.specs.Lines.{lines_of, read_line}
 use Rattle.mx_log.specs.LinesShown.{refusal_output}
 use Rattle.mx_log.specs.StrictLogs.{IsAnsweredToBad, first_bad, is_bad, up_to_bad}
 use Rattle.mx_log.specs.StrictRuns.{AreAnsweredToBad, AreSound, IsTold, answered, not_answered}
-use Rattle.mx_log.specs.declared.answers.LineRefusal.TheVariants.{Memory}
+use Rattle.mx_keeper.specs.declared.refusals.CallError.TheVariants.{Memory}
+use Rattle.mx_log.specs.declared.answers.LineRefusal.TheVariants as refusal
 use Rattle.mx_log.proofs.LogLemmas.{answered_more, answered_none, clean-before}
 use Rattle.mx_log.proofs.RefusalLineLemmas.{refused}
 
@@ -152,9 +153,9 @@ strictly_answered judges server (Some read) before after bad done = (
 -- what is written for an answer, or for an answer that found no memory
 pub told_by : {K L : Type 0} (offer : Event → Offered)
     (server text output : List ℕ) (wrote told : Bool) (old new : WorldView K L) (before after : Option (List ℕ))
-    → Appends before after ((if wrote then output else refusal_output Memory) ++ 10 ∷ []) → ((start : Start) (earlier : List Step)
+    → Appends before after ((if wrote then output else refusal_output (refusal.Step Memory)) ++ 10 ∷ []) → ((start : Start) (earlier : List Step)
     → IsAfter start earlier old
     → IsDone offer server (read_line offer text) output start earlier new) → told ≡ is_bad (read_line offer text)
     → IsTold offer server text old new before after told
 told_by offer server text output true told old new before after appends done is = answered output appends done is
-told_by offer server text output false told old new before after appends done is = not_answered Memory appends
+told_by offer server text output false told old new before after appends done is = not_answered (refusal.Step Memory) appends

@@ -17,19 +17,7 @@ abbrev pub of_call : CallError → LinesError
 of_call call.Memory = Memory
 of_call call.Storage = Storage
 
--- of a step of a line
-abbrev pub step_refusal : CallError → LineRefusal
-step_refusal call.Memory = refusal.Memory
-step_refusal call.Storage = refusal.Storage
-
--- of a step of a request
-abbrev pub request_refusal : CallError → LineRefusal
-request_refusal call.Memory = refusal.CallMemory
-request_refusal call.Storage = refusal.CallStorage
-
 -- of a line that is refused, where the log ends there
 abbrev pub of_refusal : LineRefusal → LinesError
-of_refusal refusal.Memory = Memory
-of_refusal refusal.Storage = Storage
-of_refusal refusal.CallMemory = Memory
-of_refusal refusal.CallStorage = Storage
+of_refusal (refusal.Step error) = of_call error
+of_refusal (refusal.Request error) = of_call error

@@ -1,6 +1,5 @@
 // What a line is answered.
 ghost use Rattle.std.specs.Prelude.{◌≡◌};
-ghost use Rattle.mx_log.specs.LineErrors.{request_refusal, step_refusal};
 
 pub(crate) mod step_texts;
 pub(crate) mod writing;
@@ -20,53 +19,30 @@ pub(crate) enum LineAnswer {
     Response(WireReply),
 }
 
-/// Why a line is refused.
+/// Why a line is refused, and what it has.
 #[derive(Clone, Copy, Drop)]
 pub(crate) enum LineRefusal {
-    Memory,
-    // What keeps the rows failed.
-    Storage,
-    // The two, for a request.
-    CallMemory,
-    CallStorage,
+    Step(CallError),
+    Request(CallError),
 }
 
 impl From<AllocError> for LineRefusal {
     ghost use Rattle.std.specs.Prelude.{◌≡◌};
-    ghost use Rattle.mx_log.specs.declared.answers.LineRefusal.TheVariants.{CallMemory};
+    ghost use Rattle.mx_keeper.specs.declared.refusals.CallError.TheVariants.{Memory};
+    ghost use Rattle.mx_log.specs.declared.answers.LineRefusal.TheVariants.{Request};
 
-    ghost from_gives = { λ _ refusal. refusal ≡ CallMemory };
+    ghost from_gives = { λ _ refusal. refusal ≡ Request Memory };
 
     fn from(_refused: AllocError) -> LineRefusal {
-        LineRefusal::CallMemory
+        LineRefusal::Request(CallError::Memory)
     }
 }
 
 impl LineRefusal {
-    /// Why a step of a line is refused.
-    pub fn of_step(error: CallError) -> LineRefusal
-        ensures { result ≡ step_refusal error }
-    {
-        match error {
-            CallError::Memory => LineRefusal::Memory,
-            CallError::Storage => LineRefusal::Storage,
-        }
-    }
-
     /// Why a line is refused where no memory is left to read it.
     pub fn unread(_refused: AllocError) -> LineRefusal
-        ensures { result ≡ LineRefusal.Memory }
+        ensures { result ≡ LineRefusal.Step CallError.Memory }
     {
-        LineRefusal::Memory
-    }
-
-    /// Why a step of a request is refused.
-    pub fn of_call(error: CallError) -> LineRefusal
-        ensures { result ≡ request_refusal error }
-    {
-        match error {
-            CallError::Memory => LineRefusal::CallMemory,
-            CallError::Storage => LineRefusal::CallStorage,
-        }
+        LineRefusal::Step(CallError::Memory)
     }
 }

@@ -110,7 +110,7 @@ pub fn host_by_line<K: Keeper<Row = ShardRow>, L: Keeper<Row = BookRow>, V: Veri
             Ok(HostLineOutcome::NotHosted)
         }
         Err(error) => {
-            write_refusal(err, LineRefusal::of_step(error))?;
+            write_refusal(err, LineRefusal::Step(error))?;
             Ok(HostLineOutcome::Refused(error))
         }
     }

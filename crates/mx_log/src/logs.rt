@@ -89,8 +89,7 @@ impl From<LineRefusal> for LinesError {
 
     fn from(refusal: LineRefusal) -> LinesError {
         match refusal {
-            LineRefusal::Memory | LineRefusal::CallMemory => LinesError::Memory,
-            LineRefusal::Storage | LineRefusal::CallStorage => LinesError::Storage,
+            LineRefusal::Step(error) | LineRefusal::Request(error) => LinesError::from(error),
         }
     }
 }

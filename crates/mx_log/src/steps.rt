@@ -1,5 +1,5 @@
 // What is done for a line of a log: its steps, and its answer.
-ghost use Rattle.std.specs.Prelude.{◌≡◌, ◌≢◌, List, IfOk};
+ghost use Rattle.std.specs.Prelude.{◌≡◌, List, IfOk};
 ghost use Rattle.mx_world.specs.Calls.{Start};
 ghost use Rattle.mx_world.specs.Worlds.{IsAfter};
 ghost use Rattle.mx_world.specs.declared.steps.Step.{Step as AnyStep};
@@ -10,7 +10,6 @@ ghost use Rattle.mx_log.specs.Lines.{call_line};
 ghost use Rattle.mx_log.specs.LinesShown.{answer_output, line_shown};
 ghost use Rattle.mx_pdu.specs.Offers.{offer_by};
 ghost use Rattle.mx_requests.specs.RepliesShown.{reply_shown};
-ghost use Rattle.mx_requests.specs.ReplyBodies.{failure};
 
 mod sequences;
 
@@ -22,9 +21,9 @@ use crate::watching::{LineDesk, LogWatcher};
 use mx_ident::ServerName;
 use mx_keeper::{BookRow, Keeper, ShardRow};
 use mx_pdu::Verifier;
-use mx_requests::{Fault, WireCall, WireReply, WireServer, fault_reply, read_request};
+use mx_requests::{WireCall, WireReply, WireServer, read_request};
 use mx_room::Moment;
-use mx_step_replies::write_reply;
+use mx_step_replies::{told_fault, write_reply};
 use mx_world::{Step, StepReply, World};
 use std::alloc::Global;
 
@@ -71,7 +70,7 @@ fn taken<K: Keeper<Row = ShardRow>, L: Keeper<Row = BookRow>, W: LogWatcher>(
     ensures { IfOk result (λ reply. (start : Start) (earlier : List AnyStep) → IsAfter start earlier world.old
         → IsTaken start earlier step.now reply world.new) }
 {
-    let reply = world.step(alloc, step).map_err(LineRefusal::of_step)?;
+    let reply = world.step(alloc, step).map_err(LineRefusal::Step)?;
     watcher.see_step(step, &reply);
     Ok(reply)
 }
@@ -107,21 +106,7 @@ fn answer_request<
             Ok(reply)
         }
         Err(fault) => {
-            let reply = fault_answer(alloc, fault)?;
-            Ok(reply)
-        }
-    }
-}
-
-// The reply that tells a fault, unless it is want of memory.
-fn fault_answer(alloc: Global, fault: Fault) -> Result<WireReply, LineRefusal>
-    ensures other { IfOk result (λ _. fault ≢ Fault.Memory) }
-    ensures reply { IfOk result (λ reply. reply_shown reply ≡ failure fault) }
-{
-    match fault {
-        Fault::Memory => Err(LineRefusal::CallMemory),
-        fault => {
-            let reply = fault_reply(alloc, fault)?;
+            let reply = told_fault(alloc, fault)?;
             Ok(reply)
         }
     }

@@ -1,8 +1,9 @@
-// The reply to a request, by its first step and the reply to its last one.
-ghost use Rattle.std.specs.Prelude.{◌≡◌, ℕ, List, IfOk};
+// The reply to a request, by its first step and the reply to its last one, or by its fault.
+ghost use Rattle.std.specs.Prelude.{◌≡◌, ◌≢◌, ℕ, List, IfOk};
 ghost use Rattle.mx_book.specs.declared.transaction_keys.TransactionKey.{TransactionKey as AnyKey};
 ghost use Rattle.mx_pdu.specs.declared.offering.Offered.{Offered as AnyOffered};
 ghost use Rattle.mx_requests.specs.RepliesShown.{reply_shown};
+ghost use Rattle.mx_requests.specs.ReplyBodies.{failure};
 ghost use Rattle.mx_step_replies.specs.Steps.{ask_step, join_step, open_step, reply_to, step_shown};
 
 use mx_ident::ServerName;
@@ -89,5 +90,19 @@ pub fn sent_reply(alloc: Global, last: StepReply) -> Result<WireReply, AllocErro
             body: ReplyBody::Made(body.into_string().into_bytes()),
         }),
         _ => fault_reply(alloc, Fault::Busy),
+    }
+}
+
+/// The reply that tells the fault of a request.
+///
+/// `AllocError` where no memory was left, for the reply or, as the fault says, before: want of memory is never told as an
+/// answer. Source: the Matrix specification, Server-Server API, "API standards", standard error response.
+pub fn told_fault(alloc: Global, fault: Fault) -> Result<WireReply, AllocError>
+    ensures other { IfOk result (λ _. fault ≢ Fault.Memory) }
+    ensures reply { IfOk result (λ made. reply_shown made ≡ failure fault) }
+{
+    match fault {
+        Fault::Memory => Err(AllocError),
+        fault => fault_reply(alloc, fault),
     }
 }

@@ -14,11 +14,10 @@ use mx_ident::ServerName;
 use mx_keeper::{BookRow, CallError, Keeper, ShardRow, TransactionId};
 use mx_pdu::{Offered, Verifier};
 use mx_requests::{
-    Fault, WireCall, WireReply, WireRequest, WireServer, fault_reply, memory_reply, read_request,
-    storage_reply,
+    Fault, WireCall, WireReply, WireRequest, WireServer, memory_reply, read_request, storage_reply,
 };
 use mx_room::{Moment, Query};
-use mx_step_replies::{asked_reply, joined_reply, sent_reply};
+use mx_step_replies::{asked_reply, joined_reply, sent_reply, told_fault};
 use mx_world::{StepReply, TransactionKey};
 use std::alloc::Global;
 use std::sync::Wait;
@@ -162,20 +161,6 @@ fn unavailable_reply(error: CallError) -> RequestReply
     RequestReply {
         reply,
         refused: Some(error),
-    }
-}
-
-// The reply that tells a fault, unless it is want of memory.
-fn told_fault(alloc: Global, fault: Fault) -> Result<WireReply, CallError>
-    ensures other { IfOk result (λ _. fault ≢ Fault.Memory) }
-    ensures reply { IfOk result (λ reply. reply_shown reply ≡ failure fault) }
-{
-    match fault {
-        Fault::Memory => Err(CallError::Memory),
-        fault => {
-            let reply = fault_reply(alloc, fault)?;
-            Ok(reply)
-        }
     }
 }
 

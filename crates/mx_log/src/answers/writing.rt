@@ -9,7 +9,7 @@ ghost use Rattle.mx_requests.specs.RepliesShown.{reply_shown};
 use crate::answers::step_texts::step_line;
 use crate::answers::{LineAnswer, LineRefusal};
 use mx_requests::WireReply;
-use mx_world::StepReply;
+use mx_world::{CallError, StepReply};
 use std::alloc::Global;
 use std::io;
 use std::io::Write;
@@ -33,12 +33,28 @@ pub(crate) fn refusal_line(refusal: LineRefusal) -> &'static [u8]
     ensures { result.now ≡ refusal_output refusal }
 {
     match refusal {
-        LineRefusal::Memory => b"{\"error\":\"memory\"}",
-        LineRefusal::Storage => b"{\"error\":\"storage\"}",
-        LineRefusal::CallMemory => {
+        LineRefusal::Step(error) => step_refusal_line(error),
+        LineRefusal::Request(error) => request_refusal_line(error),
+    }
+}
+
+fn step_refusal_line(error: CallError) -> &'static [u8]
+    ensures { result.now ≡ refusal_output (LineRefusal.Step error) }
+{
+    match error {
+        CallError::Memory => b"{\"error\":\"memory\"}",
+        CallError::Storage => b"{\"error\":\"storage\"}",
+    }
+}
+
+fn request_refusal_line(error: CallError) -> &'static [u8]
+    ensures { result.now ≡ refusal_output (LineRefusal.Request error) }
+{
+    match error {
+        CallError::Memory => {
             b"{\"body\":{\"errcode\":\"M_UNKNOWN\",\"error\":\"memory\"},\"status\":503}"
         }
-        LineRefusal::CallStorage => {
+        CallError::Storage => {
             b"{\"body\":{\"errcode\":\"M_UNKNOWN\",\"error\":\"storage\"},\"status\":503}"
         }
     }
@@ -54,7 +70,7 @@ pub(crate) fn write_answer<W: Write>(
     answer: &LineAnswer,
 ) -> io::Result<bool>
     ensures written { IfOk result (λ told. Appends (W.contents out.old) (W.contents out.new)
-        ((if told then answer_output answer.now else refusal_output LineRefusal.Memory) ++ 10 ∷ [])) }
+        ((if told then answer_output answer.now else refusal_output (LineRefusal.Step CallError.Memory)) ++ 10 ∷ [])) }
     ensures refused { IfOk result (λ told. told ≡ false
         → (reply : StepReply) × (answer.now ≡ LineAnswer.Step reply)) }
 {
@@ -86,7 +102,7 @@ pub(crate) fn write_refusal<W: Write>(out: &mut W, refusal: LineRefusal) -> io::
 // The reply to a step, or the refusal for memory.
 fn write_step<W: Write>(alloc: Global, out: &mut W, reply: &StepReply) -> io::Result<bool>
     ensures { IfOk result (λ told. Appends (W.contents out.old) (W.contents out.new)
-        ((if told then step_output reply.now else refusal_output LineRefusal.Memory) ++ 10 ∷ [])) }
+        ((if told then step_output reply.now else refusal_output (LineRefusal.Step CallError.Memory)) ++ 10 ∷ [])) }
 {
     match step_line(alloc, reply) {
         Ok(line) => {
@@ -94,7 +110,7 @@ fn write_step<W: Write>(alloc: Global, out: &mut W, reply: &StepReply) -> io::Re
             Ok(true)
         }
         Err(_) => {
-            write_refusal(out, LineRefusal::Memory)?;
+            write_refusal(out, LineRefusal::Step(CallError::Memory))?;
             Ok(false)
         }
     }

@@ -183,7 +183,7 @@ fn take<K: Keeper<Row = ShardRow>, L: Keeper<Row = BookRow>, W: LogWatcher>(
     ensures { IfOk result (λ reply. (start : Start) (earlier : List AnyStep) → IsAfter start earlier world.old
         → IsTaken start earlier step.now reply world.new) }
 {
-    let reply = world.step(alloc, step).map_err(LineRefusal::of_call)?;
+    let reply = world.step(alloc, step).map_err(LineRefusal::Request)?;
     watcher.see_step(step, &reply);
     Ok(reply)
 }
