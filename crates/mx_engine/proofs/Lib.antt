@@ -19,3 +19,10 @@ pub mod ToldLemmas
 pub mod JobLemmas
 pub mod Sending
 pub mod SeatSending
+pub mod DockCrashLemmas
+pub mod RecordLemmas
+pub mod KeptLemmas
+pub mod ShardCrashLemmas
+pub mod BookCrashLemmas
+pub mod ExitLemmas
+pub mod ServerCrashLemmas

@@ -9,3 +9,4 @@ pub mod Offering
 pub mod Jobs
 pub mod Seats
 pub mod Closing
+pub mod Crashes

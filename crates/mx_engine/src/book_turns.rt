@@ -2,11 +2,12 @@
 ghost use Rattle.std.specs.Prelude.{◌≡◌, ◌++◌, ◌∷◌, [], IfOk, OnOk, OnErr, IsTrue};
 ghost use Rattle.mx_dock.specs.Dock.{own};
 ghost use Rattle.mx_keeper.specs.Places.{is_at};
-ghost use Rattle.mx_book.specs.Journal.{hold_of, begun as begun_by};
+ghost use Rattle.mx_book.specs.Journal.{hold_of, begun as begun_by, stored};
 ghost use Rattle.mx_book.specs.declared.entries.BookEntry.TheVariants.{Kept, GivenUp};
 ghost use Rattle.mx_engine.specs.Views.{AreSameViews};
 ghost use Rattle.mx_engine.specs.Berths.{AreBerthsAt, IsBerthAt, views_of};
 ghost use Rattle.mx_engine.specs.BookTurns.{HasBegun, HasBegunIn, IsOpened, IsOpenedIn, IsEndedBy, IsEndedIn};
+ghost use Rattle.mx_engine.specs.Crashes.{IsBookExit, LeavesOnly};
 
 use crate::calls::take_at;
 use crate::docked::{DockedBook, PaddedDock};
@@ -155,6 +156,10 @@ fn keep_or_give_up<L: Keeper<Row = BookRow>>(
     ensures kept { OnOk result (book.new.journal ≡ book.old.journal ++ Kept key.now caller reply ∷ []) }
     ensures given_up { OnErr result (book.new.journal ≡ book.old.journal ++ GivenUp key.now caller ∷ []) }
     ensures place { book.new.place ≡ book.old.place }
+    // At each exit a crash leaves what it might have left before the call, or the rows with this reply's; after `Ok` the rows
+    // of the journal.
+    ensures crash { IsBookExit L.is_honest L.may_leave book.old book.new }
+    ensures durable { OnOk result (LeavesOnly L.is_honest L.may_leave book.new.keeper (stored book.new.journal)) }
 {
     let result = book.keep(caller, key, reply);
     if result.is_err() {

@@ -4,12 +4,14 @@ ghost use Rattle.mx_dock.specs.Dock.{own, number as caller_of};
 ghost use Rattle.mx_room.specs.declared.queries.Query.{Query as QueryOf};
 ghost use Rattle.mx_shard.specs.LoneRoom.{call_room, to_ask};
 ghost use Rattle.mx_shard.specs.Shown.{IsAnswer};
-ghost use Rattle.mx_shard.specs.Journal.{record_of};
+ghost use Rattle.mx_shard.specs.Journal.{record_of, stored};
 ghost use Rattle.mx_engine.specs.Views.{AddsNothing, AreSameViews};
 ghost use Rattle.mx_engine.specs.Berths.{AreBerthsAt, IsBerthAt, views_of};
 ghost use Rattle.mx_engine.specs.Calls.{IsAnswered};
 ghost use Rattle.mx_engine.specs.Calling.{call_of, entries_by, IsHeld, IsHere, IsTurn};
+ghost use Rattle.mx_engine.specs.Crashes.{IsShardExit, LeavesOnly};
 
+use crate::crashes::shards_outlast_a_crash;
 use crate::docked::{Docked, DockedShard, PaddedDock};
 use crate::gates::Gate;
 use mx_dock::{Berth, Dock};
@@ -95,11 +97,19 @@ fn call_shard<K: Keeper<Row = ShardRow>>(
     ensures journal { OnOk result (shard.new.journal ≡ shard.old.journal ++ entries_by shard.old.journal caller (call_of call.now) (call_room (call_of call.now))) }
     ensures err { OnErr result (shard.new.journal ≡ shard.old.journal) }
     ensures place { shard.new.place ≡ shard.old.place }
+    // At each exit a crash leaves what it might have left before the call, or the rows with those of the entries that the
+    // call adds; after `Ok` the rows of the journal.
+    ensures crash { IsShardExit K.is_honest K.may_leave (entries_by shard.old.journal caller (call_of call.now) (call_room (call_of call.now))) shard.old shard.new }
+    ensures durable { OnOk result (LeavesOnly K.is_honest K.may_leave shard.new.keeper (stored shard.new.journal)) }
 {
     match *call {
         ShardCall::Host(offered) => shard.host(caller, offered),
         ShardCall::Send(sending, origin, offered) => shard.send(caller, sending, origin, offered),
-        ShardCall::Ask(question) => shard.ask(question.origin, question.moment, question.query),
+        ShardCall::Ask(question) => {
+            // It is called for what it ensures.
+            shards_outlast_a_crash(shard);
+            shard.ask(question.origin, question.moment, question.query)
+        }
     }
 }
 

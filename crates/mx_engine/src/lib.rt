@@ -5,6 +5,7 @@ mod asking;
 mod book_turns;
 mod calls;
 mod closing;
+mod crashes;
 mod docked;
 mod engines;
 mod gates;
@@ -17,6 +18,10 @@ mod replies;
 mod seats;
 mod transactions;
 
+pub use crashes::{
+    books_outlast_a_crash, reopened_servers_have_what_was_told, shards_outlast_a_crash,
+    told_as_kept_is_seen,
+};
 pub use engines::{Engine, MOST_SEATS};
 pub use gates::{Gate, OpenGate};
 pub use replies::TransactionReply;
