@@ -62,6 +62,7 @@ THEOREMS: dict[str, dict[str, str]] = {
         "mx_shard": "Shard::reopen",
         "mx_book": "Book::reopen",
         "mx_keeper": "SqliteKeeper::adopt Keeper@SqliteKeeper TableRow@ShardRow TableRow@BookRow",
+        "mx_engine": "shards_outlast_a_crash books_outlast_a_crash told_as_kept_is_seen reopened_servers_have_what_was_told",
     },
     "requests": {
         "mx_requests": "read_request query_reply join_reply fault_reply memory_reply storage_reply",
