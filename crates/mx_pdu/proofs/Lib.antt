@@ -1,6 +1,7 @@
 pub mod CanonicalLemmas
 pub mod CloneLemmas
 pub mod CompareLemmas
+pub mod EventFieldLemmas
 pub mod EventRows
 pub mod EventTextLemmas
 pub mod FieldLemmas

@@ -1,33 +1,11 @@
 -- What is found in the redacted form of an event.
-use Rattle.std.proofs.Common.{◌≡◌, ℕ, List, Bool, true, false, refl, sym, ap, ◌∙◌, true≢false, Option, Some, option_map}
+use Rattle.std.proofs.Common.{◌≡◌, ℕ, List, Bool, true, false, refl, sym, ap, ◌∙◌, true≢false, Some, option_map}
 use Rattle.std.proofs.lemmas.Slice.Eq.{bytes_eq-Decides}
-use Rattle.std.proofs.lemmas.Map.Text.{is_eq-slice_cmp}
 use Rattle.std.specs.Prelude.{codes, bytes_eq, if◌then◌else◌}
-use Rattle.std.specs.declared.cmp.Ordering.{Ordering}
-use Rattle.std.specs.declared.cmp.Ordering.TheVariants.{Less, Equal, Greater}
-use Rattle.std.specs.Ordering.{is_eq, nat_cmp, match_ordering}
-use Rattle.std.specs.Cmp.Lexicographic.{slice_cmp}
 use Rattle.serde_json.specs.Data.{Data, Members, no_members, member}
 use Rattle.serde_json.specs.Find.{get_member}
 use Rattle.mx_redact.specs.Redaction.{members_where, redacted_content, with_redacted_content}
-
--- ---- looking up a key
-
-lookup-other : (o : Ordering) (d : Data) (r : Option Data) → is_eq o ≡ false → match_ordering o r (Some d) r ≡ r
-lookup-other Less d r h = refl
-lookup-other Equal d r h = absurd (true≢false h)
-lookup-other Greater d r h = refl
-
-lookup-same : (o : Ordering) (d : Data) (r : Option Data) → is_eq o ≡ true → match_ordering o r (Some d) r ≡ Some d
-lookup-same Less d r h = absurd (true≢false (sym h))
-lookup-same Equal d r h = refl
-lookup-same Greater d r h = absurd (true≢false (sym h))
-
-skips : (k l : List ℕ) (d : Data) (ms : Members) → bytes_eq k l ≡ false → get_member k (member l d ms) ≡ get_member k ms
-skips k l d ms h = lookup-other (slice_cmp nat_cmp k l) d (get_member k ms) (is_eq-slice_cmp k l ∙ h)
-
-finds : (k l : List ℕ) (d : Data) (ms : Members) → bytes_eq k l ≡ true → get_member k (member l d ms) ≡ Some d
-finds k l d ms h = lookup-same (slice_cmp nat_cmp k l) d (get_member k ms) (is_eq-slice_cmp k l ∙ h)
+use Rattle.mx_redact.proofs.LookupLemmas.{finds, skips}
 
 along : (test : List ℕ → Bool) (k l : List ℕ) → bytes_eq k l ≡ true → test k ≡ test l
 along test k l h = ap test ((bytes_eq-Decides k l).0 h)

@@ -1,5 +1,6 @@
 pub mod Event
 pub mod StateKeys
+pub mod EventFields
 pub mod EventTexts
 pub mod Format
 pub mod DataCode

@@ -5,43 +5,45 @@ ghost use Rattle.std.specs.Result.{result_err};
 ghost use Rattle.serde_json.specs.Data.{object};
 ghost use Rattle.serde_json.specs.View.{view, members_view};
 ghost use Rattle.mx_ident.specs.Identifier.{user_id_error, room_id_error, event_id_error};
-ghost use Rattle.mx_redact.specs.Fields.{field, is_object, is_some_and, is_none_or};
+ghost use Rattle.mx_redact.specs.Fields.{is_object, is_some_and, is_none_or};
+ghost use Rattle.mx_pdu.specs.EventFields.{field_at};
 ghost use Rattle.mx_pdu.specs.Format.{has_fields, is_id, is_id_or_long, is_event_id_list, is_integer, is_string};
 
-use crate::lookups::array_at;
+use crate::event_fields::EventFields;
+use crate::lookups::{array_at, text_at};
 use mx_ident::{EventId, NotAnId, RoomId, UserId};
-use mx_redact::{field, text_field};
-use serde_json::{Map, Value};
+use mx_redact::EventKey;
+use serde_json::Value;
 
-pub fn has_every_field(event: &Map<String, Value>) -> bool
-    ensures { result ≡ has_fields (object (members_view event.now.entries)) }
+pub fn has_every_field(fields: &EventFields<'_>) -> bool
+    ensures { result ≡ has_fields (object (members_view fields.now.members.now.entries)) }
 {
-    has_event_ids(event, "auth_events")
-        && has_object(event, "content")
-        && has_integer(event, "depth")
-        && has_object(event, "hashes")
-        && has_integer(event, "origin_server_ts")
-        && has_event_ids(event, "prev_events")
-        && has_room_id(event, "room_id")
-        && has_user_id(event, "sender")
-        && has_object(event, "signatures")
-        && has_text(event, "type")
-        && has_text_or_nothing(event, "state_key")
+    has_event_ids(fields, EventKey::AuthEvents)
+        && has_object(fields, EventKey::Content)
+        && has_integer(fields, EventKey::Depth)
+        && has_object(fields, EventKey::Hashes)
+        && has_integer(fields, EventKey::OriginServerTs)
+        && has_event_ids(fields, EventKey::PrevEvents)
+        && has_room_id(fields, EventKey::RoomId)
+        && has_user_id(fields, EventKey::Sender)
+        && has_object(fields, EventKey::Signatures)
+        && has_text(fields, EventKey::Kind)
+        && has_text_or_nothing(fields, EventKey::StateKey)
 }
 
-fn has_object(event: &Map<String, Value>, key: &str) -> bool
-    ensures { result ≡ is_some_and is_object (field key.now (object (members_view event.now.entries))) }
+fn has_object(fields: &EventFields<'_>, key: EventKey) -> bool
+    ensures { result ≡ is_some_and is_object (field_at key (object (members_view fields.now.members.now.entries))) }
 {
-    match field(event, key) {
+    match fields.at(key) {
         Some(value) => value.is_object(),
         None => false,
     }
 }
 
-fn has_integer(event: &Map<String, Value>, key: &str) -> bool
-    ensures { result ≡ is_some_and is_integer (field key.now (object (members_view event.now.entries))) }
+fn has_integer(fields: &EventFields<'_>, key: EventKey) -> bool
+    ensures { result ≡ is_some_and is_integer (field_at key (object (members_view fields.now.members.now.entries))) }
 {
-    match field(event, key) {
+    match fields.at(key) {
         Some(value) => holds_integer(value),
         None => false,
     }
@@ -56,46 +58,48 @@ fn holds_integer(value: &Value) -> bool
     }
 }
 
-fn has_text(event: &Map<String, Value>, key: &str) -> bool
-    ensures { result ≡ is_some_and is_string (field key.now (object (members_view event.now.entries))) }
+fn has_text(fields: &EventFields<'_>, key: EventKey) -> bool
+    ensures { result ≡ is_some_and is_string (field_at key (object (members_view fields.now.members.now.entries))) }
 {
-    match field(event, key) {
+    match fields.at(key) {
         Some(value) => value.is_string(),
         None => false,
     }
 }
 
-fn has_text_or_nothing(event: &Map<String, Value>, key: &str) -> bool
-    ensures { result ≡ is_none_or is_string (field key.now (object (members_view event.now.entries))) }
+fn has_text_or_nothing(fields: &EventFields<'_>, key: EventKey) -> bool
+    ensures { result ≡ is_none_or is_string (field_at key (object (members_view fields.now.members.now.entries))) }
 {
-    match field(event, key) {
+    match fields.at(key) {
         Some(value) => value.is_string(),
         None => true,
     }
 }
 
-fn has_room_id(event: &Map<String, Value>, key: &str) -> bool
-    ensures { result ≡ is_some_and (is_id room_id_error) (field key.now (object (members_view event.now.entries))) }
+fn has_room_id(fields: &EventFields<'_>, key: EventKey) -> bool
+    ensures { result
+        ≡ is_some_and (is_id room_id_error) (field_at key (object (members_view fields.now.members.now.entries))) }
 {
-    match text_field(event, key) {
+    match text_at(fields, key) {
         Some(text) => is_id_but_for_length(RoomId::check(text)),
         None => false,
     }
 }
 
-fn has_user_id(event: &Map<String, Value>, key: &str) -> bool
-    ensures { result ≡ is_some_and (is_id user_id_error) (field key.now (object (members_view event.now.entries))) }
+fn has_user_id(fields: &EventFields<'_>, key: EventKey) -> bool
+    ensures { result
+        ≡ is_some_and (is_id user_id_error) (field_at key (object (members_view fields.now.members.now.entries))) }
 {
-    match text_field(event, key) {
+    match text_at(fields, key) {
         Some(text) => is_id_but_for_length(UserId::check(text)),
         None => false,
     }
 }
 
-fn has_event_ids(event: &Map<String, Value>, key: &str) -> bool
-    ensures { result ≡ is_some_and is_event_id_list (field key.now (object (members_view event.now.entries))) }
+fn has_event_ids(fields: &EventFields<'_>, key: EventKey) -> bool
+    ensures { result ≡ is_some_and is_event_id_list (field_at key (object (members_view fields.now.members.now.entries))) }
 {
-    match array_at(event, key) {
+    match array_at(fields, key) {
         Some(items) => are_event_ids(items),
         None => false,
     }

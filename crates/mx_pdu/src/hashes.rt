@@ -7,28 +7,28 @@ ghost use Rattle.serde_json.specs.View.{members_view};
 ghost use Rattle.mx_redact.specs.Fields.{text_field, value_at};
 ghost use Rattle.mx_redact.specs.Hashes.{content_hash, hash_holds};
 
+use crate::event_fields::EventFields;
 use crate::lookups::object_at;
 use base64::engine::general_purpose::STANDARD_NO_PAD;
-use mx_redact::text_field;
-use serde_json::{Map, Value};
+use mx_redact::{EventKey, text_field};
 
 // Whether the event names this hash, which is its content hash.
-pub fn names_hash(event: &Map<String, Value>, hash: &[u8; 32]) -> bool
-    requires { hash.now ≡ content_hash (object (members_view event.now.entries)) }
-    ensures { result ≡ hash_holds (object (members_view event.now.entries)) }
+pub fn names_hash(fields: &EventFields<'_>, hash: &[u8; 32]) -> bool
+    requires { hash.now ≡ content_hash (object (members_view fields.now.members.now.entries)) }
+    ensures { result ≡ hash_holds (object (members_view fields.now.members.now.entries)) }
 {
-    match named_hash(event) {
+    match named_hash(fields) {
         Some(text) => is_text_of(text, hash),
         None => false,
     }
 }
 
 // The text at `sha256` in `hashes`.
-fn named_hash(event: &Map<String, Value>) -> Option<&str>
+fn named_hash<'a>(fields: &EventFields<'a>) -> Option<&'a str>
     ensures { option_map (λ text. text.now) result
-        ≡ text_field (codes "sha256") (value_at (codes "hashes") (object (members_view event.now.entries))) }
+        ≡ text_field (codes "sha256") (value_at (codes "hashes") (object (members_view fields.now.members.now.entries))) }
 {
-    match object_at(event, "hashes") {
+    match object_at(fields, EventKey::Hashes) {
         Some(hashes) => text_field(hashes, "sha256"),
         None => None,
     }

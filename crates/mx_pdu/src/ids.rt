@@ -5,13 +5,15 @@ ghost use Rattle.serde_json.specs.Data.{object};
 ghost use Rattle.serde_json.specs.Find.{as_str};
 ghost use Rattle.serde_json.specs.View.{view, members_view};
 ghost use Rattle.mx_ident.specs.Identifier.{is_event_id, is_room_id, is_user_id};
-ghost use Rattle.mx_redact.specs.Fields.{is_none_or, texts_at};
+ghost use Rattle.mx_redact.specs.Fields.{is_none_or};
 ghost use Rattle.mx_pdu.specs.Event.{redacts_of};
+ghost use Rattle.mx_pdu.specs.EventFields.{texts_in};
 
-use crate::lookups::array_at;
+use crate::event_fields::EventFields;
+use crate::lookups::{array_at, text_at};
 use mx_ident::{EventId, IdError, RoomId, UserId};
-use mx_redact::text_field;
-use serde_json::{Map, Value};
+use mx_redact::EventKey;
+use serde_json::Value;
 use std::alloc::{AllocError, Global};
 
 pub fn room_id_of(alloc: Global, text: &str) -> Result<RoomId, AllocError>
@@ -37,13 +39,11 @@ pub fn user_id_of(alloc: Global, text: &str) -> Result<UserId, AllocError>
 }
 
 // The event id at `redacts`, where one stands there.
-pub fn redacted_id_in(
-    alloc: Global,
-    event: &Map<String, Value>,
-) -> Result<Option<String>, AllocError>
-    ensures { IfOk result (λ id. option_map string_bytes id ≡ redacts_of (object (members_view event.now.entries))) }
+pub fn redacted_id_in(alloc: Global, fields: &EventFields<'_>) -> Result<Option<String>, AllocError>
+    ensures { IfOk result (λ id. option_map string_bytes id
+        ≡ redacts_of (object (members_view fields.now.members.now.entries))) }
 {
-    match text_field(event, "redacts") {
+    match text_at(fields, EventKey::Redacts) {
         Some(id) if EventId::is(id) => Ok(Some(String::from_str(alloc, id)?)),
         _ => Ok(None),
     }
@@ -52,13 +52,13 @@ pub fn redacted_id_in(
 // The ids in the array at a key.
 pub fn event_ids_at(
     alloc: Global,
-    event: &Map<String, Value>,
-    key: &str,
+    fields: &EventFields<'_>,
+    key: EventKey,
 ) -> Result<Vec<EventId>, AllocError>
-    requires { list_all is_event_id (texts_at key.now (object (members_view event.now.entries))) ≡ true }
-    ensures { IfOk result (λ ids. ids.items ≡ texts_at key.now (object (members_view event.now.entries))) }
+    requires { list_all is_event_id (texts_in key (object (members_view fields.now.members.now.entries))) ≡ true }
+    ensures { IfOk result (λ ids. ids.items ≡ texts_in key (object (members_view fields.now.members.now.entries))) }
 {
-    match array_at(event, key) {
+    match array_at(fields, key) {
         Some(items) => event_ids_of(alloc, items),
         None => Ok(Vec::new(alloc)),
     }

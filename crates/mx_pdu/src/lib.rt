@@ -3,6 +3,7 @@
 
 mod checking;
 mod comparing;
+mod event_fields;
 mod fields;
 mod hashes;
 mod ids;

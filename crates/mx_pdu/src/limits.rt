@@ -4,13 +4,15 @@ ghost use Rattle.std.specs.List.{list_all};
 ghost use Rattle.serde_json.specs.Data.{object};
 ghost use Rattle.serde_json.specs.View.{view, members_view};
 ghost use Rattle.mx_redact.specs.Fields.{field, is_none_or};
+ghost use Rattle.mx_pdu.specs.EventFields.{field_at};
 ghost use Rattle.mx_pdu.specs.Format.{limits, is_within_limits, is_short, is_short_list, is_depth};
 
+use crate::event_fields::EventFields;
 use crate::lookups::array_at;
 use crate::nesting::members_nest_within;
 use mx_canon::LARGEST;
-use mx_redact::field;
-use serde_json::{Map, Value};
+use mx_redact::EventKey;
+use serde_json::Value;
 
 // The most bytes of a text.
 const LONGEST: usize = 255;
@@ -24,28 +26,29 @@ const MOST_AUTH_EVENTS: usize = 10;
 // The most levels of arrays and objects in an event, itself included: as many as are read from text.
 const DEEPEST_NESTING: u8 = 127;
 
-pub fn keeps_limits(event: &Map<String, Value>) -> bool
-    ensures { result ≡ is_within_limits (object (members_view event.now.entries)) }
+pub fn keeps_limits(fields: &EventFields<'_>) -> bool
+    ensures { result ≡ is_within_limits (object (members_view fields.now.members.now.entries)) }
 {
-    keeps_field_limits(event) && members_nest_within(event, DEEPEST_NESTING - 1)
+    keeps_field_limits(fields) && members_nest_within(fields.members, DEEPEST_NESTING - 1)
 }
 
-fn keeps_field_limits(event: &Map<String, Value>) -> bool
-    ensures { result ≡ list_all (λ f. is_none_or f.1 (field f.0 (object (members_view event.now.entries)))) limits }
+fn keeps_field_limits(fields: &EventFields<'_>) -> bool
+    ensures { result
+        ≡ list_all (λ f. is_none_or f.1 (field f.0 (object (members_view fields.now.members.now.entries)))) limits }
 {
-    keeps_list_limit(event, "auth_events", MOST_AUTH_EVENTS)
-        && keeps_depth_limit(event, "depth")
-        && keeps_list_limit(event, "prev_events", MOST_PREV_EVENTS)
-        && keeps_text_limit(event, "room_id")
-        && keeps_text_limit(event, "sender")
-        && keeps_text_limit(event, "state_key")
-        && keeps_text_limit(event, "type")
+    keeps_list_limit(fields, EventKey::AuthEvents, MOST_AUTH_EVENTS)
+        && keeps_depth_limit(fields, EventKey::Depth)
+        && keeps_list_limit(fields, EventKey::PrevEvents, MOST_PREV_EVENTS)
+        && keeps_text_limit(fields, EventKey::RoomId)
+        && keeps_text_limit(fields, EventKey::Sender)
+        && keeps_text_limit(fields, EventKey::StateKey)
+        && keeps_text_limit(fields, EventKey::Kind)
 }
 
-fn keeps_text_limit(event: &Map<String, Value>, key: &str) -> bool
-    ensures { result ≡ is_none_or is_short (field key.now (object (members_view event.now.entries))) }
+fn keeps_text_limit(fields: &EventFields<'_>, key: EventKey) -> bool
+    ensures { result ≡ is_none_or is_short (field_at key (object (members_view fields.now.members.now.entries))) }
 {
-    match field(event, key) {
+    match fields.at(key) {
         Some(value) => has_short_text(value),
         None => true,
     }
@@ -60,10 +63,10 @@ fn has_short_text(value: &Value) -> bool
     }
 }
 
-fn keeps_depth_limit(event: &Map<String, Value>, key: &str) -> bool
-    ensures { result ≡ is_none_or is_depth (field key.now (object (members_view event.now.entries))) }
+fn keeps_depth_limit(fields: &EventFields<'_>, key: EventKey) -> bool
+    ensures { result ≡ is_none_or is_depth (field_at key (object (members_view fields.now.members.now.entries))) }
 {
-    match field(event, key) {
+    match fields.at(key) {
         Some(value) => has_depth(value),
         None => true,
     }
@@ -82,10 +85,11 @@ fn has_depth(value: &Value) -> bool
     }
 }
 
-fn keeps_list_limit(event: &Map<String, Value>, key: &str, most: usize) -> bool
-    ensures { result ≡ is_none_or (is_short_list most) (field key.now (object (members_view event.now.entries))) }
+fn keeps_list_limit(fields: &EventFields<'_>, key: EventKey, most: usize) -> bool
+    ensures { result
+        ≡ is_none_or (is_short_list most) (field_at key (object (members_view fields.now.members.now.entries))) }
 {
-    match array_at(event, key) {
+    match array_at(fields, key) {
         Some(items) => are_few_and_short(items, most),
         None => true,
     }

@@ -13,6 +13,7 @@ ghost use Rattle.mx_pdu.specs.Format.{format_error, is_well_formed};
 ghost use Rattle.mx_pdu.specs.declared.refusals.NotAnEvent.{NotAnEvent as Cause};
 
 use crate::checking::{check_canonical_format, check_format};
+use crate::event_fields::EventFields;
 use crate::lookups::object_at;
 use crate::pdus::Pdu;
 use crate::refusals::PduError;
@@ -20,7 +21,7 @@ use crate::texts::{object_of, text_of};
 use crate::verifiers::Verifier;
 use mx_canon::CanonError;
 use mx_ident::{EventId, UserId};
-use mx_redact::signing_bytes;
+use mx_redact::{EventKey, signing_bytes};
 use serde_json::{Map, Value};
 use std::alloc::{AllocError, Global};
 
@@ -47,7 +48,8 @@ impl Offered {
         let event = object_of(&value);
         let text = signing_bytes_of(alloc, event)?;
         let id = pdu.event_id(alloc)?;
-        let signed = is_signed(alloc, pdu.sender(), &text, event, verifier)?;
+        let fields = EventFields::of(event);
+        let signed = is_signed(alloc, pdu.sender(), &text, &fields, verifier)?;
         Ok(Offered { pdu, id, signed })
     }
 
@@ -70,9 +72,9 @@ impl Offered {
         ensures refused { (cause : Cause)
             → (IsErrOf result (PduError.NotAnEvent cause) ↔ (format_error (view value) ≡ Some cause)) }
     {
-        check_format(&value)?;
+        let fields = check_format(&value)?;
         let text = text_of(alloc, &value)?;
-        let offered = Offered::of_checked(alloc, object_of(&value), text, verifier)?;
+        let offered = Offered::of_checked(alloc, &fields, text, verifier)?;
         Ok(offered)
     }
 
@@ -96,32 +98,33 @@ impl Offered {
         ensures refused { (cause : Cause)
             → (IsErrOf result (PduError.NotAnEvent cause) ↔ (format_error (view value) ≡ Some cause)) }
     {
-        check_canonical_format(&value, text.as_bytes())?;
-        let offered = Offered::of_checked(alloc, object_of(&value), text, verifier)?;
+        let fields = check_canonical_format(&value, text.as_bytes())?;
+        let offered = Offered::of_checked(alloc, &fields, text, verifier)?;
         Ok(offered)
     }
 
-    // Of an object that is well formed, and its canonical text.
+    // Of the fields of an event that is well formed, and its canonical text.
     fn of_checked<V: Verifier>(
         alloc: Global,
-        event: &Map<String, Value>,
+        fields: &EventFields<'_>,
         text: String,
         verifier: &V,
     ) -> Result<Offered, AllocError>
-        requires well_formed { IsTrue (is_well_formed (object (members_view event.now.entries))) }
-        requires keys { KeysRise (object (members_view event.now.entries)) }
-        requires text { string_bytes text ≡ canonical_text (object (members_view event.now.entries)) }
-        requires reads { read (string_bytes text) ≡ Some (object (members_view event.now.entries)) }
-        ensures pdu { IfOk result (λ offered. offered.pdu ≡ object (members_view event.now.entries)) }
-        ensures id { IfOk result (λ offered. offered.id ≡ event_id_of (object (members_view event.now.entries))) }
+        requires well_formed { IsTrue (is_well_formed (object (members_view fields.now.members.now.entries))) }
+        requires keys { KeysRise (object (members_view fields.now.members.now.entries)) }
+        requires text { string_bytes text ≡ canonical_text (object (members_view fields.now.members.now.entries)) }
+        requires reads { read (string_bytes text) ≡ Some (object (members_view fields.now.members.now.entries)) }
+        ensures pdu { IfOk result (λ offered. offered.pdu ≡ object (members_view fields.now.members.now.entries)) }
+        ensures id { IfOk result (λ offered. offered.id
+            ≡ event_id_of (object (members_view fields.now.members.now.entries))) }
         ensures signed { IfOk result (λ offered. offered.signed
-            ≡ V.judges verifier.now (server_of (sender_of (object (members_view event.now.entries))))
-            (signing_text (object (members_view event.now.entries)))
-            (value_at (codes "signatures") (object (members_view event.now.entries)))) }
+            ≡ V.judges verifier.now (server_of (sender_of (object (members_view fields.now.members.now.entries))))
+            (signing_text (object (members_view fields.now.members.now.entries)))
+            (value_at (codes "signatures") (object (members_view fields.now.members.now.entries)))) }
     {
-        let (pdu, digests) = Pdu::of_checked(alloc, event, text)?;
+        let (pdu, digests) = Pdu::of_checked(alloc, fields, text)?;
         let id = pdu.event_id(alloc)?;
-        let signed = is_signed(alloc, pdu.sender(), &digests.signing_text, event, verifier)?;
+        let signed = is_signed(alloc, pdu.sender(), &digests.signing_text, fields, verifier)?;
         Ok(Offered { pdu, id, signed })
     }
 }
@@ -145,15 +148,16 @@ fn is_signed<V: Verifier>(
     alloc: Global,
     sender: &UserId,
     text: &[u8],
-    event: &Map<String, Value>,
+    fields: &EventFields<'_>,
     verifier: &V,
 ) -> Result<bool, AllocError>
-    requires { IsTrue (is_well_formed (object (members_view event.now.entries))) }
+    requires { IsTrue (is_well_formed (object (members_view fields.now.members.now.entries))) }
     ensures { IfOk result (λ signed. signed
-        ≡ V.judges verifier.now (server_of sender.now) text.now (value_at (codes "signatures") (object (members_view event.now.entries)))) }
+        ≡ V.judges verifier.now (server_of sender.now) text.now (value_at (codes "signatures")
+        (object (members_view fields.now.members.now.entries)))) }
 {
     let server = sender.server_name(alloc)?;
-    Ok(verifier.accepts(&server, text, signatures_of(event)))
+    Ok(verifier.accepts(&server, text, signatures_of(fields)))
 }
 
 fn signing_bytes_of(alloc: Global, event: &Map<String, Value>) -> Result<Vec<u8>, AllocError>
@@ -167,11 +171,12 @@ fn signing_bytes_of(alloc: Global, event: &Map<String, Value>) -> Result<Vec<u8>
     }
 }
 
-fn signatures_of(event: &Map<String, Value>) -> &Map<String, Value>
-    requires { IsTrue (is_well_formed (object (members_view event.now.entries))) }
-    ensures { object (members_view result.now.entries) ≡ value_at (codes "signatures") (object (members_view event.now.entries)) }
+fn signatures_of<'a>(fields: &EventFields<'a>) -> &'a Map<String, Value>
+    requires { IsTrue (is_well_formed (object (members_view fields.now.members.now.entries))) }
+    ensures { object (members_view result.now.entries)
+        ≡ value_at (codes "signatures") (object (members_view fields.now.members.now.entries)) }
 {
-    match object_at(event, "signatures") {
+    match object_at(fields, EventKey::Signatures) {
         Some(signatures) => signatures,
         None => unreachable!(),
     }

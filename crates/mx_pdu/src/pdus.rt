@@ -16,6 +16,7 @@ ghost use Rattle.mx_pdu.specs.RuleContent.{rule_content};
 ghost use Rattle.mx_pdu.specs.declared.refusals.NotAnEvent.{NotAnEvent as Cause};
 
 use crate::checking::{check_canonical_format, check_format};
+use crate::event_fields::EventFields;
 use crate::hashes::names_hash;
 use crate::ids::{event_ids_at, redacted_id_in, room_id_of, user_id_of};
 use crate::lookups::{depth_in, text_copied_from, text_or_empty_at, timestamp_in};
@@ -23,7 +24,7 @@ use crate::refusals::{NotAnEvent, PduError};
 use crate::rule_contents::rule_content_at;
 use crate::texts::{object_of, redacted_value, text_of, value_of};
 use mx_ident::{EventId, RoomId, UserId};
-use mx_redact::{Digests, digests_by_text, id_with_hash};
+use mx_redact::{Digests, EventKey, digests_by_text, id_with_hash};
 use serde_json::{Map, Value};
 use std::alloc::{AllocError, Global};
 use std::marker::Model;
@@ -83,9 +84,9 @@ impl Pdu {
         ensures refused { (cause : Cause)
             → (IsErrOf result (PduError.NotAnEvent cause) ↔ (format_error (view value) ≡ Some cause)) }
     {
-        check_format(&value)?;
+        let fields = check_format(&value)?;
         let text = text_of(alloc, &value)?;
-        let made = Pdu::of_checked(alloc, object_of(&value), text)?;
+        let made = Pdu::of_checked(alloc, &fields, text)?;
         Ok(made.0)
     }
 
@@ -101,29 +102,29 @@ impl Pdu {
         ensures refused { (cause : Cause)
             → (IsErrOf result (PduError.NotAnEvent cause) ↔ (format_error (view value) ≡ Some cause)) }
     {
-        check_canonical_format(&value, text.as_bytes())?;
-        let made = Pdu::of_checked(alloc, object_of(&value), text)?;
+        let fields = check_canonical_format(&value, text.as_bytes())?;
+        let made = Pdu::of_checked(alloc, &fields, text)?;
         Ok(made.0)
     }
 
-    // Of an object that is well formed, and its canonical text.
+    // Of the fields of an event that is well formed, and its canonical text.
     pub(crate) fn of_checked(
         alloc: Global,
-        event: &Map<String, Value>,
+        fields: &EventFields<'_>,
         text: String,
     ) -> Result<(Pdu, Digests), AllocError>
-        requires well_formed { IsTrue (is_well_formed (object (members_view event.now.entries))) }
-        requires keys { KeysRise (object (members_view event.now.entries)) }
-        requires text { string_bytes text ≡ canonical_text (object (members_view event.now.entries)) }
-        requires reads { read (string_bytes text) ≡ Some (object (members_view event.now.entries)) }
-        ensures ok { IfOk result (λ made. made.0 ≡ object (members_view event.now.entries)) }
+        requires well_formed { IsTrue (is_well_formed (object (members_view fields.now.members.now.entries))) }
+        requires keys { KeysRise (object (members_view fields.now.members.now.entries)) }
+        requires text { string_bytes text ≡ canonical_text (object (members_view fields.now.members.now.entries)) }
+        requires reads { read (string_bytes text) ≡ Some (object (members_view fields.now.members.now.entries)) }
+        ensures ok { IfOk result (λ made. made.0 ≡ object (members_view fields.now.members.now.entries)) }
         ensures reference { IfOk result (λ made. made.1.reference
-            ≡ reference_hash (object (members_view event.now.entries))) }
+            ≡ reference_hash (object (members_view fields.now.members.now.entries))) }
         ensures text { IfOk result (λ made. made.1.signing_text.items
-            ≡ signing_text (object (members_view event.now.entries))) }
+            ≡ signing_text (object (members_view fields.now.members.now.entries))) }
     {
-        let digests = digests_by_text(alloc, event, text.as_bytes())?;
-        let whole = Parts::of(alloc, event, text, &digests)?;
+        let digests = digests_by_text(alloc, fields.members, text.as_bytes())?;
+        let whole = Parts::of(alloc, fields, text, &digests)?;
         let parts = Arc::new(alloc, whole)?;
         Ok((Pdu { parts }, digests))
     }
@@ -136,7 +137,8 @@ impl Pdu {
     pub fn check(value: &Value) -> Result<(), NotAnEvent>
         ensures { result_err result ≡ format_error (view value.now) }
     {
-        check_format(value)
+        check_format(value)?;
+        Ok(())
     }
 
     /// Its type.
@@ -251,7 +253,8 @@ impl Pdu {
         let event = self.value(alloc)?;
         let redacted = redacted_value(alloc, &event)?;
         let text = text_of(alloc, &redacted)?;
-        let made = Pdu::of_checked(alloc, object_of(&redacted), text)?;
+        let fields = EventFields::of(object_of(&redacted));
+        let made = Pdu::of_checked(alloc, &fields, text)?;
         Ok(made.0)
     }
 
@@ -279,33 +282,34 @@ impl Pdu {
 }
 
 impl Parts {
-    // Of an object that is well formed, its canonical text and its hashes. The text is kept with no room to spare.
+    // Of the fields of an event that is well formed, its canonical text and its hashes. The text is kept with no room to
+    // spare.
     fn of(
         alloc: Global,
-        event: &Map<String, Value>,
+        fields: &EventFields<'_>,
         text: String,
         digests: &Digests,
     ) -> Result<Parts, AllocError>
-        requires well_formed { IsTrue (is_well_formed (object (members_view event.now.entries))) }
-        requires keys { KeysRise (object (members_view event.now.entries)) }
-        requires text { string_bytes text ≡ canonical_text (object (members_view event.now.entries)) }
-        requires reads { read (string_bytes text) ≡ Some (object (members_view event.now.entries)) }
-        requires content { digests.now.content ≡ content_hash (object (members_view event.now.entries)) }
-        requires reference { digests.now.reference ≡ reference_hash (object (members_view event.now.entries)) }
+        requires well_formed { IsTrue (is_well_formed (object (members_view fields.now.members.now.entries))) }
+        requires keys { KeysRise (object (members_view fields.now.members.now.entries)) }
+        requires text { string_bytes text ≡ canonical_text (object (members_view fields.now.members.now.entries)) }
+        requires reads { read (string_bytes text) ≡ Some (object (members_view fields.now.members.now.entries)) }
+        requires content { digests.now.content ≡ content_hash (object (members_view fields.now.members.now.entries)) }
+        requires reference { digests.now.reference ≡ reference_hash (object (members_view fields.now.members.now.entries)) }
         ensures sound { IfOk result IsSound }
-        ensures event { IfOk result (λ parts. event_of parts ≡ object (members_view event.now.entries)) }
+        ensures event { IfOk result (λ parts. event_of parts ≡ object (members_view fields.now.members.now.entries)) }
     {
         let mut text = text;
         text.shrink_to_fit();
-        let kind = String::from_str(alloc, text_or_empty_at(event, "type"))?;
-        let state_key = text_copied_from(alloc, event, "state_key")?;
-        let room_id = room_id_of(alloc, text_or_empty_at(event, "room_id"))?;
-        let sender = user_id_of(alloc, text_or_empty_at(event, "sender"))?;
-        let prev_events = event_ids_at(alloc, event, "prev_events")?;
-        let auth_events = event_ids_at(alloc, event, "auth_events")?;
-        let redacts = redacted_id_in(alloc, event)?;
-        let content = rule_content_at(alloc, event)?;
-        let hash_holds = names_hash(event, &digests.content);
+        let kind = String::from_str(alloc, text_or_empty_at(fields, EventKey::Kind))?;
+        let state_key = text_copied_from(alloc, fields, EventKey::StateKey)?;
+        let room_id = room_id_of(alloc, text_or_empty_at(fields, EventKey::RoomId))?;
+        let sender = user_id_of(alloc, text_or_empty_at(fields, EventKey::Sender))?;
+        let prev_events = event_ids_at(alloc, fields, EventKey::PrevEvents)?;
+        let auth_events = event_ids_at(alloc, fields, EventKey::AuthEvents)?;
+        let redacts = redacted_id_in(alloc, fields)?;
+        let content = rule_content_at(alloc, fields)?;
+        let hash_holds = names_hash(fields, &digests.content);
         Ok(Parts {
             text,
             kind,
@@ -315,8 +319,8 @@ impl Parts {
             prev_events,
             auth_events,
             redacts,
-            depth: depth_in(event),
-            origin_server_ts: timestamp_in(event),
+            depth: depth_in(fields),
+            origin_server_ts: timestamp_in(fields),
             content,
             reference: digests.reference,
             hash_holds,

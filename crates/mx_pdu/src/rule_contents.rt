@@ -7,20 +7,22 @@ ghost use Rattle.mx_pdu.specs.Event.{content_of};
 ghost use Rattle.mx_pdu.specs.Format.{is_well_formed};
 ghost use Rattle.mx_pdu.specs.RuleContent.{is_rule_key as is_in_rules, rule_content};
 
+use crate::event_fields::EventFields;
 use crate::lookups::object_at;
+use mx_redact::EventKey;
 use serde_json::{Map, Value};
 use std::alloc::{AllocError, Global};
 
 // A copy of the members that rules read of the content of a well-formed event.
 pub fn rule_content_at(
     alloc: Global,
-    event: &Map<String, Value>,
+    fields: &EventFields<'_>,
 ) -> Result<Map<String, Value>, AllocError>
-    requires { IsTrue (is_well_formed (object (members_view event.now.entries))) }
+    requires { IsTrue (is_well_formed (object (members_view fields.now.members.now.entries))) }
     ensures { IfOk result (λ kept. object (members_view kept.entries)
-        ≡ rule_content (content_of (object (members_view event.now.entries)))) }
+        ≡ rule_content (content_of (object (members_view fields.now.members.now.entries)))) }
 {
-    match object_at(event, "content") {
+    match object_at(fields, EventKey::Content) {
         Some(content) => rule_content_of(alloc, content),
         None => unreachable!(),
     }

@@ -5,7 +5,7 @@ ghost use Rattle.serde_json.specs.Data.{Data, object};
 ghost use Rattle.serde_json.specs.View.{view, members_view};
 ghost use Rattle.mx_pdu.specs.Verifiers.{is_signature, is_signed_by, values_of};
 
-use crate::lookups::object_at;
+use crate::lookups::object_named;
 use mx_ident::ServerName;
 use serde_json::{Map, Value};
 
@@ -29,7 +29,7 @@ impl Verifier for PresenceVerifier {
     ghost judges = { λ _ server _ signatures. is_signed_by server signatures };
 
     fn accepts(&self, server: &ServerName, _bytes: &[u8], signatures: &Map<String, Value>) -> bool {
-        match object_at(signatures, server.as_str()) {
+        match object_named(signatures, server.as_str()) {
             Some(of_server) => has_signature(of_server),
             None => false,
         }

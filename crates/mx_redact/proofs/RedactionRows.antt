@@ -12,6 +12,9 @@ use Rattle.mx_canon.specs.Canonical.{canonical_text}
 use Rattle.mx_redact.specs.Fields.{words, object_keys, value_at}
 use Rattle.mx_redact.specs.Hashes.{content_hash, signing_text, event_id, hash_holds}
 use Rattle.mx_redact.specs.Redaction.{redact}
+use Rattle.mx_redact.specs.EventKeys.{key_of}
+use Rattle.mx_redact.specs.Places.{places_from}
+use Rattle.mx_redact.specs.declared.event_keys.EventKey.TheVariants.{Content, Kind}
 
 -- an object with 1 at each key
 abbrev with_keys : List (List ℕ) → Members
@@ -140,3 +143,17 @@ create_without_content = read (codes "{\"content\":7,\"type\":\"m.room.create\",
 signed-no_object : option_map signing_text create_without_content ≡ Some (codes "{\"content\":7,\"type\":\"m.room.create\"}")
 unfolding signing_text redact canonical_text serde_json_on_literals chars digits
 signed-no_object = refl
+
+-- ---- where members stand in `{"content":{"a":1},"type":"m.x"}`
+
+abbrev placed : Members
+placed = member (codes "content") (object (member (codes "a") (number (unsigned 1)) no_members)) (member (codes "type") (string (codes "m.x")) no_members)
+
+text-placed : canonical_text (object placed) ≡ codes "{\"content\":{\"a\":1},\"type\":\"m.x\"}"
+unfolding canonical_text chars digits
+text-placed = refl
+
+places-placed : places_from 1 placed
+    ≡ record { key = Content; start = 1; value = 11; end = 18 } ∷ record { key = Kind; start = 19; value = 26; end = 31 } ∷ []
+unfolding canonical_text chars key_of digits
+places-placed = refl

@@ -125,7 +125,7 @@ members_where-same : (p q : List ℕ → Bool) (ms : Members) → ((k : List ℕ
 members_where-same p q no_members same = refl
 members_where-same p q (member k d ms) same = ap₂ (λ b r. if b then member k d r else r) (same k) (members_where-same p q ms same)
 
-kept_part-of : (type : List ℕ) (d : Data) → kept_part (kept_content_of type) d ≡ redacted_content type d
+pub kept_part-of : (type : List ℕ) (d : Data) → kept_part (kept_content_of type) d ≡ redacted_content type d
 kept_part-of type null = refl
 kept_part-of type (boolean b) = refl
 kept_part-of type (number n) = refl

@@ -1,15 +1,20 @@
 // Both hashes of an event at once.
-ghost use Rattle.std.specs.Prelude.{◌≡◌, ◌≤◌, IfOk, length, take};
+ghost use Rattle.std.specs.Prelude.{◌≡◌, ◌≤◌, IfOk, codes, length, option_and_then, option_map, take};
 ghost use Rattle.sha2.specs.Sha256.{sha256};
-ghost use Rattle.serde_json.specs.Data.{object};
+ghost use Rattle.serde_json.specs.Data.{Members, object};
+ghost use Rattle.serde_json.specs.Find.{as_object};
 ghost use Rattle.serde_json.specs.View.{members_view};
 ghost use Rattle.mx_canon.specs.Canonical.{canonical_text};
+ghost use Rattle.mx_redact.specs.Fields.{field as field_of};
 ghost use Rattle.mx_redact.specs.Hashes.{content_hash, reference_hash, hashed_part, signing_text};
+ghost use Rattle.mx_redact.specs.Places.{IsPlacedEvent};
 
-use crate::part_texts::parts_of_text;
+use crate::fields::field;
+use crate::kinds::kept_content;
+use crate::part_texts::{Part, part_by_places};
 use crate::parts::write_hashed;
-use crate::redacting::kept_content_in;
-use crate::selections::Selection;
+use crate::places::{MemberPlace, places_in};
+use crate::redacting::kind_in;
 use crate::signing::signed_text;
 use mx_canon::TextBuffer;
 use serde_json::{Map, Value};
@@ -48,8 +53,8 @@ pub fn event_digests(alloc: Global, event: &Map<String, Value>) -> Result<Digest
     Ok(digests_of(&hashed, signing_text))
 }
 
-/// The hashes and the signing text of an event whose canonical text is at hand, as [`event_digests`] gives them: the
-/// texts that are hashed are put together from pieces of it.
+/// The hashes and the signing text of an event whose canonical text is at hand, as [`event_digests`] gives them: as
+/// [`digests_by_places`], with the places of its members worked out in one walk.
 ///
 /// Source: the Matrix specification, Server-Server API, "Calculating the content hash for an event" and "Calculating the
 /// reference hash for an event".
@@ -66,8 +71,54 @@ pub fn digests_by_text(
     ensures text { IfOk result (λ digests. digests.signing_text.items
         ≡ signing_text (object (members_view event.now.entries))) }
 {
-    let (hashed, signing_text) = texts_by_text(alloc, event, text)?;
+    let places = places_in(alloc, event, text)?;
+    let known = content_members(event);
+    let digests = digests_by_places(alloc, text, &places, kind_in(event), known)?;
+    Ok(digests)
+}
+
+/// The hashes and the signing text of an event whose canonical text is at hand with the places of its members there, as
+/// [`event_digests`] gives them: the texts that are hashed are put together from pieces of it.
+///
+/// `kind` is its type, and `known` has of its content's members at least those that redaction keeps in an event of this
+/// type; `None` where the content is no object. The event is no value here: each that has this text and these places
+/// has these hashes. Source: the Matrix specification, Server-Server API, "Calculating the content hash for an event" and
+/// "Calculating the reference hash for an event".
+pub fn digests_by_places(
+    alloc: Global,
+    text: &[u8],
+    places: &[MemberPlace],
+    kind: &str,
+    known: Option<&Map<String, Value>>,
+) -> Result<Digests, AllocError>
+    requires { (event : Members)
+        × IsPlacedEvent text.now places.now kind.now
+        (option_map (λ members. members_view members.now.entries) known) event }
+    ensures content { IfOk result (λ digests. (event : Members)
+        → IsPlacedEvent text.now places.now kind.now
+        (option_map (λ members. members_view members.now.entries) known.entry) event
+        → digests.content ≡ content_hash (object event)) }
+    ensures reference { IfOk result (λ digests. (event : Members)
+        → IsPlacedEvent text.now places.now kind.now
+        (option_map (λ members. members_view members.now.entries) known.entry) event
+        → digests.reference ≡ reference_hash (object event)) }
+    ensures text { IfOk result (λ digests. (event : Members)
+        → IsPlacedEvent text.now places.now kind.now
+        (option_map (λ members. members_view members.now.entries) known.entry) event
+        → digests.signing_text.items ≡ signing_text (object event)) }
+{
+    let signed = Part::Signed(kept_content(kind));
+    let hashed = part_by_places(alloc, Part::Hashed, text, places, known)?;
+    let signing_text = part_by_places(alloc, signed, text, places, known)?;
     Ok(digests_of(&hashed, signing_text))
+}
+
+// The members of an event's content.
+fn content_members(event: &Map<String, Value>) -> Option<&Map<String, Value>>
+    ensures { option_map (λ members. members_view members.now.entries) result
+        ≡ option_and_then as_object (field_of (codes "content") (object (members_view event.now.entries))) }
+{
+    field(event, "content").and_then(Value::as_object)
 }
 
 // The hashes of both texts, and the second.
@@ -82,21 +133,6 @@ fn digests_of(hashed: &[u8], signing_text: Vec<u8>) -> Digests
         reference,
         signing_text,
     }
-}
-
-// The texts of the parts that are hashed and signed, of an event with this canonical text.
-fn texts_by_text(
-    alloc: Global,
-    event: &Map<String, Value>,
-    text: &[u8],
-) -> Result<(Vec<u8>, Vec<u8>), AllocError>
-    requires { text.now ≡ canonical_text (object (members_view event.now.entries)) }
-    ensures hashed { IfOk result (λ texts. texts.0.items ≡ canonical_text (hashed_part (object (members_view event.now.entries)))) }
-    ensures signed { IfOk result (λ texts. texts.1.items ≡ signing_text (object (members_view event.now.entries))) }
-{
-    let signed = Selection::Signed(kept_content_in(event));
-    let texts = parts_of_text(alloc, event, text, Selection::Hashed, signed)?;
-    Ok(texts)
 }
 
 // The text of the part that is hashed, in which a float has no digits.

@@ -1,127 +1,145 @@
 // Texts of parts of an event, put together from pieces of the event's canonical text.
-ghost use Rattle.std.specs.Prelude.{◌≡◌, ℕ, List, ◌++◌, IfOk, length};
-ghost use Rattle.std.specs.List.Sorted.{IsStrictlySortedBy};
-ghost use Rattle.serde_json.specs.Data.{Members, no_members, member, object};
-ghost use Rattle.serde_json.specs.View.{view, members_view};
+ghost use Rattle.std.specs.Prelude.{◌≡◌, ◌≤◌, ◌-◌, ℕ, List, ◌++◌, IfOk, IsTrue, false, true, All, if◌then◌else◌, option_map};
+ghost use Rattle.serde_json.specs.Data.{Data, Members, no_members, object};
+ghost use Rattle.serde_json.specs.View.{members_view};
 ghost use Rattle.mx_canon.specs.Canonical.{canonical_text, member_text};
-ghost use Rattle.mx_canon.specs.KeyOrder.{keys, text_cmp};
 ghost use Rattle.mx_canon.specs.Pieces.{comma_if};
-ghost use Rattle.mx_canon.specs.Sinks.{HoldsText, counted};
+ghost use Rattle.mx_canon.specs.Sinks.{HoldsText};
+ghost use Rattle.mx_redact.specs.Places.{ArePlaces};
 ghost use Rattle.mx_redact.specs.Selected.{selected, selected_value};
-ghost use Rattle.mx_redact.specs.PartTexts.{HoldsAllBut};
+ghost use Rattle.mx_redact.specs.PartTexts.{AllKnown, HoldsAllBut, IsBehindComma, IsKnown, IsWithin, StandsAt, inner_at, is_key_in, selection_of};
 
-use crate::selections::{Selection, write_member};
-use mx_canon::{TextBuffer, TextLength, TextSink, write_key, write_text};
+use crate::event_keys::EventKey;
+use crate::kinds::KeptContent;
+use crate::places::MemberPlace;
+use crate::selections::{Selection, write_selected};
+use mx_canon::{TextBuffer, TextSink};
 use serde_json::{Map, Value};
 use std::alloc::{AllocError, Global};
 
-// The text of a part, to which the members of the event are offered one after another.
+/// A part of an event that is put together from pieces.
+#[derive(Clone, Copy, Debug, PartialEq, Eq)]
+pub(crate) enum Part {
+    // What the content hash is made of.
+    Hashed,
+    // What is signed.
+    Signed(KeptContent),
+}
+
+impl Part {
+    // Whether a key of the event is in the part.
+    fn has(self, key: EventKey) -> bool
+        ensures { result ≡ is_key_in self key }
+    {
+        match self {
+            Part::Hashed => !matches!(
+                key,
+                EventKey::Unsigned | EventKey::Signatures | EventKey::Hashes
+            ),
+            Part::Signed(_) => !matches!(
+                key,
+                EventKey::Redacts | EventKey::Signatures | EventKey::Unsigned | EventKey::Other
+            ),
+        }
+    }
+
+    // What redaction keeps of the value at a key, where it keeps a part of it alone.
+    fn inner(self, key: EventKey) -> Option<KeptContent>
+        ensures { result ≡ inner_at self key }
+    {
+        match (self, key) {
+            (Part::Signed(kept), EventKey::Content) => Some(kept),
+            _ => None,
+        }
+    }
+}
+
+// The text of a part, which takes the event's members one after another.
 #[derive(Drop)]
 struct PartText {
-    selection: Selection,
-    text: TextBuffer,
+    part: Part,
+    buffer: TextBuffer,
     // Whether a member stands in the text.
     later: bool,
 }
 
 impl PartText {
     // Before the first member, with room for so many bytes.
-    fn new(alloc: Global, selection: Selection, capacity: usize) -> Result<PartText, AllocError>
-        ensures selection { IfOk result (λ part. part.selection ≡ selection) }
-        ensures holds { IfOk result (λ part. (all : Members) → HoldsAllBut part all all) }
+    fn new(alloc: Global, part: Part, capacity: usize) -> Result<PartText, AllocError>
+        ensures part { IfOk result (λ text. text.part ≡ part) }
+        ensures first { IfOk result (λ text. text.later ≡ false) }
+        ensures holds { IfOk result (λ text. (all : Members) → HoldsAllBut text all all) }
     {
-        let mut text = TextBuffer::with_capacity(alloc, capacity)?;
-        text.put(b"{");
+        let mut buffer = TextBuffer::with_capacity(alloc, capacity)?;
+        buffer.put(b"{");
         Ok(PartText {
-            selection,
-            text,
+            part,
+            buffer,
             later: false,
         })
     }
 
-    // Takes the next member of the event, whose text is the piece, where it is in the part.
-    fn offer(&mut self, key: &str, value: &Value, piece: &[u8])
-        requires { piece.now ≡ member_text (key.now, canonical_text (view value.now)) }
-        ensures selection { self.new.selection ≡ self.old.selection }
-        ensures holds { (rest : Members) (all : Members) → IsStrictlySortedBy text_cmp (keys (member key.now (view value.now) rest))
-            → HoldsAllBut self.old (member key.now (view value.now) rest) all → HoldsAllBut self.new rest all }
+    // Takes the member that stands at a place in the event's text.
+    fn put(&mut self, text: &[u8], place: MemberPlace, known: Option<&Map<String, Value>>)
+        requires { IsWithin text.now place }
+        ensures part { self.new.part ≡ self.old.part }
+        ensures later { self.new.later ≡ true }
+        ensures text { (k : List ℕ) (d : Data) (after : List ℕ) (taken : List ℕ) → StandsAt text.now place k d after
+            → (IsTrue self.old.later → IsBehindComma text.now place)
+            → IsKnown self.old.part (option_map (λ members. members_view members.now.entries) known.entry) k d
+            → HoldsText self.old.buffer taken → HoldsText self.new.buffer ((taken ++ comma_if self.old.later)
+            ++ member_text (k, canonical_text (selected_value (selection_of self.old.part) k d))) }
     {
-        if self.selection.has(key) {
-            self.put(key, value, piece);
-            self.later = true;
+        let from = first_byte(place, self.later);
+        match (self.part.inner(place.key), known) {
+            (Some(kept), Some(members)) => {
+                self.buffer.put(&text[from..place.value]);
+                write_selected(&mut self.buffer, Selection::Content(kept), members);
+            }
+            _ => self.buffer.put(&text[from..place.end]),
         }
-    }
-
-    // Where the part has the whole member, the piece is its text there.
-    fn put(&mut self, key: &str, value: &Value, piece: &[u8])
-        requires { piece.now ≡ member_text (key.now, canonical_text (view value.now)) }
-        ensures selection { self.new.selection ≡ self.old.selection }
-        ensures text { (taken : List ℕ) → HoldsText self.old.text taken → HoldsText self.new.text ((taken ++ comma_if self.old.later)
-            ++ member_text (key.now, canonical_text (selected_value self.old.selection key.now (view value.now)))) }
-    {
-        match self.selection.inner(key) {
-            Some(_) => write_member(&mut self.text, self.later, self.selection, key, value),
-            None => put_piece(&mut self.text, self.later, piece),
-        }
+        self.later = true;
     }
 
     // Behind the last member.
     fn finish(mut self) -> Result<Vec<u8>, AllocError>
         ensures { IfOk result (λ bytes. (all : Members) → HoldsAllBut self no_members all
-            → bytes.items ≡ canonical_text (object (selected self.selection all))) }
+            → bytes.items ≡ canonical_text (object (selected (selection_of self.part) all))) }
     {
-        self.text.put(b"}");
-        let bytes = self.text.into_bytes()?;
+        self.buffer.put(b"}");
+        let bytes = self.buffer.into_bytes()?;
         Ok(bytes)
     }
 }
 
-fn put_piece(text: &mut TextBuffer, later: bool, piece: &[u8])
-    ensures { (taken : List ℕ) → HoldsText text.old taken → HoldsText text.new ((taken ++ comma_if later) ++ piece.now) }
+// Where a member's piece begins, with the comma before it where one is wanted.
+fn first_byte(place: MemberPlace, comma: bool) -> usize
+    requires { 1 ≤ place.start }
+    ensures { result ≡ (if comma then place.start - 1 else place.start) }
 {
-    if later {
-        text.put(b",");
-        text.put(piece);
-    } else {
-        text.put(piece);
-    }
+    if comma { place.start - 1 } else { place.start }
 }
 
-// The texts of two parts of an event with this canonical text.
-pub(crate) fn parts_of_text(
+/// The text of a part of an event, by the places of its members in its canonical text, and the members known of its
+/// content.
+pub(crate) fn part_by_places(
     alloc: Global,
-    event: &Map<String, Value>,
+    part: Part,
     text: &[u8],
-    first: Selection,
-    second: Selection,
-) -> Result<(Vec<u8>, Vec<u8>), AllocError>
-    requires { text.now ≡ canonical_text (object (members_view event.now.entries)) }
-    ensures first { IfOk result (λ texts. texts.0.items ≡ canonical_text (object (selected first (members_view event.now.entries)))) }
-    ensures second { IfOk result (λ texts. texts.1.items ≡ canonical_text (object (selected second (members_view event.now.entries)))) }
+    places: &[MemberPlace],
+    known: Option<&Map<String, Value>>,
+) -> Result<Vec<u8>, AllocError>
+    requires { All (IsWithin text.now) places.now }
+    ensures { IfOk result (λ bytes. (members : Members) → ArePlaces text.now places.now members
+        → AllKnown part (option_map (λ members. members_view members.now.entries) known.entry) members
+        → bytes.items ≡ canonical_text (object (selected (selection_of part) members))) }
 {
-    let mut a = PartText::new(alloc, first, text.len())?;
-    let mut b = PartText::new(alloc, second, text.len())?;
-    let mut end = 0;
-    for (key, value) in event.iter() {
-        let key = key.as_str();
-        // A bracket or a comma stands before each member.
-        let start = end + 1;
-        end = start + member_length(key, value);
-        let piece = &text[start..end];
-        a.offer(key, value, piece);
-        b.offer(key, value, piece);
+    let mut out = PartText::new(alloc, part, text.len())?;
+    for place in places {
+        if part.has(place.key) {
+            out.put(text, *place, known);
+        }
     }
-    let a = a.finish()?;
-    let b = b.finish()?;
-    Ok((a, b))
-}
-
-// The bytes of a member's text.
-fn member_length(key: &str, value: &Value) -> usize
-    ensures { result ≡ counted (length (member_text (key.now, canonical_text (view value.now)))) }
-{
-    let mut count = TextLength { bytes: 0 };
-    write_key(&mut count, false, key.as_bytes());
-    write_text(&mut count, value);
-    count.bytes as usize
+    let bytes = out.finish()?;
+    Ok(bytes)
 }

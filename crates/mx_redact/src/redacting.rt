@@ -27,5 +27,12 @@ pub fn redact(alloc: Global, event: &Map<String, Value>) -> Result<Map<String, V
 pub(crate) fn kept_content_in(event: &Map<String, Value>) -> KeptContent
     ensures { result ≡ kept_content_of (kind (object (members_view event.now.entries))) }
 {
-    kept_content(text_field(event, "type").unwrap_or(""))
+    kept_content(kind_in(event))
+}
+
+// The event's type, else the empty text.
+pub(crate) fn kind_in(event: &Map<String, Value>) -> &str
+    ensures { result.now ≡ kind (object (members_view event.now.entries)) }
+{
+    text_field(event, "type").unwrap_or("")
 }

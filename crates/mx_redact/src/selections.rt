@@ -150,9 +150,9 @@ pub(crate) fn write_selected<S: TextSink>(
     sink.put(b"}");
 }
 
-/// Gives the sink the text of a member of the part, behind a comma where it is a later one.
+// Gives the sink the text of a member of the part, behind a comma where it is a later one.
 #[cycle(write)]
-pub(crate) fn write_member<S: TextSink>(
+fn write_member<S: TextSink>(
     sink: &mut S,
     later: bool,
     selection: Selection,

@@ -8,7 +8,7 @@ use Rattle.mx_pdu.proofs.lookups.timestamp_in.Goals as goal
 
 pub returns : goal.returns
 returns c =
-    let event = object (members_view c.args.event.now.entries) in
+    let event = object (members_view c.args.fields.now.members.now.entries) in
     let e : c.unwrap_or.result ≡ timestamp_of event =
     c.unwrap_or.ensures ∙ ap (λ o. unwrap_or o (pos 0)) c.integer_at.ensures ∙ timestamp-is event c.requires in
     search (rules, e)

@@ -8,4 +8,4 @@ use Rattle.mx_pdu.proofs.offering.signatures_of.Goals as goal
 
 pub unreachable-requires : goal.unreachable-requires
 unreachable-requires c =
-    object-there (field (codes "signatures") (object (members_view c.args.event.now.entries))) (required-at _ 8 c.requires (lit< tt)) (sym c.in-None.ensures)
+    object-there (field (codes "signatures") (object (members_view c.args.fields.now.members.now.entries))) (required-at _ 8 c.requires (lit< tt)) (sym c.in-None.ensures)

@@ -7,15 +7,12 @@ use Rattle.mx_pdu.proofs.FormatLemmas.{formed-from-none, nesting-fits}
 use Rattle.mx_pdu.proofs.TextLemmas.{low-enough}
 use Rattle.mx_pdu.proofs.offering.Offered.from_canonical.Goals as goal
 
-pub object_of-requires : goal.object_of-requires
-object_of-requires g c = formed-from-none (view c.args.value) c.in_ok-check_canonical_format.ensures.answer
-
 pub of_checked-requires-clause-well_formed : goal.of_checked-requires-clause-well_formed
 of_checked-requires-clause-well_formed g c =
-    subst (λ (d : Data). IsTrue (is_well_formed d)) (sym c.object_of.ensures) (formed-from-none (view c.args.value) c.in_ok-check_canonical_format.ensures.answer)
+    subst (λ (d : Data). IsTrue (is_well_formed d)) (sym c.in_ok-fields.ensures.fields) (formed-from-none (view c.args.value) c.in_ok-fields.ensures.answer)
 
 pub of_checked-requires-clause-reads : goal.of_checked-requires-clause-reads
 of_checked-requires-clause-reads g c =
     let event = view c.args.value in
-    let low = low-enough (depth event) max_depth (nesting-fits event (formed-from-none event c.in_ok-check_canonical_format.ensures.answer)) in
-    c.requires.reads low ∙ ap Some (sym c.object_of.ensures)
+    let low = low-enough (depth event) max_depth (nesting-fits event (formed-from-none event c.in_ok-fields.ensures.answer)) in
+    c.requires.reads low ∙ ap Some (sym c.in_ok-fields.ensures.fields)

@@ -24,7 +24,7 @@ event_ids_at-requires-2 c = auth-are _ c.requires.well_formed
 
 pub returns-clause-sound : goal.returns-clause-sound
 returns-clause-sound c =
-    let event = object (members_view c.args.event.now.entries) in
+    let event = object (members_view c.args.fields.now.members.now.entries) in
     let bytes = c.shrink_to_fit.ensures.bytes in
     let reads = ap read bytes ∙ c.requires.reads in
     let time : to_z w64 (of_z w64 c.timestamp_in.result) ≡ timestamp_of event = search rules in
@@ -49,4 +49,4 @@ returns-clause-sound c =
 
 pub returns-clause-event : goal.returns-clause-event
 returns-clause-event c =
-    value-read (string_bytes c.shrink_to_fit.new.self) (object (members_view c.args.event.now.entries)) (ap read c.shrink_to_fit.ensures.bytes ∙ c.requires.reads)
+    value-read (string_bytes c.shrink_to_fit.new.self) (object (members_view c.args.fields.now.members.now.entries)) (ap read c.shrink_to_fit.ensures.bytes ∙ c.requires.reads)

@@ -6,11 +6,8 @@ use Rattle.mx_pdu.proofs.FormatLemmas.{formed-from-none}
 use Rattle.mx_pdu.proofs.pdus.Pdu.from_value.Goals as goal
 
 pub text_of-requires-clause-well_formed : goal.text_of-requires-clause-well_formed
-text_of-requires-clause-well_formed c = formed-from-none (view c.args.value) c.in_ok-check_format.ensures.answer
-
-pub object_of-requires : goal.object_of-requires
-object_of-requires c = formed-from-none (view c.args.value) c.in_ok-check_format.ensures.answer
+text_of-requires-clause-well_formed c = formed-from-none (view c.args.value) c.in_ok-fields.ensures.answer
 
 pub of_checked-requires-clause-well_formed : goal.of_checked-requires-clause-well_formed
 of_checked-requires-clause-well_formed c =
-    subst (λ (d : Data). IsTrue (is_well_formed d)) (sym c.object_of.ensures) (formed-from-none (view c.args.value) c.in_ok-check_format.ensures.answer)
+    subst (λ (d : Data). IsTrue (is_well_formed d)) (sym c.in_ok-fields.ensures.fields) (formed-from-none (view c.args.value) c.in_ok-fields.ensures.answer)
