@@ -1,11 +1,12 @@
 -- What some events cite.
-use Rattle.std.proofs.Common.{◌≡◌, ℕ, ◌==◌, ◌<◌, Bool, true, ◌⊎◌, inl, inr, List, [], ◌∷◌, length, refl, sym, ap, ◌∙◌, eq-eqb, eqb-true}
+use Rattle.std.proofs.Common.{◌≡◌, ℕ, ◌==◌, ◌<◌, Bool, true, ◌||◌, ◌⊎◌, inl, inr, List, [], ◌∷◌, flat_map, length, refl, sym, ap, ◌∙◌, eq-eqb, eqb-true}
 use Rattle.mx_graph.specs.Record.{Row, is_in}
 use Rattle.mx_graph.specs.Edges.{IsAllFrom}
 use Rattle.mx_graph.specs.Graph.{IsLeastClosed, IsSound}
 use Rattle.mx_graph.proofs.Closure.{or_cases, or_left, or_right}
 use Rattle.mx_state_res.specs.Masks.{is_cited_by}
 use Rattle.mx_state_res.specs.ChainDifference.{cites, is_cited}
+use Rattle.mx_state_res.proofs.SetLemmas.{is_in-append}
 use Rattle.mx_state_res.proofs.TestLemmas.{one-answer}
 
 module _ (cites : ℕ → List ℕ) where
@@ -31,6 +32,11 @@ module _ (cites : ℕ → List ℕ) where
       one-answer (is_cited_by cites xs y) (is_cited_by cites ys y)
       (λ e. let r = cited-to xs y e in cited-from ys r.0 y (sym (same r.0) ∙ r.1) r.2)
       (λ e. let r = cited-to ys y e in cited-from xs r.0 y (same r.0 ∙ r.1) r.2)
+
+  -- what the events cite, of one after another
+  pub cited-joined : (starts : List ℕ) (y : ℕ) → is_in (flat_map cites starts) y ≡ is_cited_by cites starts y
+  cited-joined [] y = refl
+  cited-joined (s ∷ ss) y = is_in-append (cites s) (flat_map cites ss) y ∙ ap (λ b. is_in (cites s) y || b) (cited-joined ss y)
 
 -- what is cited is one of the rows
 pub cited-known : (rows : List Row) → IsSound rows → (starts : List ℕ) (p : ℕ) → is_cited rows starts p ≡ true → p < length rows

@@ -27,6 +27,7 @@ pub mod StateSetLemmas
 pub mod RowWalkLemmas
 pub mod SameChainLemmas
 pub mod CitedWithinLemmas
+pub mod PartLemmas
 pub mod LaterStateLemmas
 pub mod LaterOrderLemmas
 pub mod LaterCheckLemmas
@@ -40,3 +41,4 @@ pub mod StandingLemmas
 pub mod KeptStateLemmas
 pub mod KeptGrowthLemmas
 pub mod FirstRecordLemmas
+pub mod NextCitedLemmas

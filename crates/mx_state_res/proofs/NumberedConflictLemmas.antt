@@ -22,7 +22,7 @@ use Rattle.mx_state_res.specs.Resolution.{in_every, unconflicted, auth_differenc
 use Rattle.mx_state_res.proofs.TestLemmas.{one-answer}
 use Rattle.mx_states.proofs.KeyLemmas.{Sorted}
 use Rattle.mx_states.proofs.EntryLemmas.{entry-without, equal-keys}
-use Rattle.mx_state_res.proofs.SetLemmas.{shown, all-at, all-of, is_in-append, flat_map-map, map-map}
+use Rattle.mx_state_res.proofs.SetLemmas.{shown, all-at, all-of, is_in-append}
 use Rattle.mx_state_res.proofs.AgreedLemmas.{has_entry-filter}
 use Rattle.mx_state_res.proofs.EqualStateLemmas.{find-own}
 use Rattle.mx_state_res.proofs.ConflictLemmas.{lacks, gathered, full-is}
@@ -87,11 +87,11 @@ module _ (keys s : State) (ss : List State) (ordered : Sorted keys) (sorted : (t
   abbrev agreed : State
   agreed = without keys s
 
-  agreed-at : (k : Key) → entry agreed k ≡ cond (is_none (entry keys k)) (entry s k) None
+  pub agreed-at : (k : Key) → entry agreed k ≡ cond (is_none (entry keys k)) (entry s k) None
   agreed-at k = entry-without keys s k
 
   -- what is not agreed on is at the keys
-  lacks-at : (t : State) → In t (s ∷ ss) → (p : ℕ) → is_in (events_at keys t) p ≡ is_in (events_of (filter (lacks agreed) t)) p
+  pub lacks-at : (t : State) → In t (s ∷ ss) → (p : ℕ) → is_in (events_at keys t) p ≡ is_in (events_of (filter (lacks agreed) t)) p
   lacks-at t m p = one-answer (is_in (events_at keys t) p) (is_in (events_of (filter (lacks agreed) t)) p) to from
     where
       listed : (o : Option ℕ) → In p (option_list o) → o ≡ Some p
@@ -155,45 +155,30 @@ module _ (keys s : State) (ss : List State) (ordered : Sorted keys) (sorted : (t
   borrowed-known n (t ∷ ts) h zero d l = h zero t (omega arith)
   borrowed-known n (t ∷ ts) h (suc k) d l = borrowed-known n ts (λ j d m. h (suc j) d (omega arith)) k d (omega arith)
 
-  pub full-from : (rows : List Row) → IsSound rows → AreKnown rows (s ∷ ss) → (vs : List (Vec ℕ Global)) (difference found events : List ℕ) → map (λ (v : Vec ℕ Global). v.items) vs ≡ map (events_at keys) (s ∷ ss)
-      → difference ≡ chain_difference rows (events_of agreed) (map (λ (v : Vec ℕ Global). v.items) vs) → found ≡ flat_map (λ (v : Vec ℕ Global). v.items) vs ++ difference → Rises events → ((p : ℕ) → is_in events p ≡ is_in found p)
+  pub full-from : (rows : List Row) → IsSound rows → AreKnown rows (s ∷ ss) → (events : List ℕ) → Rises events
+      → ((p : ℕ) → is_in events p ≡ (is_in (flat_map (events_at keys) (s ∷ ss)) p || is_in (chain_difference rows (events_of agreed) (map (events_at keys) (s ∷ ss))) p))
       → events ≡ full_conflicted rows (s ∷ ss)
-  full-from rows sound known vs difference found events apart chains both rises same =
+  full-from rows sound known events rises same =
       subst (λ ts. events ≡ full_conflicted rows ts) (shown-borrowed (s ∷ ss))
       (full-is rows agreed (map borrowed (s ∷ ss)) all events (borrowed-known (length rows) (s ∷ ss) known)
       (subst (IsAgreed agreed) (sym (shown-borrowed (s ∷ ss))) (subst (λ a. IsAgreed a (s ∷ ss)) (sym unconflicted-is) (agreed-all s ss (sorted s (inl refl)))))
-      refl rises (λ p. same p ∙ ap (λ xs. is_in xs p) both ∙ members p))
+      refl rises (λ p. same p ∙ members p))
     where
       all : List ℕ
       all = gathered agreed (map borrowed (s ∷ ss)) ++ auth_difference rows (shown (map borrowed (s ∷ ss)))
 
-      joined : flat_map (λ (v : Vec ℕ Global). v.items) vs ≡ flat_map (events_at keys) (s ∷ ss)
-      joined = flat_map-map (λ (v : Vec ℕ Global). v.items) (λ xs. xs) vs ∙ ap (flat_map (λ xs. xs)) apart ∙ sym (flat_map-map (events_at keys) (λ xs. xs) (s ∷ ss))
+      difference : chain_difference rows (events_of agreed) (map (events_at keys) (s ∷ ss)) ≡ auth_difference rows (shown (map borrowed (s ∷ ss)))
+      difference = difference-is rows sound ∙ ap (auth_difference rows) (sym (shown-borrowed (s ∷ ss)))
 
-      difference-same : difference ≡ auth_difference rows (shown (map borrowed (s ∷ ss)))
-      difference-same = chains ∙ ap (chain_difference rows (events_of agreed)) apart ∙ difference-is rows sound ∙ ap (auth_difference rows) (sym (shown-borrowed (s ∷ ss)))
-
-      members : (p : ℕ) → is_in (flat_map (λ (v : Vec ℕ Global). v.items) vs ++ difference) p ≡ is_in all p
+      members : (p : ℕ) → (is_in (flat_map (events_at keys) (s ∷ ss)) p || is_in (chain_difference rows (events_of agreed) (map (events_at keys) (s ∷ ss))) p) ≡ is_in all p
       members p =
-          is_in-append (flat_map (λ (v : Vec ℕ Global). v.items) vs) difference p
-          ∙ ap₂ (λ a b. a || b) (ap (λ xs. is_in xs p) joined ∙ gathered-at (s ∷ ss) (λ t m. m) p) (ap (λ xs. is_in xs p) difference-same)
+          ap₂ (λ a b. a || b) (gathered-at (s ∷ ss) (λ t m. m) p) (ap (λ xs. is_in xs p) difference)
           ∙ sym (is_in-append (gathered agreed (map borrowed (s ∷ ss))) (auth_difference rows (shown (map borrowed (s ∷ ss)))) p)
 
 -- ---- by numbers
 
 pub at-sorted : (at : ℕ → State) (numbers : List ℕ) → All (λ n. Sorted (at n)) numbers → (t : State) → In t (map at numbers) → Sorted t
 at-sorted at numbers h t m = let r = in_map-from at t numbers m in subst Sorted (sym r.2) (all-at (λ n. Sorted (at n)) numbers h r.0 r.1)
-
-pub full-at : (rows : List Row) (at : ℕ → State) (keys : State) (base : ℕ) (others numbers : List ℕ) → numbers ≡ base ∷ others → Sorted keys → IsSound rows → All (λ n. Sorted (at n)) numbers → IsDiffering keys (map at numbers) → AreKnown rows (map at numbers)
-    → (vs : List (Vec ℕ Global)) (difference found events : List ℕ) → map (λ (v : Vec ℕ Global). v.items) vs ≡ map (λ n. events_at keys (at n)) numbers
-    → difference ≡ chain_difference rows (events_of (without keys (at base))) (map (λ (v : Vec ℕ Global). v.items) vs) → found ≡ flat_map (λ (v : Vec ℕ Global). v.items) vs ++ difference → Rises events → ((p : ℕ) → is_in events p ≡ is_in found p)
-    → events ≡ full_conflicted rows (map at numbers)
-full-at rows at keys base others numbers q ordered sound sorted differing known vs difference found events apart chains both rises same =
-    subst
-    (λ ns. All (λ n. Sorted (at n)) ns → IsDiffering keys (map at ns) → AreKnown rows (map at ns) → map (λ (v : Vec ℕ Global). v.items) vs ≡ map (λ n. events_at keys (at n)) ns → events ≡ full_conflicted rows (map at ns))
-    (sym q)
-    (λ s d k a. full-from keys (at base) (map at others) ordered (at-sorted at (base ∷ others) s) d rows sound k vs difference found events (a ∙ map-map at (events_at keys) (base ∷ others)) chains both rises same)
-    sorted differing known apart
 
 pub events_at-known : (n : ℕ) (keys s : State) → All (λ e. e.1 < n) s → (p : ℕ) → In p (events_at keys s) → p < n
 events_at-known n keys s h p m = let r = in_flat_map-from (λ (e : Key × ℕ). option_list (entry s e.0)) p keys m in by r.0 (entry s r.0.0) refl r.2

@@ -1,9 +1,11 @@
 -- Numbered states beside a record, for clauses, and states that are worked on.
-use Rattle.std.specs.Prelude.{◌≡◌, not, ℕ, ◌<◌, ◌++◌, List, All, filter, length}
+use Rattle.std.specs.Prelude.{◌≡◌, not, ℕ, ◌<◌, ◌++◌, List, ◌∷◌, All, filter, length, map}
+use Rattle.std.specs.List.{AllZip}
 use Rattle.mx_auth.specs.declared.versions.RoomVersion.{RoomVersion}
 use Rattle.mx_graph.specs.Record.{Row, is_in}
-use Rattle.mx_graph.specs.StateMap.{State, entry}
-use Rattle.mx_states.specs.Numbered.{edited}
+use Rattle.mx_graph.specs.StateMap.{State, entry, events_of}
+use Rattle.mx_states.specs.Entries.{has_entry}
+use Rattle.mx_states.specs.Numbered.{edited, events_at}
 use Rattle.mx_orders.specs.PowerOrder.{power_order}
 use Rattle.mx_orders.specs.Mainline.{power_key, mainline, mainline_order}
 use Rattle.mx_state_res.specs.Resolution.{power_events, iterative_auth_checks}
@@ -32,3 +34,15 @@ checked v rows s full =
     let others = filter (λ p. not (is_in power p)) full in
     let partial = iterative_auth_checks v rows s (power_order rows power) in
     iterative_auth_checks v rows partial (mainline_order rows (mainline rows (entry partial power_key)) others)
+
+-- the events that a state has and another one hasn't at the same key
+abbrev pub own_events : State → State → List ℕ
+own_events other s = events_of (filter (λ e. not (has_entry e other)) s)
+
+-- of the first of some states its events at some keys, and of each other those that the first hasn't at the same key
+abbrev pub event_parts : State → State → List State → List (List ℕ)
+event_parts keys s states = events_at keys s ∷ map (own_events s) states
+
+-- lists of the same events, one by one, in whatever order
+abbrev pub HaveSameEvents : List (List ℕ) → List (List ℕ) → Type 0
+HaveSameEvents = AllZip (λ xs ys. (p : ℕ) → is_in xs p ≡ is_in ys p)

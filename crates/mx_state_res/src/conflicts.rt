@@ -11,6 +11,7 @@ ghost use Rattle.mx_state_res.specs.Resolution as definition;
 mod cited_events;
 pub(crate) mod numbered_conflicts;
 pub(crate) mod rising_lists;
+mod state_parts;
 
 use crate::chains::chain_difference::chain_difference;
 use mx_graph::{EventNo, Graph, graph_is_sound, rising};

@@ -1,86 +1,108 @@
-// What a few events cite.
-ghost use Rattle.std.specs.Prelude.{◌≡◌, ◌<◌, All, IsTrue, length, map, true};
+// What events in conflict cite.
+ghost use Rattle.std.specs.Prelude.{◌≡◌, ◌<◌, ◌++◌, ◌&&◌, ℕ, All, IfOk, IsTrue, OnOk, filter, flat_map, length, map, not, true};
 ghost use Rattle.std.specs.List.{list_all};
+ghost use Rattle.mx_graph.specs.Edges.{Rises};
 ghost use Rattle.mx_graph.specs.Graph.{auth_chain};
 ghost use Rattle.mx_graph.specs.Record.{is_in};
 ghost use Rattle.mx_state_res.specs.ChainDifference as definition;
 
-use mx_graph::{EventNo, Graph};
+use crate::conflicts::rising_lists::without;
+use mx_graph::{EventNo, Graph, rising};
+use std::alloc::{AllocError, Global};
 
-// Of more events it isn't told: each is looked at for each that they cite.
-const MOST_EVENTS: usize = 16;
+// Of more it isn't told: each is looked for in the auth chains of all sets.
+const MOST_CITED: usize = 64;
 
-/// Whether each event that these cite is one of them, or in the auth chains of all of some sets, as far as that is told from
-/// what the graph keeps of auth chains. Of more than sixteen events it is not told. It takes no memory.
-pub(crate) fn cite_within(graph: &Graph, sets: &[Vec<EventNo>], events: &[EventNo]) -> bool
+/// Whether each event that these cite, which rise, is one of them, or in the auth chains of all of some sets, as far as that
+/// is told from what the graph keeps of auth chains. Where they cite more than 64 others it is not told.
+///
+/// The time is that of what they cite, times a logarithm, and that of the sets for each of the others. `AllocError` where
+/// no memory is left.
+pub(crate) fn cite_within(
+    alloc: Global,
+    graph: &Graph,
+    sets: &[Vec<EventNo>],
+    events: &[EventNo],
+) -> Result<bool, AllocError>
+    requires rises { Rises events.now }
+    requires known { All (λ event. event < length graph.now) events.now }
+    ensures { IfOk result (λ is_told. IsTrue is_told
+        → definition.CiteWithin graph.now (map (λ others. others.items) sets.now) events.now) }
+{
+    let others = cited_beside(alloc, graph, events)?;
+    if others.len() > MOST_CITED {
+        return Ok(false);
+    }
+    Ok(are_in_each_chain(graph, sets, &others))
+}
+
+// The events that these cite, without these, which rise.
+fn cited_beside(
+    alloc: Global,
+    graph: &Graph,
+    events: &[EventNo],
+) -> Result<Vec<EventNo>, AllocError>
+    requires rises { Rises events.now }
+    requires known { All (λ event. event < length graph.now) events.now }
+    ensures { IfOk result (λ others. (p : ℕ) → is_in others.items p
+        ≡ (definition.is_cited graph.now events.now p && not (is_in events.now p))) }
+{
+    let cited = all_cited(alloc, graph, events)?;
+    let each = rising(alloc, &cited)?;
+    let others = without(alloc, &each, events)?;
+    Ok(others)
+}
+
+// What these cite, of one after another, without what the one before it cites too.
+fn all_cited(alloc: Global, graph: &Graph, events: &[EventNo]) -> Result<Vec<EventNo>, AllocError>
     requires { All (λ event. event < length graph.now) events.now }
-    ensures { IsTrue result → definition.CiteWithin graph.now (map (λ others. others.items) sets.now) events.now }
+    ensures { IfOk result (λ cited. (p : ℕ) → is_in cited.items p
+        ≡ is_in (flat_map (definition.cites graph.now) events.now) p) }
 {
-    if events.len() > MOST_EVENTS {
-        return false;
-    }
+    let mut cited = Vec::new(alloc);
     // Often the next event cites the same ones.
-    let mut told: &[EventNo] = &[];
+    let mut last: &[EventNo] = &[];
     for event in events {
-        let cited = graph.auth_events(*event);
-        if !are_within(graph, sets, events, told, cited) {
-            return false;
-        }
-        told = cited;
+        let next = graph.auth_events(*event);
+        push_others(&mut cited, last, next)?;
+        last = next;
     }
-    true
+    Ok(cited)
 }
 
-// Whether each of some cited events is one of these, or in the auth chains of all sets, where it was told of others.
-fn are_within(
-    graph: &Graph,
-    sets: &[Vec<EventNo>],
+// Pushes those of some events that are not among others.
+fn push_others(
+    found: &mut Vec<EventNo>,
+    others: &[EventNo],
     events: &[EventNo],
-    told: &[EventNo],
-    cited: &[EventNo],
-) -> bool
-    requires { All (λ event.
-        definition.is_within graph.now (map (λ others. others.items) sets.now) events.now event ≡ true) told.now }
-    ensures { IsTrue result → All (λ event.
-        definition.is_within graph.now (map (λ others. others.items) sets.now) events.now event ≡ true) cited.now }
+) -> Result<(), AllocError>
+    ensures { OnOk result (found.new.items ≡ found.old.items ++ filter (λ p. not (is_in others.now p)) events.now) }
 {
-    for event in cited {
-        if !is_told_within(graph, sets, events, told, *event) {
-            return false;
+    for event in events {
+        if !is_one_of(others, *event) {
+            found.push(*event)?;
         }
     }
-    true
-}
-
-fn is_told_within(
-    graph: &Graph,
-    sets: &[Vec<EventNo>],
-    events: &[EventNo],
-    told: &[EventNo],
-    event: EventNo,
-) -> bool
-    requires { All (λ event.
-        definition.is_within graph.now (map (λ others. others.items) sets.now) events.now event ≡ true) told.now }
-    ensures { IsTrue result
-        → definition.is_within graph.now (map (λ others. others.items) sets.now) events.now event ≡ true }
-{
-    if is_one_of(told, event) {
-        return true;
-    }
-    is_within(graph, sets, events, event)
-}
-
-fn is_within(graph: &Graph, sets: &[Vec<EventNo>], events: &[EventNo], event: EventNo) -> bool
-    ensures { IsTrue result
-        → definition.is_within graph.now (map (λ others. others.items) sets.now) events.now event ≡ true }
-{
-    is_one_of(events, event) || is_in_each_chain(graph, sets, event)
+    Ok(())
 }
 
 fn is_one_of(events: &[EventNo], event: EventNo) -> bool
     ensures { result ≡ is_in events.now event }
 {
     events.iter().any(|other| *other == event)
+}
+
+// Whether each of these is in the auth chains of all of some sets.
+fn are_in_each_chain(graph: &Graph, sets: &[Vec<EventNo>], events: &[EventNo]) -> bool
+    ensures { IsTrue result → All (λ event. list_all (λ others. is_in (auth_chain graph.now others) event)
+        (map (λ others. others.items) sets.now) ≡ true) events.now }
+{
+    for event in events {
+        if !is_in_each_chain(graph, sets, *event) {
+            return false;
+        }
+    }
+    true
 }
 
 // Whether an event is in the auth chains of all of some sets.
