@@ -1,4 +1,4 @@
-use Rattle.std.proofs.Common.{◌≡◌, ◌<◌, ◌+◌, ◌∷◌, [], ◌++◌, length, sym, ◌∙◌, ap, subst, arith}
+use Rattle.std.proofs.Common.{length, sym, ◌∙◌, ap, subst, arith}
 use Rattle.std.specs.List.{swap}
 use Rattle.mx_engine.specs.Jobs.{moved, AreMoves}
 use Rattle.mx_engine.proofs.MoveLemmas.{moved-last, moves-snoc}
@@ -14,4 +14,5 @@ returns-clause-jobs g c = λ first is.
 pub returns-clause-within : goal.returns-clause-within
 returns-clause-within g c = λ are.
     subst (AreMoves (length c.args.jobs.now.items) 0) (sym c.push_reserved.ensures.items)
-    (moves-snoc (length c.args.jobs.now.items) 0 c.args.moves.now.items c.args.number are (omega (arith, c.requires.few, c.requires.number)) c.requires.number)
+    (moves-snoc (length c.args.jobs.now.items) 0 c.args.moves.now.items c.args.number are
+    (omega (arith, c.requires.few, c.requires.number)) c.requires.number)
