@@ -1,9 +1,0 @@
-use Rattle.std.proofs.Common.{◌≡◌, length, take}
-use Rattle.mx_engine.proofs.ToldLemmas.{AreIdle}
-use Rattle.mx_engine.proofs.jobs.busy_docks.Given as goal
-
-abbrev pub invariant-loop-offered : goal.invariant-loop-offered
-invariant-loop-offered l = record {
-  long : length l.busy ≡ 64;
-  idle : AreIdle l.fn.count (take l.offered-index l.fn.events) l.busy;
-}
