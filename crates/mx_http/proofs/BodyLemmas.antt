@@ -8,7 +8,11 @@ use Rattle.http_body.specs.Frame.{data_in, bytes_in, data_of, joined_data}
 use Rattle.futures.specs.declared.task.Poll.{Poll}
 use Rattle.futures.specs.declared.task.Poll.TheVariants.{Ready, Pending}
 use Rattle.futures.specs.Poll.{IfReady, OnPending}
+use Rattle.mx_http.specs.declared.bodies.BodyError.{BodyError}
+use Rattle.mx_http.specs.declared.bodies.CountedBody.{CountedBody}
+use Rattle.mx_http.specs.declared.bodies.WholeBody.{WholeBody}
 use Rattle.mx_http.specs.Bodies.{IsBody, OnOkOrPending}
+use Rattle.mx_http.specs.WholeBodies.{GivesBody, StillGives}
 
 -- the bytes of a frame are those of its data
 bytes_of_data : (kind : Kind (List ℕ)) → unwrap_or (data_in kind) [] ≡ bytes_in kind
@@ -71,6 +75,22 @@ module _ {X E : Type 0} (P Q : X → Type 0) where
   gives_ready (Ready r) (Some fault) none still given = absurd (cc)
   gives_ready (Ready (Ok x)) None none still given = still x given
   gives_ready (Ready (Err e)) None none still given = given
+
+module _ {B R E : Type 0} (yields : B → Runs (Result (Frame (List ℕ)) E)) (old new : WholeBody B R) where
+  -- the same of a body that is gathered
+  pub whole_still : (r : Result CountedBody BodyError) → old.fault ≡ None → new.fault ≡ None → StillGives yields old new
+      → MatchOption new.fault (IfOk r (λ counted. GivesBody yields new counted.bytes.items)) (λ fault. r ≡ Err fault)
+      → MatchOption old.fault (IfOk r (λ counted. GivesBody yields old counted.bytes.items)) (λ fault. r ≡ Err fault)
+  whole_still r old_none new_none still given =
+      gives_still (λ counted. GivesBody yields old counted.bytes.items) (λ counted. GivesBody yields new counted.bytes.items)
+      old.fault new.fault r old_none new_none (λ counted whole. still counted.bytes.items whole) given
+
+  pub whole_ready : (p : Poll (Result CountedBody BodyError)) → old.fault ≡ None → StillGives yields old new
+      → IfReady p (λ r. IfOk r (λ counted. GivesBody yields new counted.bytes.items))
+      → IfReady p (λ r. MatchOption old.fault (IfOk r (λ counted. GivesBody yields old counted.bytes.items)) (λ fault. r ≡ Err fault))
+  whole_ready p none still given =
+      gives_ready (λ counted. GivesBody yields old counted.bytes.items) (λ counted. GivesBody yields new counted.bytes.items)
+      p old.fault none (λ counted whole. still counted.bytes.items whole) given
 
 module _ {X : Type 0} (S T : Type 0) where
   pub pending_map : (p : Poll X) → (S → T) → OnPending p S → OnPending p T
