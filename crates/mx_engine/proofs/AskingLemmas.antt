@@ -31,12 +31,21 @@ use Rattle.mx_engine.proofs.TurnLemmas.{view-eq, view_at-here, views-set, view-s
 
 module _ {E : Type 0} where
   pub same_refl : (views : List (BerthView E)) → AreSameViews views views
-  same_refl views = record { long = refl; each = λ n. record { numbered = refl; opened = refl; counted = refl; placed = refl } }
+  same_refl views = record {
+    long = refl;
+    each = λ n. record { numbered = refl; opened = refl; counted = refl; placed = refl };
+  }
 
   pub same_trans : (a b c : List (BerthView E)) → AreSameViews a b → AreSameViews b c → AreSameViews a c
   same_trans a b c s t = record {
     long = t.long ∙ s.long;
-    each = λ n. let p = s.each n in let q = t.each n in record { numbered = q.numbered ∙ p.numbered; opened = q.opened ∙ p.opened; counted = q.counted ∙ p.counted; placed = q.placed ∙ p.placed };
+    each = λ n. let p = s.each n in let q =
+        t.each n in record {
+          numbered = q.numbered ∙ p.numbered;
+          opened = q.opened ∙ p.opened;
+          counted = q.counted ∙ p.counted;
+          placed = q.placed ∙ p.placed;
+        };
   }
 
   pub nothing_trans : (a b c : List (BerthView E)) → AddsNothing a b → AddsNothing b c → AddsNothing a c
@@ -48,21 +57,44 @@ module _ {E : Type 0} where
         let seen : (view_at b n).seen ≡ p.0 = ap (λ (v : BerthView E). v.seen) p.2 in (
           q.0,
           prefix_trans (view_at a n).seen p.0 q.0 p.1 (subst (λ l. (rest : List E) × (q.0 ≡ l ++ rest)) seen q.1),
-          q.2 ∙ view-eq (record { number = (view_at b n).number; seen = q.0; added = (view_at b n).added; opening = (view_at b n).opening; made = (view_at b n).made; place = (view_at b n).place })
-              (record { number = (view_at a n).number; seen = q.0; added = (view_at a n).added; opening = (view_at a n).opening; made = (view_at a n).made; place = (view_at a n).place })
-              (ap (λ (v : BerthView E). v.number) p.2) refl (ap (λ (v : BerthView E). v.added) p.2) (ap (λ (v : BerthView E). v.opening) p.2) (ap (λ (v : BerthView E). v.made) p.2) (ap (λ (v : BerthView E). v.place) p.2),
+          q.2 ∙ view-eq (record {
+            number = (view_at b n).number;
+            seen = q.0;
+            added = (view_at b n).added;
+            opening = (view_at b n).opening;
+            made = (view_at b n).made;
+            place = (view_at b n).place;
+          })
+              (record {
+                number = (view_at a n).number;
+                seen = q.0;
+                added = (view_at a n).added;
+                opening = (view_at a n).opening;
+                made = (view_at a n).made;
+                place = (view_at a n).place;
+              })
+              (ap (λ (v : BerthView E). v.number) p.2) refl (ap (λ (v : BerthView E). v.added) p.2)
+              (ap (λ (v : BerthView E). v.opening) p.2) (ap (λ (v : BerthView E). v.made) p.2)
+              (ap (λ (v : BerthView E). v.place) p.2),
         );
   }
 
   pub same_nothing : (a b : List (BerthView E)) → AddsNothing a b → AreSameViews a b
   same_nothing a b s = record {
     long = s.long;
-    each = λ n. let p = s.each n in record { numbered = ap (λ (v : BerthView E). v.number) p.2; opened = ap (λ (v : BerthView E). v.opening) p.2; counted = ap (λ (v : BerthView E). v.made) p.2; placed = ap (λ (v : BerthView E). v.place) p.2 };
+    each = λ n. let p = s.each n in
+        record {
+          numbered = ap (λ (v : BerthView E). v.number) p.2;
+          opened = ap (λ (v : BerthView E). v.opening) p.2;
+          counted = ap (λ (v : BerthView E). v.made) p.2;
+          placed = ap (λ (v : BerthView E). v.place) p.2;
+        };
   }
 
 -- ---- what a shard shows
 
-pub shown_found : (call : Call) (views : List (BerthView Entry)) (n : ℕ) (told : Answer) → tells_shown told ≡ true → n < length views → Shows call views told n → IsShownBy call views told
+pub shown_found : (call : Call) (views : List (BerthView Entry)) (n : ℕ) (told : Answer) → tells_shown told ≡ true
+    → n < length views → Shows call views told n → IsShownBy call views told
 shown_found call views n (ToAsked (Ok reply)) is l shows = (n, l, shows)
 shown_found call views n (ToAsked (Err denied)) is l shows = absurd (true≢false (sym is))
 shown_found call views n NotHosted is l shows = absurd shows.shown
@@ -72,7 +104,8 @@ shown_found call views n (NotHost cause) is l shows = absurd shows.shown
 shown_found call views n (ToOffered outcome) is l shows = absurd shows.shown
 shown_found call views n (ToJoined reply) is l shows = absurd shows.shown
 
-none_shown : (rows : List ℕ → List Kept) (call : Call) (told : Answer) → tells_shown told ≡ false → IsShown rows call told → IsShown rows call (ToAsked (Err NotFound))
+none_shown : (rows : List ℕ → List Kept) (call : Call) (told : Answer) → tells_shown told ≡ false → IsShown rows call told
+    → IsShown rows call (ToAsked (Err NotFound))
 none_shown rows call (ToAsked (Ok reply)) is shown = absurd (true≢false is)
 none_shown rows call (ToAsked (Err denied)) is shown = (refl, shown.1)
 none_shown rows call NotHosted is shown = absurd shown
@@ -83,7 +116,9 @@ none_shown rows call (ToOffered outcome) is shown = absurd shown
 none_shown rows call (ToJoined reply) is shown = absurd shown
 
 module _ (caller : ℕ) (origin : List ℕ) (now : ℕ) (q : Query) (alone : room_named q ≡ None) where
-  pub found_turn : (old new : BerthView Entry) (told : Answer) → tells_shown told ≡ true → IsTurn caller (to_ask origin now q) (room_named q) old new (Ok told) → IsAskTurn (to_ask origin now q) old new (Ok (Some told))
+  pub found_turn : (old new : BerthView Entry) (told : Answer) → tells_shown told ≡ true
+      → IsTurn caller (to_ask origin now q) (room_named q) old new (Ok told)
+      → IsAskTurn (to_ask origin now q) old new (Ok (Some told))
   found_turn old new told is t = record {
     journal = t.journal;
     legal = t.legal;
@@ -93,35 +128,46 @@ module _ (caller : ℕ) (origin : List ℕ) (now : ℕ) (q : Query) (alone : roo
     told = is;
   }
 
-  pub none_turn : (old new : BerthView Entry) (told : Answer) → tells_shown told ≡ false → IsTurn caller (to_ask origin now q) (room_named q) old new (Ok told) → IsAskTurn (to_ask origin now q) old new (Ok None)
+  pub none_turn : (old new : BerthView Entry) (told : Answer) → tells_shown told ≡ false
+      → IsTurn caller (to_ask origin now q) (room_named q) old new (Ok told)
+      → IsAskTurn (to_ask origin now q) old new (Ok None)
   none_turn old new told is t = record {
     journal = t.journal;
     legal = t.legal;
     later = t.later;
     seen = ask_view caller origin now q old new (Ok told) t;
-    shown = none_shown (record_of t.journal) (to_ask origin now q) told is (subst (λ room. IsAnswer (record_of t.journal) (to_ask origin now q) room told) alone t.reply);
+    shown = none_shown (record_of t.journal) (to_ask origin now q) told is
+        (subst (λ room. IsAnswer (record_of t.journal) (to_ask origin now q) room told) alone t.reply);
     told = refl;
   }
 
-  pub refused_turn : (old new : BerthView Entry) (result : Result (Option Answer) CallError) (cause : CallError) → IsErrAnd result (λ e. e ≡ cause) → IsTurn caller (to_ask origin now q) (room_named q) old new (Err cause) → IsAskTurn (to_ask origin now q) old new result
+  pub refused_turn : (old new : BerthView Entry) (result : Result (Option Answer) CallError) (cause : CallError)
+      → IsErrAnd result (λ e. e ≡ cause) → IsTurn caller (to_ask origin now q) (room_named q) old new (Err cause)
+      → IsAskTurn (to_ask origin now q) old new result
   refused_turn old new (Ok found) cause is t = absurd is
-  refused_turn old new (Err e) cause is t = record { journal = t.journal; legal = t.legal; later = t.later; seen = t.err; shown = tt; told = tt }
+  refused_turn old new (Err e) cause is t =
+      record { journal = t.journal; legal = t.legal; later = t.later; seen = t.err; shown = tt; told = tt }
 
 -- what a turn at one shard shows, and what others showed before
-pub shows_here : {T : Type 0} (call : Call) (berths : List (Berth T Entry)) (n : ℕ) (old new : Berth T Entry) (found : Option Answer) → n < length berths →
+pub shows_here : {T : Type 0} (call : Call) (berths : List (Berth T Entry)) (n : ℕ) (old new : Berth T Entry)
+    (found : Option Answer) → n < length berths →
     IsAskTurn call (own old) (own new) (Ok found) → Shows call (views_of (set berths n new)) (told_by found) n
 shows_here {T = T} call berths n old new found l t =
     let k : n < length (set berths n new) = subst (λ m. n < m) (sym (length-set berths n new)) l in
     let there : (view_at (views_of (set berths n new)) n).seen ≡ t.journal =
-    ap (λ (v : BerthView Entry). v.seen) (view_at-here (set berths n new) n new k ∙ ap own (get_or-set_same berths n new new l) ∙ t.seen) ∙ append-nil t.journal in
+    ap (λ (v : BerthView Entry). v.seen)
+    (view_at-here (set berths n new) n new k ∙ ap own (get_or-set_same berths n new new l) ∙ t.seen)
+    ∙ append-nil t.journal in
     record {
       legal = subst IsLegal (sym there) t.legal;
       shown = subst (λ l. IsShown (record_of l) call (told_by found)) (sym there) t.shown;
     }
 
-pub shows_there : {T : Type 0} (call : Call) (berths : List (Berth T Entry)) (n m : ℕ) (new : Berth T Entry) (told : Answer) → m ≢ n → Shows call (views_of berths) told m → Shows call (views_of (set berths n new)) told m
+pub shows_there : {T : Type 0} (call : Call) (berths : List (Berth T Entry)) (n m : ℕ) (new : Berth T Entry) (told : Answer)
+    → m ≢ n → Shows call (views_of berths) told m → Shows call (views_of (set berths n new)) told m
 shows_there call berths n m new told apart shows =
-    let same : view_at (views_of (set berths n new)) m ≡ view_at (views_of berths) m = ap (λ vs. view_at vs m) (views-set berths n new) ∙ view-set_other (views_of berths) n m (own new) apart in
+    let same : view_at (views_of (set berths n new)) m ≡ view_at (views_of berths) m =
+    ap (λ vs. view_at vs m) (views-set berths n new) ∙ view-set_other (views_of berths) n m (own new) apart in
     record {
       legal = subst (λ (v : BerthView Entry). IsLegal v.seen) (sym same) shows.legal;
       shown = subst (λ (v : BerthView Entry). IsShown (record_of v.seen) call told) (sym same) shows.shown;
@@ -145,13 +191,17 @@ asked_none call views = record {
 }
 
 -- a shard was asked, whatever came of it
-pub legal_here : {T : Type 0} (call : Call) (berths : List (Berth T Entry)) (n : ℕ) (old new : Berth T Entry) (result : Result (Option Answer) CallError) → n < length berths →
+pub legal_here : {T : Type 0} (call : Call) (berths : List (Berth T Entry)) (n : ℕ) (old new : Berth T Entry)
+    (result : Result (Option Answer) CallError) → n < length berths →
     IsAskTurn call (own old) (own new) result → IsLegal (view_at (views_of (set berths n new)) n).seen
 legal_here call berths n old new result l t =
     let k : n < length (set berths n new) = subst (λ m. n < m) (sym (length-set berths n new)) l in
-    subst IsLegal (sym (ap (λ (v : BerthView Entry). v.seen) (view_at-here (set berths n new) n new k ∙ ap own (get_or-set_same berths n new new l) ∙ t.seen) ∙ append-nil t.journal)) t.legal
+    subst IsLegal (sym (ap (λ (v : BerthView Entry). v.seen)
+    (view_at-here (set berths n new) n new k ∙ ap own (get_or-set_same berths n new new l) ∙ t.seen)
+    ∙ append-nil t.journal)) t.legal
 
-module _ {T : Type 0} (call : Call) (berths : List (Berth T Entry)) (n : ℕ) (old new : Berth T Entry) (some_refused : Bool) (l : n < length berths) (before : AreAsked call (views_of berths) n some_refused) where
+module _ {T : Type 0} (call : Call) (berths : List (Berth T Entry)) (n : ℕ) (old new : Berth T Entry) (some_refused : Bool)
+    (l : n < length berths) (before : AreAsked call (views_of berths) n some_refused) where
   abbrev with_refusal : Bool → ℕ → Bool
   with_refusal here m = cond (m == n) here (before.is_refused m)
 
@@ -163,35 +213,46 @@ module _ {T : Type 0} (call : Call) (berths : List (Berth T Entry)) (n : ℕ) (o
 
   legal_there : (m : ℕ) → m ≢ n → m < n + 1 → IsLegal (view_at (views_of (set berths n new)) m).seen
   legal_there m apart below =
-      subst (λ (v : BerthView Entry). IsLegal v.seen) (sym (ap (λ vs. view_at vs m) (views-set berths n new) ∙ view-set_other (views_of berths) n m (own new) apart)) (before.legal m (omega (arith, below, apart)))
+      subst (λ (v : BerthView Entry). IsLegal v.seen)
+      (sym (ap (λ vs. view_at vs m) (views-set berths n new) ∙ view-set_other (views_of berths) n m (own new) apart))
+      (before.legal m (omega (arith, below, apart)))
 
-  others_there : (here : Bool) (m : ℕ) → m ≢ n → m < n + 1 → with_refusal here m ≡ false → Shows call (views_of (set berths n new)) (ToAsked (Err NotFound)) m
-  others_there here m apart below is = shows_there call berths n m new (ToAsked (Err NotFound)) apart (before.others m (omega (arith, below, apart)) (sym (refusal_there here m apart) ∙ is))
+  others_there : (here : Bool) (m : ℕ) → m ≢ n → m < n + 1 → with_refusal here m ≡ false
+      → Shows call (views_of (set berths n new)) (ToAsked (Err NotFound)) m
+  others_there here m apart below is =
+      shows_there call berths n m new (ToAsked (Err NotFound)) apart
+      (before.others m (omega (arith, below, apart)) (sym (refusal_there here m apart) ∙ is))
 
   -- one more, which shows nothing
-  pub asked_unshown : IsAskTurn call (own old) (own new) (Ok None) → AreAsked call (views_of (set berths n new)) (n + 1) some_refused
+  pub asked_unshown : IsAskTurn call (own old) (own new) (Ok None)
+      → AreAsked call (views_of (set berths n new)) (n + 1) some_refused
   asked_unshown t = record {
     is_refused = with_refusal false;
-    some = λ is. let s = before.some is in (s.0, omega (arith, s.1), refusal_there false s.0 (λ same. let e : ⊥ = omega (arith, s.1, same) in e) ∙ s.2);
+    some = λ is. let s = before.some is in
+        (s.0, omega (arith, s.1), refusal_there false s.0 (λ same. let e : ⊥ = omega (arith, s.1, same) in e) ∙ s.2);
     none = λ is m below. dite (ℕ_discrete m n)
         (λ same. ap (with_refusal false) same ∙ refusal_here false)
         (λ other. refusal_there false m other ∙ before.none is m (omega (arith, below, other)));
     legal = λ m below. dite (ℕ_discrete m n)
-        (λ same. subst (λ k. IsLegal (view_at (views_of (set berths n new)) k).seen) (sym same) (legal_here call berths n old new (Ok None) l t))
+        (λ same. subst (λ k. IsLegal (view_at (views_of (set berths n new)) k).seen) (sym same)
+        (legal_here call berths n old new (Ok None) l t))
         (λ other. legal_there m other below);
     others = λ m below is. dite (ℕ_discrete m n)
-        (λ same. subst (Shows call (views_of (set berths n new)) (ToAsked (Err NotFound))) (sym same) (shows_here call berths n old new None l t))
+        (λ same. subst (Shows call (views_of (set berths n new)) (ToAsked (Err NotFound))) (sym same)
+        (shows_here call berths n old new None l t))
         (λ other. others_there false m other below is);
   }
 
   -- one more, which was refused
-  pub asked_refused : (error : CallError) → IsAskTurn call (own old) (own new) (Err error) → AreAsked call (views_of (set berths n new)) (n + 1) true
+  pub asked_refused : (error : CallError) → IsAskTurn call (own old) (own new) (Err error)
+      → AreAsked call (views_of (set berths n new)) (n + 1) true
   asked_refused error t = record {
     is_refused = with_refusal true;
     some = λ is. (n, omega arith, refusal_here true);
     none = λ is. absurd (true≢false is);
     legal = λ m below. dite (ℕ_discrete m n)
-        (λ same. subst (λ k. IsLegal (view_at (views_of (set berths n new)) k).seen) (sym same) (legal_here call berths n old new (Err error) l t))
+        (λ same. subst (λ k. IsLegal (view_at (views_of (set berths n new)) k).seen) (sym same)
+        (legal_here call berths n old new (Err error) l t))
         (λ other. legal_there m other below);
     others = λ m below is. dite (ℕ_discrete m n)
         (λ same. absurd (true≢false (sym (refusal_here true) ∙ ap (with_refusal true) (sym same) ∙ is)))
@@ -199,27 +260,37 @@ module _ {T : Type 0} (call : Call) (berths : List (Berth T Entry)) (n : ℕ) (o
   }
 
 -- one more, which was refused for storage or shows nothing
-pub asked_more : {T : Type 0} (call : Call) (berths : List (Berth T Entry)) (n : ℕ) (old new : Berth T Entry) (some_refused : Bool) (asked : Result (Option Answer) CallError) → n < length berths → AreAsked call (views_of berths) n some_refused →
-    IsAskTurn call (own old) (own new) asked → found_in asked ≡ Ok None → AreAsked call (views_of (set berths n new)) (n + 1) (is_storage asked || some_refused)
-asked_more call berths n old new some_refused (Ok None) l before t is = asked_unshown call berths n old new some_refused l before t
-asked_more call berths n old new some_refused (Ok (Some told)) l before t is = absurd (let e : Ok (Some told) ≡ Ok None = is in cc)
+pub asked_more : {T : Type 0} (call : Call) (berths : List (Berth T Entry)) (n : ℕ) (old new : Berth T Entry)
+    (some_refused : Bool) (asked : Result (Option Answer) CallError) → n < length berths
+    → AreAsked call (views_of berths) n some_refused →
+    IsAskTurn call (own old) (own new) asked → found_in asked ≡ Ok None
+    → AreAsked call (views_of (set berths n new)) (n + 1) (is_storage asked || some_refused)
+asked_more call berths n old new some_refused (Ok None) l before t is =
+    asked_unshown call berths n old new some_refused l before t
+asked_more call berths n old new some_refused (Ok (Some told)) l before t is =
+    absurd (let e : Ok (Some told) ≡ Ok None = is in cc)
 asked_more call berths n old new some_refused (Err Memory) l before t is = absurd (let e : Err Memory ≡ Ok None = is in cc)
-asked_more call berths n old new some_refused (Err Storage) l before t is = asked_refused call berths n old new some_refused l before Storage t
+asked_more call berths n old new some_refused (Err Storage) l before t is =
+    asked_refused call berths n old new some_refused l before Storage t
 
-pub found_some : (asked : Result (Option Answer) CallError) (told : Answer) → found_in asked ≡ Ok (Some told) → asked ≡ Ok (Some told)
+pub found_some : (asked : Result (Option Answer) CallError) (told : Answer) → found_in asked ≡ Ok (Some told)
+    → asked ≡ Ok (Some told)
 found_some (Ok found) told is = is
 found_some (Err Memory) told is = absurd (let e : Err Memory ≡ Ok (Some told) = is in cc)
 found_some (Err Storage) told is = absurd (let e : Ok None ≡ Ok (Some told) = is in cc)
 
 -- what ends the asking is no refusal for storage
-pub never_storage : (asked : Result (Option Answer) CallError) (result : Result Answer CallError) (cause : CallError) → IsErrAnd result (λ e. e ≡ cause) → found_in asked ≡ Err cause → result ≡ Err Storage → ⊥
+pub never_storage : (asked : Result (Option Answer) CallError) (result : Result Answer CallError) (cause : CallError)
+    → IsErrAnd result (λ e. e ≡ cause) → found_in asked ≡ Err cause → result ≡ Err Storage → ⊥
 never_storage asked (Ok told) cause is found storage = is
 never_storage (Ok found) (Err e) cause is none storage = let h : Ok found ≡ Err cause = none in cc
 never_storage (Err Storage) (Err e) cause is none storage = let h : Ok None ≡ Err cause = none in cc
-never_storage (Err Memory) (Err e) cause is none storage = let h : Err Memory ≡ Err cause = none in let k : e ≡ cause = is in let j : Err e ≡ Err Storage = storage in cc
+never_storage (Err Memory) (Err e) cause is none storage = let h : Err Memory ≡ Err cause = none in let k : e ≡ cause =
+    is in let j : Err e ≡ Err Storage = storage in cc
 
 -- once all were asked
-module _ (call : Call) (views : List (BerthView Entry)) (count : ℕ) (some_refused : Bool) (asked : AreAsked call views count some_refused) (all : length views ≤ count) where
+module _ (call : Call) (views : List (BerthView Entry)) (count : ℕ) (some_refused : Bool)
+    (asked : AreAsked call views count some_refused) (all : length views ≤ count) where
   pub all_unshown : some_refused ≡ false → (n : ℕ) → n < length views → Shows call views (ToAsked (Err NotFound)) n
   all_unshown is n l = asked.others n (omega (arith, l, all)) (asked.none is n (omega (arith, l, all)))
 

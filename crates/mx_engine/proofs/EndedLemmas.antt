@@ -31,7 +31,9 @@ module _ {A : Type 0} where
 
   All-reverse : (P : A → Type 0) (xs : List A) → All P xs → All P (reverse xs)
   All-reverse P [] all = all
-  All-reverse P (x ∷ xs) all = subst (All P) (sym (reverse-append (x ∷ []) xs)) (All-push P (reverse xs) x (All-reverse P xs (All-tail P x xs all)) (All-head P x xs all))
+  All-reverse P (x ∷ xs) all =
+      subst (All P) (sym (reverse-append (x ∷ []) xs))
+      (All-push P (reverse xs) x (All-reverse P xs (All-tail P x xs all)) (All-head P x xs all))
 
   filter-reverse : (keeps : A → Bool) (xs : List A) → filter keeps (reverse xs) ≡ reverse (filter keeps xs)
   filter-reverse keeps [] = refl
@@ -55,20 +57,25 @@ module _ {A : Type 0} where
       at false here later = later here
 
   -- the first that passes a test is also the first among some of the elements, if it is one of them
-  find-filter : (test keeps : A → Bool) (xs : List A) (found : A) → find test xs ≡ Some found → keeps found ≡ true → find test (filter keeps xs) ≡ Some found
+  find-filter : (test keeps : A → Bool) (xs : List A) (found : A) → find test xs ≡ Some found → keeps found ≡ true
+      → find test (filter keeps xs) ≡ Some found
   find-filter test keeps [] found h is_kept = absurd (none-is-not-some found h)
-  find-filter test keeps (x ∷ xs) found h is_kept = at (filter keeps xs) (test x) (keeps x) refl refl h (λ later. find-filter test keeps xs found later is_kept)
+  find-filter test keeps (x ∷ xs) found h is_kept =
+      at (filter keeps xs) (test x) (keeps x) refl refl h (λ later. find-filter test keeps xs found later is_kept)
     where
-      at : (us : List A) (b c : Bool) → test x ≡ b → keeps x ≡ c → cond b (Some x) (find test xs) ≡ Some found → (find test xs ≡ Some found → find test us ≡ Some found) → find test (cond c (x ∷ us) us) ≡ Some found
+      at : (us : List A) (b c : Bool) → test x ≡ b → keeps x ≡ c → cond b (Some x) (find test xs) ≡ Some found
+          → (find test xs ≡ Some found → find test us ≡ Some found) → find test (cond c (x ∷ us) us) ≡ Some found
       at us true true passes keep here later = ap (λ b. cond b (Some x) (find test us)) passes ∙ here
-      at us true false passes keep here later = absurd (true≢false (sym is_kept ∙ ap keeps (sym (same-some x found here)) ∙ keep))
+      at us true false passes keep here later =
+          absurd (true≢false (sym is_kept ∙ ap keeps (sym (same-some x found here)) ∙ keep))
       at us false true passes keep here later = ap (λ b. cond b (Some x) (find test us)) passes ∙ later here
       at us false false passes keep here later = later here
 
 -- ---- transactions
 
 -- the last entry of a transaction that is begun
-begun-entry : (last : Option BookEntry) (caller : ℕ) → hold_after last ≡ begun caller → (entry : BookEntry) × (last ≡ Some entry)
+begun-entry : (last : Option BookEntry) (caller : ℕ) → hold_after last ≡ begun caller
+    → (entry : BookEntry) × (last ≡ Some entry)
 begun-entry None caller h = absurd (let e : free ≡ begun caller = h in cc)
 begun-entry (Some entry) caller h = (entry, refl)
 
@@ -79,19 +86,28 @@ begun-by (Kept key by reply) caller h = absurd (let e : kept reply ≡ begun cal
 begun-by (GivenUp key by) caller h = absurd (let e : free ≡ begun caller = h in cc)
 
 -- a transaction's last entry is also its last among the entries of the caller that made it
-last-own : (key : TransactionKey) (number : ℕ) (rest : List BookEntry) (entry : BookEntry) → last_of key rest ≡ Some entry → book_caller entry ≡ number → last_of key (entries_of book_caller number rest) ≡ Some entry
+last-own : (key : TransactionKey) (number : ℕ) (rest : List BookEntry) (entry : BookEntry) → last_of key rest ≡ Some entry
+    → book_caller entry ≡ number → last_of key (entries_of book_caller number rest) ≡ Some entry
 last-own key number rest entry last by =
     ap (find (λ e. same key (transaction_of e))) (sym (filter-reverse (λ e. book_caller e == number) rest))
-    ∙ find-filter (λ e. same key (transaction_of e)) (λ e. book_caller e == number) (reverse rest) entry last (eq-eqb (book_caller entry) number by)
+    ∙ find-filter (λ e. same key (transaction_of e)) (λ e. book_caller e == number) (reverse rest) entry last
+    (eq-eqb (book_caller entry) number by)
 
 -- a transaction's last entry is not a beginning if it came since the opening
-ended-since : (known : List (BerthView BookEntry)) (rest : List BookEntry) → All (λ e. Any (λ v. v.number ≡ book_caller e) known) rest → All (λ v. entries_of book_caller v.number rest ≡ v.added) known → All (λ v. IsEnded v.added) known →
-    (key : TransactionKey) (caller : ℕ) (entry : BookEntry) → last_of key rest ≡ Some entry → hold_after (Some entry) ≡ begun caller → ⊥
+ended-since : (known : List (BerthView BookEntry)) (rest : List BookEntry)
+    → All (λ e. Any (λ v. v.number ≡ book_caller e) known) rest
+    → All (λ v. entries_of book_caller v.number rest ≡ v.added) known → All (λ v. IsEnded v.added) known →
+    (key : TransactionKey) (caller : ℕ) (entry : BookEntry) → last_of key rest ≡ Some entry
+    → hold_after (Some entry) ≡ begun caller → ⊥
 ended-since known rest numbered added ended key caller entry last is_begun =
-    let own = find-All (λ e. Any (λ v. v.number ≡ book_caller e) known) (λ e. same key (transaction_of e)) (reverse rest) entry last (All-reverse (λ e. Any (λ v. v.number ≡ book_caller e) known) rest numbered) in
-    let added_here : entries_of book_caller own.1.number rest ≡ own.1.added = subst (λ v. entries_of book_caller v.number rest ≡ v.added) own.3 (added own.0 own.1 own.2) in
+    let own = find-All (λ e. Any (λ v. v.number ≡ book_caller e) known) (λ e. same key (transaction_of e)) (reverse rest)
+    entry last (All-reverse (λ e. Any (λ v. v.number ≡ book_caller e) known) rest numbered) in
+    let added_here : entries_of book_caller own.1.number rest ≡ own.1.added =
+    subst (λ v. entries_of book_caller v.number rest ≡ v.added) own.3 (added own.0 own.1 own.2) in
     let ended_here : IsEnded own.1.added = subst (λ v. IsEnded v.added) own.3 (ended own.0 own.1 own.2) in
-    ended_here key caller (ap hold_after (ap (last_of key) (sym added_here) ∙ last-own key own.1.number rest entry last (sym own.4)) ∙ is_begun)
+    ended_here key caller
+    (ap hold_after (ap (last_of key) (sym added_here) ∙ last-own key own.1.number rest entry last (sym own.4))
+    ∙ is_begun)
 
 -- the journal of a book is ended if it was ended at its opening and each caller has ended what it began
 pub whole_ended : (opening : List BookEntry) (known : List (BerthView BookEntry)) (journal : List BookEntry) →
@@ -105,4 +121,6 @@ whole_ended opening known journal whole ended all key caller h =
     ∙ ap (find (λ e. same key (transaction_of e))) (sym (reverse-append opening rest))
     ∙ ap (last_of key) (sym (since_whole opening journal whole.opened))
     ∙ found.1 in
-    ⊎_elim (λ last. ended-since known rest whole.numbered whole.added all key caller found.0 last is_begun) (λ last. ended key caller (ap hold_after last ∙ is_begun)) (either-some (last_of key rest) (last_of key opening) found.0 parts)
+    ⊎_elim (λ last. ended-since known rest whole.numbered whole.added all key caller found.0 last is_begun)
+    (λ last. ended key caller (ap hold_after last ∙ is_begun))
+    (either-some (last_of key rest) (last_of key opening) found.0 parts)

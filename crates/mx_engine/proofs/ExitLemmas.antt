@@ -41,9 +41,12 @@ few-rows (k ∷ ks) (to_offer origin o) = few-option (row_by o (offer_outcome (k
 few-rows (k ∷ ks) (to_join origin o) = few-option (row_by_join o (join_reply (k ∷ ks) origin o))
 few-rows (k ∷ ks) (to_ask origin now q) = omega arith
 
-few-entries : (journal : List Entry) (caller : ℕ) (call : Call) (room : Option (List ℕ)) → length (entries_by journal caller call room) ≤ 1
+few-entries : (journal : List Entry) (caller : ℕ) (call : Call) (room : Option (List ℕ))
+    → length (entries_by journal caller call room) ≤ 1
 few-entries journal caller call None = omega arith
-few-entries journal caller call (Some room) = subst (λ n. n ≤ 1) (sym (length-map (added (record_of journal room) call) (entry_of room caller))) (few-rows (record_of journal room) call)
+few-entries journal caller call (Some room) =
+    subst (λ n. n ≤ 1) (sym (length-map (added (record_of journal room) call) (entry_of room caller)))
+    (few-rows (record_of journal room) call)
 
 -- ---- a call of a shard
 
@@ -58,7 +61,8 @@ durable-by P (Err e) durable = tt
 
 module _ {K : Type 0} (is_honest : K → Type 0) (may_leave : K → Option (List ShardRow) → Type 0) where
   -- of a query, which changes nothing
-  pub asked-exit : (caller : ℕ) (call : Call) (shard : ShardView K) → IsShardExit is_honest may_leave (entries_by shard.journal caller call (call_room call)) shard shard
+  pub asked-exit : (caller : ℕ) (call : Call) (shard : ShardView K)
+      → IsShardExit is_honest may_leave (entries_by shard.journal caller call (call_room call)) shard shard
   asked-exit caller call shard = record {
     few = few-entries shard.journal caller call (call_room call);
     refused = λ _. refl;
@@ -67,9 +71,11 @@ module _ {K : Type 0} (is_honest : K → Type 0) (may_leave : K → Option (List
   }
 
 module _ {K A : Type 0} (is_honest : K → Type 0) (may_leave : K → Option (List ShardRow) → Type 0) where
-  pub called-exit : (caller : ℕ) (room : List ℕ) (call : Call) (old new : ShardView K) (result : Result A CallError) → (IsErrOf result Storage ↔ (new.is_refused ≡ true)) → OnErr result (new.journal ≡ old.journal) →
+  pub called-exit : (caller : ℕ) (room : List ℕ) (call : Call) (old new : ShardView K) (result : Result A CallError)
+      → (IsErrOf result Storage ↔ (new.is_refused ≡ true)) → OnErr result (new.journal ≡ old.journal) →
       (is_honest new.keeper → is_honest old.keeper) →
-      (is_honest new.keeper → (left : Option (List ShardRow)) → may_leave new.keeper left → may_leave old.keeper left ⊎ (left ≡ Some (stored (journal_after old.journal caller room call)))) →
+      (is_honest new.keeper → (left : Option (List ShardRow)) → may_leave new.keeper left
+      → may_leave old.keeper left ⊎ (left ≡ Some (stored (journal_after old.journal caller room call)))) →
       IsShardExit is_honest may_leave (entries_by old.journal caller call (Some room)) old new
   called-exit caller room call old new result refused stays honest crash = record {
     few = few-entries old.journal caller call (Some room);
@@ -79,16 +85,25 @@ module _ {K A : Type 0} (is_honest : K → Type 0) (may_leave : K → Option (Li
   }
 
   -- of an event that a server sends
-  pub sent-exit : (s : Sending) (origin : List ℕ) (o : Offered) (caller : ℕ) (old new : ShardView K) (result : Result A CallError) → (IsErrOf result Storage ↔ (new.is_refused ≡ true)) → OnErr result (new.journal ≡ old.journal) →
+  pub sent-exit : (s : Sending) (origin : List ℕ) (o : Offered) (caller : ℕ) (old new : ShardView K)
+      (result : Result A CallError) → (IsErrOf result Storage ↔ (new.is_refused ≡ true))
+      → OnErr result (new.journal ≡ old.journal) →
       (is_honest new.keeper → is_honest old.keeper) →
-      (is_honest new.keeper → (left : Option (List ShardRow)) → may_leave new.keeper left → may_leave old.keeper left ⊎ (left ≡ Some (stored (journal_after old.journal caller (room_of o.pdu) (sent_call s origin o))))) →
-      IsShardExit is_honest may_leave (entries_by old.journal caller (sent_call s origin o) (call_room (sent_call s origin o))) old new
+      (is_honest new.keeper → (left : Option (List ShardRow)) → may_leave new.keeper left
+      → may_leave old.keeper left
+      ⊎ (left ≡ Some (stored (journal_after old.journal caller (room_of o.pdu) (sent_call s origin o))))) →
+      IsShardExit is_honest may_leave
+      (entries_by old.journal caller (sent_call s origin o) (call_room (sent_call s origin o))) old new
   sent-exit s origin o caller old new result refused stays honest crash =
-      subst (λ room. IsShardExit is_honest may_leave (entries_by old.journal caller (sent_call s origin o) room) old new) (sym (sent_room s origin o))
+      subst (λ room. IsShardExit is_honest may_leave (entries_by old.journal caller (sent_call s origin o) room) old new)
+      (sym (sent_room s origin o))
       (called-exit caller (room_of o.pdu) (sent_call s origin o) old new result refused stays honest crash)
 
   -- of a query
-  pub asked-durable : (shard : ShardView K) (result : Result A CallError) → (IsErrOf result Storage ↔ (shard.is_refused ≡ true)) → (shard.is_refused ≡ false → LeavesOnly is_honest may_leave shard.keeper (stored shard.journal)) →
+  pub asked-durable : (shard : ShardView K) (result : Result A CallError)
+      → (IsErrOf result Storage ↔ (shard.is_refused ≡ true))
+      → (shard.is_refused ≡ false → LeavesOnly is_honest may_leave shard.keeper (stored shard.journal)) →
       OnOk result (LeavesOnly is_honest may_leave shard.keeper (stored shard.journal))
-  asked-durable shard (Ok a) refused whole = whole (unheld shard.is_refused (λ is. let e : Ok a ≡ Err Storage = refused.1 is in cc))
+  asked-durable shard (Ok a) refused whole =
+      whole (unheld shard.is_refused (λ is. let e : Ok a ≡ Err Storage = refused.1 is in cc))
   asked-durable shard (Err e) refused whole = tt

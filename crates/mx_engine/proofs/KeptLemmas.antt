@@ -52,7 +52,8 @@ use Rattle.mx_engine.proofs.TurnLemmas.{view-set_same, view-set_other}
 abbrev row_of : Kept → Row
 row_of k = record { id = k.id; event = k.event; rejected = is_rejected k.verdict }
 
-place-longer : (kept later : List Kept) (id : List ℕ) (p : ℕ) → place_of (rows_of kept) id ≡ Some p → place_of (rows_of (kept ++ later)) id ≡ Some p
+place-longer : (kept later : List Kept) (id : List ℕ) (p : ℕ) → place_of (rows_of kept) id ≡ Some p
+    → place_of (rows_of (kept ++ later)) id ≡ Some p
 place-longer kept [] id p is = ap (λ ks. place_of (rows_of ks) id) (append-nil kept) ∙ is
 place-longer kept (k ∷ later) id p is =
     ap (λ ks. place_of (rows_of ks) id) (sym (append_assoc kept (k ∷ []) later))
@@ -70,11 +71,13 @@ kept-more : (kept later : List Kept) (id : List ℕ) (v : Verdict) → IsKeptAs 
 kept-more kept later id v is = record {
   place = is.place;
   there = place-longer kept later id is.place is.there;
-  judged = ap (λ (k : Kept). k.verdict) (get_or_append_left kept later _ is.place (within kept id is.place is.there)) ∙ is.judged;
+  judged = ap (λ (k : Kept). k.verdict) (get_or_append_left kept later _ is.place (within kept id is.place is.there))
+      ∙ is.judged;
 }
 
 -- it stays in a longer record
-pub kept-longer : (kept longer : List Kept) → IsPrefix kept longer → (id : List ℕ) (v : Verdict) → IsKeptAs kept id v → IsKeptAs longer id v
+pub kept-longer : (kept longer : List Kept) → IsPrefix kept longer → (id : List ℕ) (v : Verdict) → IsKeptAs kept id v
+    → IsKeptAs longer id v
 kept-longer kept longer later id v is = subst (λ ks. IsKeptAs ks id v) (sym later.1) (kept-more kept later.0 id v is)
 
 -- a new one stands last
@@ -100,14 +103,16 @@ Before kept id (outcome.Refused r) = Unit {0}
 record Sits (kept : List Kept) (id : List ℕ) (x : Outcome) : Type 0 where
   is : Before kept id x
 
-sits-if : (kept : List Kept) (id : List ℕ) (b : Bool) (x y : Outcome) → Sits kept id x → Sits kept id y → Sits kept id (if b then x else y)
+sits-if : (kept : List Kept) (id : List ℕ) (b : Bool) (x y : Outcome) → Sits kept id x → Sits kept id y
+    → Sits kept id (if b then x else y)
 sits-if kept id true x y h k = h
 sits-if kept id false x y h k = k
 
 sits-refused : (kept : List Kept) (id : List ℕ) (r : Refusal) → Sits kept id (outcome.Refused r)
 sits-refused kept id r = record { is = tt }
 
-sits-new : (kept : List Kept) (o : Offered) → place_of (rows_of kept) o.id ≡ None → Sits kept o.id (new_outcome kept o.signed (as_kept o))
+sits-new : (kept : List Kept) (o : Offered) → place_of (rows_of kept) o.id ≡ None
+    → Sits kept o.id (new_outcome kept o.signed (as_kept o))
 sits-new kept o none =
     sits-if kept o.id (has_kind (codes "m.room.create") (as_kept o)) _ _ (sits-refused kept o.id SecondCreate)
     (sits-if kept o.id (not o.signed) _ _ (sits-refused kept o.id Signature)
@@ -115,37 +120,46 @@ sits-new kept o none =
     (sits-if kept o.id (nat_le most_rows (length kept)) _ _ (sits-refused kept o.id RoomFull) (record { is = none }))))
 
 sits-by : (kept : List Kept) (o : Offered) (found : Option ℕ) → place_of (rows_of kept) o.id ≡ found →
-    Sits kept o.id (elim found [ None ↦ new_outcome kept o.signed (as_kept o) | Some p ↦ outcome.Known (kept_at kept p).verdict ])
+    Sits kept o.id (elim found
+    [ None ↦ new_outcome kept o.signed (as_kept o) | Some p ↦ outcome.Known (kept_at kept p).verdict ])
 sits-by kept o None is = sits-new kept o is
 sits-by kept o (Some p) is = record { is = record { place = p; there = is; judged = refl } }
 
 sits-offer : (kept : List Kept) (origin : List ℕ) (o : Offered) → Sits kept o.id (offer_outcome kept origin o)
 unfolding offer_outcome allowed_outcome
-sits-offer kept origin o = sits-if kept o.id _ _ _ (sits-by kept o (place_of (rows_of kept) o.id) refl) (sits-refused kept o.id AccessList)
+sits-offer kept origin o =
+    sits-if kept o.id _ _ _ (sits-by kept o (place_of (rows_of kept) o.id) refl) (sits-refused kept o.id AccessList)
 
 same-verdict : (v w : Verdict) → Some v ≡ Some w → v ≡ w
 same-verdict v w e = cc
 
-by-outcome : (kept : List Kept) (o : Offered) (x : Outcome) (v : Verdict) → Sits kept o.id x → verdict_told (Some x) ≡ Some v → IsKeptAs (kept ++ option_to_list (row_by o x)) o.id v
+by-outcome : (kept : List Kept) (o : Offered) (x : Outcome) (v : Verdict) → Sits kept o.id x → verdict_told (Some x) ≡ Some v
+    → IsKeptAs (kept ++ option_to_list (row_by o x)) o.id v
 by-outcome kept o (outcome.Kept w) v sits e =
-    subst (IsKeptAs (kept ++ record { id = o.id; event = as_kept o; verdict = w } ∷ []) o.id) (same-verdict w v e) (kept-new kept (record { id = o.id; event = as_kept o; verdict = w }) sits.is)
-by-outcome kept o (outcome.Known w) v sits e = kept-more kept [] o.id v (subst (IsKeptAs kept o.id) (same-verdict w v e) sits.is)
+    subst (IsKeptAs (kept ++ record { id = o.id; event = as_kept o; verdict = w } ∷ []) o.id) (same-verdict w v e)
+    (kept-new kept (record { id = o.id; event = as_kept o; verdict = w }) sits.is)
+by-outcome kept o (outcome.Known w) v sits e =
+    kept-more kept [] o.id v (subst (IsKeptAs kept o.id) (same-verdict w v e) sits.is)
 by-outcome kept o (outcome.Refused r) v sits e = absurd (let n : None ≡ Some v = e in cc)
 
 -- ---- the answer to a call
 
-hosted-kept : (o : Offered) (error : Option NotARoom) (v : Verdict) → verdict_answered (hosting o error) ≡ Some v → IsKeptAs (first_rows o error) o.id v
+hosted-kept : (o : Offered) (error : Option NotARoom) (v : Verdict) → verdict_answered (hosting o error) ≡ Some v
+    → IsKeptAs (first_rows o error) o.id v
 hosted-kept o None v e =
-    subst (IsKeptAs (first_rows o None) o.id) (same-verdict Accepted v e) (kept-new [] (record { id = o.id; event = o.pdu; verdict = Accepted }) refl)
+    subst (IsKeptAs (first_rows o None) o.id) (same-verdict Accepted v e)
+    (kept-new [] (record { id = o.id; event = o.pdu; verdict = Accepted }) refl)
 hosted-kept o (Some error) v e = absurd (let n : None ≡ Some v = e in cc)
 
 joined-by : (kept : List Kept) (origin : List ℕ) (o : Offered) (v : Verdict) (own : Bool) →
-    verdict_answered (ToJoined (joining own kept origin o)) ≡ Some v → IsKeptAs (kept ++ option_to_list (row_by_join o (joining own kept origin o))) o.id v
+    verdict_answered (ToJoined (joining own kept origin o)) ≡ Some v
+    → IsKeptAs (kept ++ option_to_list (row_by_join o (joining own kept origin o))) o.id v
 joined-by kept origin o v true e = by-outcome kept o (offer_outcome kept origin o) v (sits-offer kept origin o) e
 joined-by kept origin o v false e = absurd (let n : None ≡ Some v = e in cc)
 
 joined-kept : (kept : List Kept) (origin : List ℕ) (o : Offered) (v : Verdict) →
-    verdict_answered (ToJoined (join_reply kept origin o)) ≡ Some v → IsKeptAs (kept ++ option_to_list (row_by_join o (join_reply kept origin o))) o.id v
+    verdict_answered (ToJoined (join_reply kept origin o)) ≡ Some v
+    → IsKeptAs (kept ++ option_to_list (row_by_join o (join_reply kept origin o))) o.id v
 unfolding join_reply
 joined-kept kept origin o v e = joined-by kept origin o v (bytes_eq (server_of (sender_of o.pdu)) origin) e
 
@@ -158,92 +172,125 @@ no-event o e = absurd (let n : None ≡ Some o = e in cc)
 same-event : (o p : Offered) → Some o ≡ Some p → o ≡ p
 same-event o p e = cc
 
-answered-by : (kept : List Kept) (call : Call) (o : Offered) (v : Verdict) → event_sent call ≡ Some o → verdict_answered (answer kept call) ≡ Some v → IsKeptAs (kept ++ added kept call) o.id v
-answered-by [] (to_host p) o v sent e = subst (λ q. IsKeptAs (first_rows p (host_error p)) q.id v) (same-event p o sent) (hosted-kept p (host_error p) v e)
+answered-by : (kept : List Kept) (call : Call) (o : Offered) (v : Verdict) → event_sent call ≡ Some o
+    → verdict_answered (answer kept call) ≡ Some v → IsKeptAs (kept ++ added kept call) o.id v
+answered-by [] (to_host p) o v sent e =
+    subst (λ q. IsKeptAs (first_rows p (host_error p)) q.id v) (same-event p o sent) (hosted-kept p (host_error p) v e)
 answered-by [] (to_offer origin p) o v sent e = nothing-told v e
 answered-by [] (to_join origin p) o v sent e = nothing-told v e
 answered-by [] (to_ask origin now q) o v sent e = no-event o sent
 answered-by (k ∷ ks) (to_host p) o v sent e = nothing-told v e
 answered-by (k ∷ ks) (to_offer origin p) o v sent e =
-    subst (λ q. IsKeptAs ((k ∷ ks) ++ option_to_list (row_by p (offer_outcome (k ∷ ks) origin p))) q.id v) (same-event p o sent)
+    subst (λ q. IsKeptAs ((k ∷ ks) ++ option_to_list (row_by p (offer_outcome (k ∷ ks) origin p))) q.id v)
+    (same-event p o sent)
     (by-outcome (k ∷ ks) p (offer_outcome (k ∷ ks) origin p) v (sits-offer (k ∷ ks) origin p) e)
 answered-by (k ∷ ks) (to_join origin p) o v sent e =
-    subst (λ q. IsKeptAs ((k ∷ ks) ++ option_to_list (row_by_join p (join_reply (k ∷ ks) origin p))) q.id v) (same-event p o sent) (joined-kept (k ∷ ks) origin p v e)
+    subst (λ q. IsKeptAs ((k ∷ ks) ++ option_to_list (row_by_join p (join_reply (k ∷ ks) origin p))) q.id v)
+    (same-event p o sent) (joined-kept (k ∷ ks) origin p v e)
 answered-by (k ∷ ks) (to_ask origin now q) o v sent e = no-event o sent
 
 -- what is told of an offered event
-outcome-by : (kept : List Kept) (origin : List ℕ) (o : Offered) (v : Verdict) → verdict_told (outcome_in kept origin o) ≡ Some v → IsKeptAs (kept ++ added kept (to_offer origin o)) o.id v
+outcome-by : (kept : List Kept) (origin : List ℕ) (o : Offered) (v : Verdict)
+    → verdict_told (outcome_in kept origin o) ≡ Some v → IsKeptAs (kept ++ added kept (to_offer origin o)) o.id v
 outcome-by [] origin o v e = nothing-told v e
 outcome-by (k ∷ ks) origin o v e = by-outcome (k ∷ ks) o (offer_outcome (k ∷ ks) origin o) v (sits-offer (k ∷ ks) origin o) e
 
 -- ---- what the caller has seen
 
 -- the journal with what the call added
-seen-after : (journal : List Entry) (caller : ℕ) (room : List ℕ) (call : Call) (id : List ℕ) (v : Verdict) → IsKeptAs (record_of journal room ++ added (record_of journal room) call) id v → IsKeptAs (record_of (journal ++ entries_added journal caller room call) room) id v
+seen-after : (journal : List Entry) (caller : ℕ) (room : List ℕ) (call : Call) (id : List ℕ) (v : Verdict)
+    → IsKeptAs (record_of journal room ++ added (record_of journal room) call) id v
+    → IsKeptAs (record_of (journal ++ entries_added journal caller room call) room) id v
 seen-after journal caller room call id v is = subst (λ ks. IsKeptAs ks id v) (sym (record-after journal caller room call)) is
 
-module _ {E : Type 0} (old new : List (BerthView E)) (n : ℕ) (journal entries : List E) (turn : new ≡ turned old n journal entries) where
+module _ {E : Type 0} (old new : List (BerthView E)) (n : ℕ) (journal entries : List E)
+    (turn : new ≡ turned old n journal entries) where
   turned-long : length new ≡ length old
   turned-long = ap length turn ∙ length-set old n (after_turn (view_at old n) journal entries)
 
   turned-seen : n < length old → (view_at new n).seen ≡ journal ++ entries
-  turned-seen l = ap (λ vs. (view_at vs n).seen) turn ∙ ap (λ (w : BerthView E). w.seen) (view-set_same old n (after_turn (view_at old n) journal entries) l)
+  turned-seen l = ap (λ vs. (view_at vs n).seen) turn
+      ∙ ap (λ (w : BerthView E). w.seen) (view-set_same old n (after_turn (view_at old n) journal entries) l)
 
   -- more is seen of each
-  turned-more : n < length old → IsPrefix (view_at old n).seen journal → (m : ℕ) → IsPrefix (view_at old m).seen (view_at new m).seen
+  turned-more : n < length old → IsPrefix (view_at old n).seen journal → (m : ℕ)
+      → IsPrefix (view_at old m).seen (view_at new m).seen
   turned-more l later m =
       dite (ℕ_discrete m n)
       (λ same. subst (λ k. IsPrefix (view_at old k).seen (view_at new k).seen) (sym same)
-      (subst (IsPrefix (view_at old n).seen) (sym (turned-seen l)) (later.0 ++ entries, ap (λ js. js ++ entries) later.1 ∙ append_assoc (view_at old n).seen later.0 entries)))
-      (λ other. subst (λ (w : BerthView E). IsPrefix (view_at old m).seen w.seen) (sym (ap (λ vs. view_at vs m) turn ∙ view-set_other old n m (after_turn (view_at old n) journal entries) other)) (prefix_refl (view_at old m).seen))
+      (subst (IsPrefix (view_at old n).seen) (sym (turned-seen l))
+      (later.0 ++ entries, ap (λ js. js ++ entries) later.1 ∙ append_assoc (view_at old n).seen later.0 entries)))
+      (λ other. subst (λ (w : BerthView E). IsPrefix (view_at old m).seen w.seen)
+      (sym (ap (λ vs. view_at vs m) turn ∙ view-set_other old n m (after_turn (view_at old n) journal entries) other))
+      (prefix_refl (view_at old m).seen))
 
 below : (count : ℕ) (name : List ℕ) → 0 < count → place_number count name < count
 below count name some = mod_below (sum name) count some
 
 -- of the room that is called
-pub answered-kept : (caller : ℕ) (call : Call) (room : List ℕ) (old new : List (BerthView Entry)) (told : Answer) → 0 < length old → IsAnswered caller call room old new told →
-    (o : Offered) (v : Verdict) → event_sent call ≡ Some o → verdict_answered told ≡ Some v → IsKeptAs (record_of (seen_of_room new room) room) o.id v
+pub answered-kept : (caller : ℕ) (call : Call) (room : List ℕ) (old new : List (BerthView Entry)) (told : Answer)
+    → 0 < length old → IsAnswered caller call room old new told →
+    (o : Offered) (v : Verdict) → event_sent call ≡ Some o → verdict_answered told ≡ Some v
+    → IsKeptAs (record_of (seen_of_room new room) room) o.id v
 answered-kept caller call room old new told some is o v sent e =
     let n = place_number (length old) room in
     let entries = entries_added is.journal caller room call in
     let long = turned-long old new n is.journal entries is.seen in
     let seen = turned-seen old new n is.journal entries is.seen (below (length old) room some) in
-    let kept = seen-after is.journal caller room call o.id v (answered-by (record_of is.journal room) call o v sent (ap verdict_answered (sym is.reply) ∙ e)) in
-    subst (λ js. IsKeptAs (record_of js room) o.id v) (sym (ap (λ k. (view_at new (place_number k room)).seen) long ∙ seen)) kept
+    let kept = seen-after is.journal caller room call o.id v
+    (answered-by (record_of is.journal room) call o v sent (ap verdict_answered (sym is.reply) ∙ e)) in
+    subst (λ js. IsKeptAs (record_of js room) o.id v) (sym (ap (λ k. (view_at new (place_number k room)).seen) long ∙ seen))
+    kept
 
 module _ (caller : ℕ) (origin : List ℕ) where
-  one-kept : (o : Offered) (old new : List (BerthView Entry)) (t : Told) → 0 < length old → IsOffered caller origin o old new t → (v : Verdict) → verdict_told t.outcome ≡ Some v → IsKeptAs (record_of (seen_of_room new (room_of o.pdu)) (room_of o.pdu)) o.id v
+  one-kept : (o : Offered) (old new : List (BerthView Entry)) (t : Told) → 0 < length old
+      → IsOffered caller origin o old new t → (v : Verdict) → verdict_told t.outcome ≡ Some v
+      → IsKeptAs (record_of (seen_of_room new (room_of o.pdu)) (room_of o.pdu)) o.id v
   one-kept o old new t some is v e =
       let room = room_of o.pdu in
       let n = place_number (length old) room in
       let entries = entries_added is.journal caller room (to_offer origin o) in
       let long = turned-long old new n is.journal entries is.seen in
       let seen = turned-seen old new n is.journal entries is.seen (below (length old) room some) in
-      let kept = seen-after is.journal caller room (to_offer origin o) o.id v (outcome-by (record_of is.journal room) origin o v (ap (λ (x : Told). verdict_told x.outcome) (sym is.outcome) ∙ e)) in
-      subst (λ js. IsKeptAs (record_of js room) o.id v) (sym (ap (λ k. (view_at new (place_number k room)).seen) long ∙ seen)) kept
+      let kept = seen-after is.journal caller room (to_offer origin o) o.id v
+      (outcome-by (record_of is.journal room) origin o v
+      (ap (λ (x : Told). verdict_told x.outcome) (sym is.outcome) ∙ e)) in
+      subst (λ js. IsKeptAs (record_of js room) o.id v)
+      (sym (ap (λ k. (view_at new (place_number k room)).seen) long ∙ seen)) kept
 
-  one-long : (o : Offered) (old new : List (BerthView Entry)) (t : Told) → IsOffered caller origin o old new t → length new ≡ length old
-  one-long o old new t is = turned-long old new (place_number (length old) (room_of o.pdu)) is.journal (entries_added is.journal caller (room_of o.pdu) (to_offer origin o)) is.seen
+  one-long : (o : Offered) (old new : List (BerthView Entry)) (t : Told) → IsOffered caller origin o old new t
+      → length new ≡ length old
+  one-long o old new t is =
+      turned-long old new (place_number (length old) (room_of o.pdu)) is.journal
+      (entries_added is.journal caller (room_of o.pdu) (to_offer origin o)) is.seen
 
-  all-long : (os : List Offered) (old new : List (BerthView Entry)) (ts : List Told) → AreOffered caller origin os old new ts → length new ≡ length old
+  all-long : (os : List Offered) (old new : List (BerthView Entry)) (ts : List Told) → AreOffered caller origin os old new ts
+      → length new ≡ length old
   all-long [] old new [] are = ap length are
   all-long [] old new (t ∷ ts) are = absurd are
   all-long (o ∷ os) old new [] are = absurd are
   all-long (o ∷ os) old new (t ∷ ts) are = all-long os are.0 new ts are.2 ∙ one-long o old are.0 t are.1
 
-  all-more : (os : List Offered) (old new : List (BerthView Entry)) (ts : List Told) → 0 < length old → AreOffered caller origin os old new ts → (m : ℕ) → IsPrefix (view_at old m).seen (view_at new m).seen
-  all-more [] old new [] some are m = subst (λ vs. IsPrefix (view_at old m).seen (view_at vs m).seen) (sym are) (prefix_refl (view_at old m).seen)
+  all-more : (os : List Offered) (old new : List (BerthView Entry)) (ts : List Told) → 0 < length old
+      → AreOffered caller origin os old new ts → (m : ℕ) → IsPrefix (view_at old m).seen (view_at new m).seen
+  all-more [] old new [] some are m =
+      subst (λ vs. IsPrefix (view_at old m).seen (view_at vs m).seen) (sym are) (prefix_refl (view_at old m).seen)
   all-more [] old new (t ∷ ts) some are m = absurd are
   all-more (o ∷ os) old new [] some are m = absurd are
   all-more (o ∷ os) old new (t ∷ ts) some are m =
       let is = are.1 in
       prefix_trans (view_at old m).seen (view_at are.0 m).seen (view_at new m).seen
-      (turned-more old are.0 (place_number (length old) (room_of o.pdu)) is.journal (entries_added is.journal caller (room_of o.pdu) (to_offer origin o)) is.seen (below (length old) (room_of o.pdu) some) is.later m)
+      (turned-more old are.0 (place_number (length old) (room_of o.pdu)) is.journal
+      (entries_added is.journal caller (room_of o.pdu) (to_offer origin o)) is.seen
+      (below (length old) (room_of o.pdu) some) is.later m)
       (all-more os are.0 new ts (subst (λ n. 0 < n) (sym (one-long o old are.0 t is)) some) are.2 m)
 
   -- each event that was told as kept
-  pub events-kept : (os : List Offered) (old new : List (BerthView Entry)) (ts : List Told) → 0 < length old → AreOffered caller origin os old new ts → (n : ℕ) (o : Offered) (t : Told) (v : Verdict) → n < length os → verdict_told (get_or ts n t).outcome ≡ Some v →
-      IsKeptAs (record_of (seen_of_room new (room_of (get_or os n o).pdu)) (room_of (get_or os n o).pdu)) (get_or os n o).id v
+  pub events-kept : (os : List Offered) (old new : List (BerthView Entry)) (ts : List Told) → 0 < length old
+      → AreOffered caller origin os old new ts → (n : ℕ) (o : Offered) (t : Told) (v : Verdict) → n < length os
+      → verdict_told (get_or ts n t).outcome ≡ Some v →
+      IsKeptAs (record_of (seen_of_room new (room_of (get_or os n o).pdu)) (room_of (get_or os n o).pdu)) (get_or os n o).id
+      v
   events-kept [] old new ts some are n o t v l e = absurd (let no_event : ⊥ = omega (arith, l) in no_event)
   events-kept (p ∷ os) old new [] some are n o t v l e = absurd are
   events-kept (p ∷ os) old new (u ∷ ts) some are zero o t v l e =
@@ -251,15 +298,20 @@ module _ (caller : ℕ) (origin : List ℕ) where
       let room = room_of p.pdu in
       let some_there = subst (λ n. 0 < n) (sym (one-long p old between u are.1)) some in
       let more : IsPrefix (seen_of_room between room) (seen_of_room new room) =
-      subst (λ k. IsPrefix (seen_of_room between room) (view_at new (place_number k room)).seen) (sym (all-long os between new ts are.2)) (all-more os between new ts some_there are.2 (place_number (length between) room)) in
-      kept-longer (record_of (seen_of_room between room) room) (record_of (seen_of_room new room) room) (record-longer (seen_of_room between room) (seen_of_room new room) more room) p.id v
+      subst (λ k. IsPrefix (seen_of_room between room) (view_at new (place_number k room)).seen)
+      (sym (all-long os between new ts are.2))
+      (all-more os between new ts some_there are.2 (place_number (length between) room)) in
+      kept-longer (record_of (seen_of_room between room) room) (record_of (seen_of_room new room) room)
+      (record-longer (seen_of_room between room) (seen_of_room new room) more room) p.id v
       (one-kept p old between u some are.1 v e)
   events-kept (p ∷ os) old new (u ∷ ts) some are (suc n) o t v l e =
-      events-kept os are.0 new ts (subst (λ n. 0 < n) (sym (one-long p old are.0 u are.1)) some) are.2 n o t v (omega (arith, l)) e
+      events-kept os are.0 new ts (subst (λ n. 0 < n) (sym (one-long p old are.0 u are.1)) some) are.2 n o t v
+      (omega (arith, l)) e
 
 -- ---- the reply to a transaction
 
-pub closed-kept : (caller : ℕ) (p : TransactionKey) (body : List ℕ) (old new : List (BerthView BookEntry)) → 0 < length old → IsBegunAndEnded caller p (entry.Kept p caller body) old new → hold_of (seen_of_book new p) p ≡ kept_reply body
+pub closed-kept : (caller : ℕ) (p : TransactionKey) (body : List ℕ) (old new : List (BerthView BookEntry)) → 0 < length old
+    → IsBegunAndEnded caller p (entry.Kept p caller body) old new → hold_of (seen_of_book new p) p ≡ kept_reply body
 closed-kept caller p body old new some is =
     let n = book_number old p in
     let begun_there = turned old n is.journal (entry.Begun p caller ∷ []) in
@@ -271,7 +323,9 @@ closed-kept caller p body old new some is =
     ∙ ap (λ js. hold_of js p) seen
     ∙ hold_of-here is.last (entry.Kept p caller body) p (same-self p)
 
-pub replayed-kept : (p : TransactionKey) (body : List ℕ) (old new : List (BerthView BookEntry)) (journal : List BookEntry) → 0 < length old → hold_of journal p ≡ kept_reply body → new ≡ turned old (book_number old p) journal [] → hold_of (seen_of_book new p) p ≡ kept_reply body
+pub replayed-kept : (p : TransactionKey) (body : List ℕ) (old new : List (BerthView BookEntry)) (journal : List BookEntry)
+    → 0 < length old → hold_of journal p ≡ kept_reply body → new ≡ turned old (book_number old p) journal []
+    → hold_of (seen_of_book new p) p ≡ kept_reply body
 replayed-kept p body old new journal some is turn =
     let n = book_number old p in
     let long = turned-long old new n journal [] turn in

@@ -50,23 +50,33 @@ module _ {A : Type 0} where
   pub unmoved_moved : (k : ℕ) (ns : List ℕ) (xs : List A) → AreMoves (length xs) k ns → unmoved k ns (moved k ns xs) ≡ xs
   unmoved_moved k [] xs are = refl
   unmoved_moved k (n ∷ ns) xs are =
-      ap (λ l. swap l k n) (unmoved_moved (k + 1) ns (swap xs k n) (subst (λ c. AreMoves c (k + 1) ns) (sym (length-swap xs k n)) are.2)) ∙ swap_twice xs k n are.0 are.1
+      ap (λ l. swap l k n) (unmoved_moved (k + 1) ns (swap xs k n)
+      (subst (λ c. AreMoves c (k + 1) ns) (sym (length-swap xs k n)) are.2)) ∙ swap_twice xs k n are.0 are.1
 
-  pub All-moved : (P : A → Type 0) (k : ℕ) (ns : List ℕ) (xs : List A) → AreMoves (length xs) k ns → All P xs → All P (moved k ns xs)
+  pub All-moved : (P : A → Type 0) (k : ℕ) (ns : List ℕ) (xs : List A) → AreMoves (length xs) k ns → All P xs
+      → All P (moved k ns xs)
   All-moved P k [] xs are all = all
-  All-moved P k (n ∷ ns) xs are all = All-moved P (k + 1) ns (swap xs k n) (subst (λ c. AreMoves c (k + 1) ns) (sym (length-swap xs k n)) are.2) (All-swap P xs k n are.0 are.1 all)
+  All-moved P k (n ∷ ns) xs are all =
+      All-moved P (k + 1) ns (swap xs k n) (subst (λ c. AreMoves c (k + 1) ns) (sym (length-swap xs k n)) are.2)
+      (All-swap P xs k n are.0 are.1 all)
 
-  pub All-unmoved : (P : A → Type 0) (k : ℕ) (ns : List ℕ) (xs : List A) → AreMoves (length xs) k ns → All P xs → All P (unmoved k ns xs)
+  pub All-unmoved : (P : A → Type 0) (k : ℕ) (ns : List ℕ) (xs : List A) → AreMoves (length xs) k ns → All P xs
+      → All P (unmoved k ns xs)
   All-unmoved P k [] xs are all = all
   All-unmoved P k (n ∷ ns) xs are all =
       let long = length-unmoved (k + 1) ns xs in
-      All-swap P (unmoved (k + 1) ns xs) k n (subst (λ c. k < c) (sym long) are.0) (subst (λ c. n < c) (sym long) are.1) (All-unmoved P (k + 1) ns xs are.2 all)
+      All-swap P (unmoved (k + 1) ns xs) k n (subst (λ c. k < c) (sym long) are.0) (subst (λ c. n < c) (sym long) are.1)
+      (All-unmoved P (k + 1) ns xs are.2 all)
 
-  pub moved-snoc : (k : ℕ) (ns : List ℕ) (n : ℕ) (xs : List A) → moved k (ns ++ n ∷ []) xs ≡ swap (moved k ns xs) (k + length ns) n
+  pub moved-snoc : (k : ℕ) (ns : List ℕ) (n : ℕ) (xs : List A)
+      → moved k (ns ++ n ∷ []) xs ≡ swap (moved k ns xs) (k + length ns) n
   moved-snoc k [] n xs = ap (λ m. swap xs m n) (let e : k ≡ k + 0 = omega arith in e)
-  moved-snoc k (m ∷ ns) n xs = moved-snoc (k + 1) ns n (swap xs k m) ∙ ap (λ j. swap (moved (k + 1) ns (swap xs k m)) j n) (let e : k + 1 + length ns ≡ k + suc (length ns) = omega arith in e)
+  moved-snoc k (m ∷ ns) n xs = moved-snoc (k + 1) ns n (swap xs k m)
+      ∙ ap (λ j. swap (moved (k + 1) ns (swap xs k m)) j n)
+      (let e : k + 1 + length ns ≡ k + suc (length ns) = omega arith in e)
 
-pub moves-snoc : (count k : ℕ) (ns : List ℕ) (n : ℕ) → AreMoves count k ns → k + length ns < count → n < count → AreMoves count k (ns ++ n ∷ [])
+pub moves-snoc : (count k : ℕ) (ns : List ℕ) (n : ℕ) → AreMoves count k ns → k + length ns < count → n < count
+    → AreMoves count k (ns ++ n ∷ [])
 moves-snoc count k [] n are l within = (omega (arith, l), within, omega (arith, l))
 moves-snoc count k (m ∷ ns) n are l within = (are.0, are.1, moves-snoc count (k + 1) ns n are.2 (omega (arith, l)) within)
 
@@ -83,27 +93,37 @@ module _ {A B : Type 0} (f : A → B) where
       ∙ ap (λ l. set l j (f (get_or ys i x))) (map-set f ys i (get_or ys j x))
       ∙ (λ k. set (set (map f ys) i (sym (get_or-map f ys j x (f x) q) k)) j (sym (get_or-map f ys i x (f x) p) k))
 
-  pub map-moved : (k : ℕ) (ns : List ℕ) (xs : List A) → AreMoves (length xs) k ns → map f (moved k ns xs) ≡ moved k ns (map f xs)
+  pub map-moved : (k : ℕ) (ns : List ℕ) (xs : List A) → AreMoves (length xs) k ns
+      → map f (moved k ns xs) ≡ moved k ns (map f xs)
   map-moved k [] xs are = refl
   map-moved k (n ∷ ns) xs are =
-      map-moved (k + 1) ns (swap xs k n) (subst (λ c. AreMoves c (k + 1) ns) (sym (length-swap xs k n)) are.2) ∙ ap (moved (k + 1) ns) (map-swap xs k n are.0 are.1)
+      map-moved (k + 1) ns (swap xs k n) (subst (λ c. AreMoves c (k + 1) ns) (sym (length-swap xs k n)) are.2)
+      ∙ ap (moved (k + 1) ns) (map-swap xs k n are.0 are.1)
 
-  pub map-unmoved : (k : ℕ) (ns : List ℕ) (xs : List A) → AreMoves (length xs) k ns → map f (unmoved k ns xs) ≡ unmoved k ns (map f xs)
+  pub map-unmoved : (k : ℕ) (ns : List ℕ) (xs : List A) → AreMoves (length xs) k ns
+      → map f (unmoved k ns xs) ≡ unmoved k ns (map f xs)
   map-unmoved k [] xs are = refl
   map-unmoved k (n ∷ ns) xs are =
       let long = length-unmoved (k + 1) ns xs in
-      map-swap (unmoved (k + 1) ns xs) k n (subst (λ c. k < c) (sym long) are.0) (subst (λ c. n < c) (sym long) are.1) ∙ ap (λ l. swap l k n) (map-unmoved (k + 1) ns xs are.2)
+      map-swap (unmoved (k + 1) ns xs) k n (subst (λ c. k < c) (sym long) are.0) (subst (λ c. n < c) (sym long) are.1)
+      ∙ ap (λ l. swap l k n) (map-unmoved (k + 1) ns xs are.2)
 
 -- each move is within so many elements
-pub moves_at : (count k : ℕ) (ns : List ℕ) (i d : ℕ) → AreMoves count k ns → i < length ns → (k + i < count) × (get_or ns i d < count)
+pub moves_at : (count k : ℕ) (ns : List ℕ) (i d : ℕ) → AreMoves count k ns → i < length ns
+    → (k + i < count) × (get_or ns i d < count)
 moves_at count k [] i d are l = absurd (omega (arith, l))
 moves_at count k (n ∷ ns) zero d are l = (omega (arith, are.0), are.1)
-moves_at count k (n ∷ ns) (suc i) d are l = let h = moves_at count (k + 1) ns i d are.2 (omega (arith, l)) in (omega (arith, h.0), h.1)
+moves_at count k (n ∷ ns) (suc i) d are l = let h =
+    moves_at count (k + 1) ns i d are.2 (omega (arith, l)) in (omega (arith, h.0), h.1)
 
 -- one move back
-pub unmoved-more : {A : Type 0} (ns : List ℕ) (k n : ℕ) (first between : List A) → k < length ns → n ≡ get_or ns k n → between ≡ unmoved (k + 1) (drop (k + 1) ns) first → swap between k n ≡ unmoved k (drop k ns) first
+pub unmoved-more : {A : Type 0} (ns : List ℕ) (k n : ℕ) (first between : List A) → k < length ns → n ≡ get_or ns k n
+    → between ≡ unmoved (k + 1) (drop (k + 1) ns) first → swap between k n ≡ unmoved k (drop k ns) first
 unmoved-more ns k n first between l is so_far =
-    ap (λ xs. swap xs k n) so_far ∙ ap (λ ms. unmoved k ms first) (sym (drop_more ns k n l ∙ ap (λ m. m ∷ drop (k + 1) ns) (sym is)))
+    ap (λ xs. swap xs k n) so_far
+    ∙ ap (λ ms. unmoved k ms first) (sym (drop_more ns k n l ∙ ap (λ m. m ∷ drop (k + 1) ns) (sym is)))
 
-pub moved-last : {A : Type 0} (ns : List ℕ) (n : ℕ) (xs : List A) → moved 0 (ns ++ n ∷ []) xs ≡ swap (moved 0 ns xs) (length ns) n
-moved-last ns n xs = moved-snoc 0 ns n xs ∙ ap (λ m. swap (moved 0 ns xs) m n) (let e : 0 + length ns ≡ length ns = omega arith in e)
+pub moved-last : {A : Type 0} (ns : List ℕ) (n : ℕ) (xs : List A)
+    → moved 0 (ns ++ n ∷ []) xs ≡ swap (moved 0 ns xs) (length ns) n
+moved-last ns n xs = moved-snoc 0 ns n xs
+    ∙ ap (λ m. swap (moved 0 ns xs) m n) (let e : 0 + length ns ≡ length ns = omega arith in e)

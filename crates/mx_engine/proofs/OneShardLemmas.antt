@@ -24,37 +24,49 @@ use Rattle.mx_engine.proofs.TurnLemmas.{view-set_same, view-set_other, nothing_r
 
 -- ---- events of one shard
 
-here : (n count : ℕ) (o : Offered) → place_number count (room_of o.pdu) ≡ n → is_at (record { number = n; count = count }) (room_of o.pdu) ≡ true
+here : (n count : ℕ) (o : Offered) → place_number count (room_of o.pdu) ≡ n
+    → is_at (record { number = n; count = count }) (room_of o.pdu) ≡ true
 here n count o is = eq-eqb (place_number count (room_of o.pdu)) n is
 
-elsewhere : (n count : ℕ) (o : Offered) → n ≢ place_number count (room_of o.pdu) → is_at (record { number = n; count = count }) (room_of o.pdu) ≡ false
+elsewhere : (n count : ℕ) (o : Offered) → n ≢ place_number count (room_of o.pdu)
+    → is_at (record { number = n; count = count }) (room_of o.pdu) ≡ false
 elsewhere n count o apart = by_test (place_number count (room_of o.pdu) == n) refl
   where
     by_test : (b : Bool) → place_number count (room_of o.pdu) == n ≡ b → b ≡ false
     by_test true is = absurd (apart (sym (eqb-true (place_number count (room_of o.pdu)) n is)))
     by_test false is = refl
 
-pub events_at-here : (n count : ℕ) (o : Offered) (os : List Offered) → place_number count (room_of o.pdu) ≡ n → events_at (record { number = n; count = count }) (o ∷ os) ≡ o ∷ events_at (record { number = n; count = count }) os
-events_at-here n count o os is = ap (λ b. cond b (o ∷ events_at (record { number = n; count = count }) os) (events_at (record { number = n; count = count }) os)) (here n count o is)
+pub events_at-here : (n count : ℕ) (o : Offered) (os : List Offered) → place_number count (room_of o.pdu) ≡ n
+    → events_at (record { number = n; count = count }) (o ∷ os) ≡ o ∷ events_at (record { number = n; count = count }) os
+events_at-here n count o os is =
+    ap (λ b. cond b (o ∷ events_at (record { number = n; count = count }) os)
+    (events_at (record { number = n; count = count }) os)) (here n count o is)
 
-pub events_at-elsewhere : (n count : ℕ) (o : Offered) (os : List Offered) → n ≢ place_number count (room_of o.pdu) → events_at (record { number = n; count = count }) (o ∷ os) ≡ events_at (record { number = n; count = count }) os
-events_at-elsewhere n count o os apart = ap (λ b. cond b (o ∷ events_at (record { number = n; count = count }) os) (events_at (record { number = n; count = count }) os)) (elsewhere n count o apart)
+pub events_at-elsewhere : (n count : ℕ) (o : Offered) (os : List Offered) → n ≢ place_number count (room_of o.pdu)
+    → events_at (record { number = n; count = count }) (o ∷ os) ≡ events_at (record { number = n; count = count }) os
+events_at-elsewhere n count o os apart =
+    ap (λ b. cond b (o ∷ events_at (record { number = n; count = count }) os)
+    (events_at (record { number = n; count = count }) os)) (elsewhere n count o apart)
 
 -- ---- what was offered in turn, at one shard
 
 module _ (caller : ℕ) (origin : List ℕ) where
-  offered_long : (o : Offered) (old new : List (BerthView Entry)) (t : Told) → IsOffered caller origin o old new t → length new ≡ length old
+  offered_long : (o : Offered) (old new : List (BerthView Entry)) (t : Told) → IsOffered caller origin o old new t
+      → length new ≡ length old
   offered_long o old new t a =
       let k = place_number (length old) (room_of o.pdu) in
-      ap length a.seen ∙ length-set old k (after_turn (view_at old k) a.journal (entries_added a.journal caller (room_of o.pdu) (to_offer origin o)))
+      ap length a.seen ∙ length-set old k
+      (after_turn (view_at old k) a.journal (entries_added a.journal caller (room_of o.pdu) (to_offer origin o)))
 
-  all_long : (os : List Offered) (old new : List (BerthView Entry)) (ts : List Told) → AreOffered caller origin os old new ts → length new ≡ length old
+  all_long : (os : List Offered) (old new : List (BerthView Entry)) (ts : List Told) → AreOffered caller origin os old new ts
+      → length new ≡ length old
   all_long [] old new [] are = ap length are
   all_long [] old new (t ∷ ts) are = absurd are
   all_long (o ∷ os) old new [] are = absurd are
   all_long (o ∷ os) old new (t ∷ ts) are = all_long os are.0 new ts are.2 ∙ offered_long o old are.0 t are.1
 
-  offered_here : (n count : ℕ) (o : Offered) (old new : List (BerthView Entry)) (t : Told) → length old ≡ count → n < count → place_number count (room_of o.pdu) ≡ n → IsOffered caller origin o old new t →
+  offered_here : (n count : ℕ) (o : Offered) (old new : List (BerthView Entry)) (t : Told) → length old ≡ count → n < count
+      → place_number count (room_of o.pdu) ≡ n → IsOffered caller origin o old new t →
       IsOfferedThere caller origin o (view_at old n) (view_at new n) t
   offered_here n count o old new t long l is a =
       let entries = entries_added a.journal caller (room_of o.pdu) (to_offer origin o) in
@@ -65,17 +77,23 @@ module _ (caller : ℕ) (origin : List ℕ) where
         legal = a.legal;
         later = subst (λ m. IsPrefix (view_at old m).seen a.journal) there a.later;
         outcome = a.outcome;
-        seen = ap (λ vs. view_at vs n) (a.seen ∙ ap (λ m. turned old m a.journal entries) there) ∙ view-set_same old n (after_turn (view_at old n) a.journal entries) (subst (λ c. n < c) (sym long) l);
+        seen = ap (λ vs. view_at vs n) (a.seen ∙ ap (λ m. turned old m a.journal entries) there)
+            ∙ view-set_same old n (after_turn (view_at old n) a.journal entries) (subst (λ c. n < c) (sym long) l);
       }
 
-  offered_elsewhere : (n count : ℕ) (o : Offered) (old new : List (BerthView Entry)) (t : Told) → length old ≡ count → n ≢ place_number count (room_of o.pdu) → IsOffered caller origin o old new t → view_at new n ≡ view_at old n
+  offered_elsewhere : (n count : ℕ) (o : Offered) (old new : List (BerthView Entry)) (t : Told) → length old ≡ count
+      → n ≢ place_number count (room_of o.pdu) → IsOffered caller origin o old new t → view_at new n ≡ view_at old n
   offered_elsewhere n count o old new t long apart a =
       let k = place_number (length old) (room_of o.pdu) in
       ap (λ vs. view_at vs n) a.seen
-      ∙ view-set_other old k n (after_turn (view_at old k) a.journal (entries_added a.journal caller (room_of o.pdu) (to_offer origin o))) (λ same. apart (same ∙ ap (λ c. place_number c (room_of o.pdu)) long))
+      ∙ view-set_other old k n
+      (after_turn (view_at old k) a.journal (entries_added a.journal caller (room_of o.pdu) (to_offer origin o)))
+      (λ same. apart (same ∙ ap (λ c. place_number c (room_of o.pdu)) long))
 
-  pub chain_there : (n count : ℕ) (os : List Offered) (old new : List (BerthView Entry)) (ts : List Told) → length old ≡ count → n < count → AreOffered caller origin os old new ts →
-      (us : List Told) × AreOfferedThere caller origin (events_at (record { number = n; count = count }) os) (view_at old n) (view_at new n) us
+  pub chain_there : (n count : ℕ) (os : List Offered) (old new : List (BerthView Entry)) (ts : List Told)
+      → length old ≡ count → n < count → AreOffered caller origin os old new ts →
+      (us : List Told) × AreOfferedThere caller origin (events_at (record { number = n; count = count }) os) (view_at old n)
+      (view_at new n) us
   chain_there n count [] old new [] long l are = ([], ap (λ vs. view_at vs n) are)
   chain_there n count [] old new (t ∷ ts) long l are = absurd are
   chain_there n count (o ∷ os) old new [] long l are = absurd are
@@ -84,17 +102,21 @@ module _ (caller : ℕ) (origin : List ℕ) where
       dite (ℕ_discrete n (place_number count (room_of o.pdu)))
       (λ same. (
         t ∷ rest.0,
-        subst (λ es. AreOfferedThere caller origin es (view_at old n) (view_at new n) (t ∷ rest.0)) (sym (events_at-here n count o os (sym same)))
+        subst (λ es. AreOfferedThere caller origin es (view_at old n) (view_at new n) (t ∷ rest.0))
+            (sym (events_at-here n count o os (sym same)))
             (view_at are.0 n, offered_here n count o old are.0 t long l (sym same) are.1, rest.1),
       ))
       (λ apart. (
         rest.0,
-        subst (λ es. AreOfferedThere caller origin es (view_at old n) (view_at new n) rest.0) (sym (events_at-elsewhere n count o os apart))
-            (subst (λ v. AreOfferedThere caller origin (events_at (record { number = n; count = count }) os) v (view_at new n) rest.0) (offered_elsewhere n count o old are.0 t long apart are.1) rest.1),
+        subst (λ es. AreOfferedThere caller origin es (view_at old n) (view_at new n) rest.0)
+            (sym (events_at-elsewhere n count o os apart))
+            (subst (λ v. AreOfferedThere caller origin (events_at (record { number = n; count = count }) os) v
+            (view_at new n) rest.0) (offered_elsewhere n count o old are.0 t long apart are.1) rest.1),
       ))
 
   -- where some first ones were offered in turn, so it was at each shard
-  pub some_of_first : (events : List Offered) (old new : List (BerthView Entry)) → FirstOffered caller origin events old new → SomeOffered caller origin events old new
+  pub some_of_first : (events : List Offered) (old new : List (BerthView Entry)) → FirstOffered caller origin events old new
+      → SomeOffered caller origin events old new
   some_of_first events old new f = record {
     long = f.nothing.long ∙ all_long f.first old f.between f.told f.offered;
     each = λ n l.
@@ -113,12 +135,32 @@ module _ (caller : ℕ) (origin : List ℕ) where
 
   -- so where none was
   pub none_offered : (events : List Offered) (views : List (BerthView Entry)) → SomeOffered caller origin events views views
-  none_offered events views = some_of_first events views views (record { first = []; others = events; are = refl; between = views; told = []; offered = refl; nothing = nothing_refl views })
+  none_offered events views =
+      some_of_first events views views
+      (record {
+        first = [];
+        others = events;
+        are = refl;
+        between = views;
+        told = [];
+        offered = refl;
+        nothing = nothing_refl views;
+      })
 
   -- so where all were
-  pub some_where_all : (events : List Offered) (old new : List (BerthView Entry)) (told : List Told) → AreOffered caller origin events old new told → SomeOffered caller origin events old new
+  pub some_where_all : (events : List Offered) (old new : List (BerthView Entry)) (told : List Told)
+      → AreOffered caller origin events old new told → SomeOffered caller origin events old new
   some_where_all events old new told are =
-      some_of_first events old new (record { first = events; others = []; are = sym (append-nil events); between = new; told = told; offered = are; nothing = nothing_refl new })
+      some_of_first events old new
+      (record {
+        first = events;
+        others = [];
+        are = sym (append-nil events);
+        between = new;
+        told = told;
+        offered = are;
+        nothing = nothing_refl new;
+      })
 
   -- ---- what was offered at each shard, in turn
 
@@ -134,20 +176,26 @@ module _ (caller : ℕ) (origin : List ℕ) where
     one : IsOfferedThere caller origin o v between told
     others : AreOfferedThere caller origin os between w rest
 
-  first_of : (o : Offered) (os : List Offered) (v w : BerthView Entry) (q : List Told) → AreOfferedThere caller origin (o ∷ os) v w q → First o os v w q
+  first_of : (o : Offered) (os : List Offered) (v w : BerthView Entry) (q : List Told)
+      → AreOfferedThere caller origin (o ∷ os) v w q → First o os v w q
   first_of o os v w [] are = absurd are
   first_of o os v w (t ∷ ts) are = record { told = t; rest = ts; is = refl; between = are.0; one = are.1; others = are.2 }
 
-  pub offered_merged : (count : ℕ) (os : List Offered) (old new : List (BerthView Entry)) (told : List (List Told)) → 0 < count → length old ≡ count → length new ≡ count → length told ≡ count →
-      ((n : ℕ) → n < count → AreOfferedThere caller origin (events_at (record { number = n; count = count }) os) (view_at old n) (view_at new n) (get_or told n [])) →
+  pub offered_merged : (count : ℕ) (os : List Offered) (old new : List (BerthView Entry)) (told : List (List Told))
+      → 0 < count → length old ≡ count → length new ≡ count → length told ≡ count →
+      ((n : ℕ) → n < count → AreOfferedThere caller origin (events_at (record { number = n; count = count }) os)
+      (view_at old n) (view_at new n) (get_or told n [])) →
       AreOffered caller origin os old new (merged count os told)
   offered_merged count [] old new told some long long' wide each =
-      ext_get_or no_berth new old (long' ∙ sym long) (λ n l. nil_same (view_at old n) (view_at new n) (get_or told n []) (each n (subst (λ c. n < c) long' l)))
+      ext_get_or no_berth new old (long' ∙ sym long)
+      (λ n l. nil_same (view_at old n) (view_at new n) (get_or told n []) (each n (subst (λ c. n < c) long' l)))
   offered_merged count (o ∷ os) old new told some long long' wide each =
       let k = place_number count (room_of o.pdu) in
       let l : k < count = mod_below (sum (room_of o.pdu)) count some in
-      let f = first_of o (events_at (record { number = k; count = count }) os) (view_at old k) (view_at new k) (get_or told k [])
-      (subst (λ es. AreOfferedThere caller origin es (view_at old k) (view_at new k) (get_or told k [])) (events_at-here k count o os refl) (each k l)) in
+      let f = first_of o (events_at (record { number = k; count = count }) os) (view_at old k) (view_at new k)
+      (get_or told k [])
+      (subst (λ es. AreOfferedThere caller origin es (view_at old k) (view_at new k) (get_or told k []))
+      (events_at-here k count o os refl) (each k l)) in
       let between = set old k f.between in
       let entries = entries_added f.one.journal caller (room_of o.pdu) (to_offer origin o) in
       let there : place_number (length old) (room_of o.pdu) ≡ k = ap (λ c. place_number c (room_of o.pdu)) long in
@@ -158,36 +206,62 @@ module _ (caller : ℕ) (origin : List ℕ) where
         outcome = f.one.outcome;
         seen = ap (set old k) f.one.seen ∙ ap (λ m. turned old m f.one.journal entries) (sym there);
       } in
-      let rest = offered_merged count os between new (set told k f.rest) some (length-set old k f.between ∙ long) long' (length-set told k f.rest ∙ wide)
+      let rest = offered_merged count os between new (set told k f.rest) some (length-set old k f.between ∙ long) long'
+      (length-set told k f.rest ∙ wide)
       (λ n m. dite (ℕ_discrete n k)
-      (λ same. subst (λ j. AreOfferedThere caller origin (events_at (record { number = j; count = count }) os) (view_at between j) (view_at new j) (get_or (set told k f.rest) j [])) (sym same)
-      (subst (λ v. AreOfferedThere caller origin (events_at (record { number = k; count = count }) os) v (view_at new k) (get_or (set told k f.rest) k [])) (sym (view-set_same old k f.between (subst (λ c. k < c) (sym long) l)))
-      (subst (λ ts. AreOfferedThere caller origin (events_at (record { number = k; count = count }) os) f.between (view_at new k) ts) (sym (get_or-set_same told k f.rest [] (subst (λ c. k < c) (sym wide) l))) f.others)))
-      (λ apart. subst (λ v. AreOfferedThere caller origin (events_at (record { number = n; count = count }) os) v (view_at new n) (get_or (set told k f.rest) n [])) (sym (view-set_other old k n f.between apart))
-      (subst (λ ts. AreOfferedThere caller origin (events_at (record { number = n; count = count }) os) (view_at old n) (view_at new n) ts) (sym (get_or-set_other told k n f.rest [] apart))
-      (subst (λ es. AreOfferedThere caller origin es (view_at old n) (view_at new n) (get_or told n [])) (events_at-elsewhere n count o os apart) (each n m))))) in
-      subst (λ q. AreOffered caller origin (o ∷ os) old new (take 1 q ++ merged count os (set told k (drop 1 q)))) (sym f.is) (between, one, rest)
+      (λ same. subst (λ j. AreOfferedThere caller origin (events_at (record { number = j; count = count }) os)
+      (view_at between j) (view_at new j) (get_or (set told k f.rest) j [])) (sym same)
+      (subst (λ v. AreOfferedThere caller origin (events_at (record { number = k; count = count }) os) v (view_at new k)
+      (get_or (set told k f.rest) k [])) (sym (view-set_same old k f.between (subst (λ c. k < c) (sym long) l)))
+      (subst (λ ts. AreOfferedThere caller origin (events_at (record { number = k; count = count }) os) f.between
+      (view_at new k) ts) (sym (get_or-set_same told k f.rest [] (subst (λ c. k < c) (sym wide) l))) f.others)))
+      (λ apart. subst (λ v. AreOfferedThere caller origin (events_at (record { number = n; count = count }) os) v
+      (view_at new n) (get_or (set told k f.rest) n [])) (sym (view-set_other old k n f.between apart))
+      (subst (λ ts. AreOfferedThere caller origin (events_at (record { number = n; count = count }) os) (view_at old n)
+      (view_at new n) ts) (sym (get_or-set_other told k n f.rest [] apart))
+      (subst (λ es. AreOfferedThere caller origin es (view_at old n) (view_at new n) (get_or told n []))
+      (events_at-elsewhere n count o os apart) (each n m))))) in
+      subst (λ q. AreOffered caller origin (o ∷ os) old new (take 1 q ++ merged count os (set told k (drop 1 q)))) (sym f.is)
+      (between, one, rest)
 
   -- ---- at one shard, one event after the other
 
-  pub there-append : (os qs : List Offered) (old between new : BerthView Entry) (ts us : List Told) → AreOfferedThere caller origin os old between ts → AreOfferedThere caller origin qs between new us → AreOfferedThere caller origin (os ++ qs) old new (ts ++ us)
+  pub there-append : (os qs : List Offered) (old between new : BerthView Entry) (ts us : List Told)
+      → AreOfferedThere caller origin os old between ts → AreOfferedThere caller origin qs between new us
+      → AreOfferedThere caller origin (os ++ qs) old new (ts ++ us)
   there-append [] qs old between new [] us are later = subst (λ v. AreOfferedThere caller origin qs v new us) are later
   there-append [] qs old between new (t ∷ ts) us are later = absurd are
   there-append (o ∷ os) qs old between new [] us are later = absurd are
-  there-append (o ∷ os) qs old between new (t ∷ ts) us are later = (are.0, are.1, there-append os qs are.0 between new ts us are.2 later)
+  there-append (o ∷ os) qs old between new (t ∷ ts) us are later =
+      (are.0, are.1, there-append os qs are.0 between new ts us are.2 later)
 
-  pub there-none : (events : List Offered) (old new : BerthView Entry) → AddsNothingThere old new → SomeOfferedThere caller origin events old new
-  there-none events old new nothing = record { first = []; others = events; are = refl; between = old; told = []; offered = refl; nothing = nothing }
+  pub there-none : (events : List Offered) (old new : BerthView Entry) → AddsNothingThere old new
+      → SomeOfferedThere caller origin events old new
+  there-none events old new nothing =
+      record { first = []; others = events; are = refl; between = old; told = []; offered = refl; nothing = nothing }
 
-  pub there-all : (events : List Offered) (old new : BerthView Entry) (told : List Told) → AreOfferedThere caller origin events old new told → SomeOfferedThere caller origin events old new
-  there-all events old new told are = record { first = events; others = []; are = sym (append-nil events); between = new; told = told; offered = are; nothing = (new.seen, prefix_refl new.seen, refl) }
+  pub there-all : (events : List Offered) (old new : BerthView Entry) (told : List Told)
+      → AreOfferedThere caller origin events old new told → SomeOfferedThere caller origin events old new
+  there-all events old new told are =
+      record {
+        first = events;
+        others = [];
+        are = sym (append-nil events);
+        between = new;
+        told = told;
+        offered = are;
+        nothing = (new.seen, prefix_refl new.seen, refl);
+      }
 
   -- where all were offered of the first ones, some were of all
-  pub there-later : (first next rest : List Offered) (old between new : BerthView Entry) (told : List Told) → AreOfferedThere caller origin first old between told → SomeOfferedThere caller origin next between new → SomeOfferedThere caller origin (first ++ (next ++ rest)) old new
+  pub there-later : (first next rest : List Offered) (old between new : BerthView Entry) (told : List Told)
+      → AreOfferedThere caller origin first old between told → SomeOfferedThere caller origin next between new
+      → SomeOfferedThere caller origin (first ++ (next ++ rest)) old new
   there-later first next rest old between new told are some = record {
     first = first ++ some.first;
     others = some.others ++ rest;
-    are = ap (λ es. first ++ (es ++ rest)) some.are ∙ ap (λ es. first ++ es) (append_assoc some.first some.others rest) ∙ sym (append_assoc first some.first (some.others ++ rest));
+    are = ap (λ es. first ++ (es ++ rest)) some.are ∙ ap (λ es. first ++ es) (append_assoc some.first some.others rest)
+        ∙ sym (append_assoc first some.first (some.others ++ rest));
     between = some.between;
     told = told ++ some.told;
     offered = there-append first some.first old between some.between told some.told are some.offered;

@@ -19,21 +19,28 @@ use Rattle.mx_engine.proofs.BerthLemmas.{seated_set}
 use Rattle.mx_engine.proofs.TurnLemmas.{after-put, view_at-here}
 
 -- one berth of a caller at one dock, by the berth's own number
-module _ {T E : Type 0} (docks : List (CachePadded (Dock T E))) (caller : ℕ) (berths : List (Berth T E)) (n : ℕ) (at : PlaceView) (padded : CachePadded (Dock T E)) (dock : Dock T E) (old : Berth T E)
-    (seated : AreBerthsAt docks caller berths) (l : n < length docks) (here : at.number ≡ n) (count : at.count ≡ length docks) (stands : get_or docks n padded ≡ padded) (is : dock ≡ padded_value padded) (stood : get_or berths n old ≡ old) where
+module _ {T E : Type 0} (docks : List (CachePadded (Dock T E))) (caller : ℕ) (berths : List (Berth T E)) (n : ℕ)
+    (at : PlaceView) (padded : CachePadded (Dock T E)) (dock : Dock T E) (old : Berth T E)
+    (seated : AreBerthsAt docks caller berths) (l : n < length docks) (here : at.number ≡ n)
+    (count : at.count ≡ length docks) (stands : get_or docks n padded ≡ padded) (is : dock ≡ padded_value padded)
+    (stood : get_or berths n old ≡ old) where
   its_number : number old ≡ caller
   its_number = ap (λ (b : Berth T E). (own b).number) (sym stood) ∙ (seated.each n padded old l).numbered
 
   pub its_berth : IsBerthAt at dock (number old) old
   its_berth =
-      let place : record { number = n; count = length docks } ≡ at = λ i. record { number = (sym here) i; count = (sym count) i } in
+      let place : record { number = n; count = length docks } ≡ at =
+      λ i. record { number = (sym here) i; count = (sym count) i } in
       subst (λ k. IsBerthAt at dock k old) (sym its_number)
       (subst (IsBerthAt at dock caller) stood
       (subst (λ (d : Dock T E). IsBerthAt at d caller (get_or berths n old)) (ap padded_value stands ∙ sym is)
-      (subst (λ (p : PlaceView). IsBerthAt p (padded_value (get_or docks n padded)) caller (get_or berths n old)) place (seated.each n padded old l))))
+      (subst (λ (p : PlaceView). IsBerthAt p (padded_value (get_or docks n padded)) caller (get_or berths n old)) place
+      (seated.each n padded old l))))
 
   pub still_seated : (new : Berth T E) → IsBerthAt at dock (number old) new → AreBerthsAt docks caller (set berths n new)
-  still_seated new now = seated_set docks caller berths n at padded dock new seated l here count stands is (subst (λ k. IsBerthAt at dock k new) its_number now)
+  still_seated new now =
+      seated_set docks caller berths n at padded dock new seated l here count stands is
+      (subst (λ k. IsBerthAt at dock k new) its_number now)
 
 module _ {A : Type 0} (Gives : List RoomView → A → Type 0) where
   -- the shard was taken, read, and put back
@@ -53,12 +60,15 @@ module _ {A : Type 0} (Gives : List RoomView → A → Type 0) where
   }
 
   -- so what is known of that shard is what was read
-  pub read_here : {T : Type 0} (berths : List (Berth T Entry)) (n : ℕ) (old new : Berth T Entry) (told : A) → n < length berths →
+  pub read_here : {T : Type 0} (berths : List (Berth T Entry)) (n : ℕ) (old new : Berth T Entry) (told : A)
+      → n < length berths →
       IsReadTurn Gives (own old) (own new) told → IsRead Gives (views_of (set berths n new)) n told
   read_here {T = T} berths n old new told l t =
       let k : n < length (set berths n new) = subst (λ m. n < m) (sym (length-set berths n new)) l in
       let there : (view_at (views_of (set berths n new)) n).seen ≡ t.journal =
-      ap (λ (v : BerthView Entry). v.seen) (view_at-here (set berths n new) n new k ∙ ap own (get_or-set_same berths n new new l) ∙ t.seen) ∙ append-nil t.journal in
+      ap (λ (v : BerthView Entry). v.seen)
+      (view_at-here (set berths n new) n new k ∙ ap own (get_or-set_same berths n new new l) ∙ t.seen)
+      ∙ append-nil t.journal in
       record {
         rooms = t.rooms;
         legal = subst IsLegal (sym there) t.legal;

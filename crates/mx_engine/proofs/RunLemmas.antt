@@ -21,25 +21,35 @@ use Rattle.mx_engine.proofs.OneShardLemmas.{there-append, there-later}
 module _ {K : Type 0} (docks : List (CachePadded (Dock (DockedShard K) Entry))) (caller : ℕ) (origin : List ℕ) where
   -- ---- one event
 
-  pub job_elsewhere : (place : PlaceView) (o : Offered) (view : BerthView Entry) (told : List Told) → is_at place (room_of o.pdu) ≡ false →
+  pub job_elsewhere : (place : PlaceView) (o : Offered) (view : BerthView Entry) (told : List Told)
+      → is_at place (room_of o.pdu) ≡ false →
       (later : List Told) × AreOfferedThere caller origin (events_at place (o ∷ [])) view view later × (told ≡ told ++ later)
-  job_elsewhere place o view told is = ([], subst (λ b. AreOfferedThere caller origin (cond b (o ∷ []) []) view view []) (sym is) refl, sym (append-nil told))
+  job_elsewhere place o view told is =
+      ([], subst (λ b. AreOfferedThere caller origin (cond b (o ∷ []) []) view view []) (sym is) refl, sym (append-nil told))
 
-  pub job_one : (place : PlaceView) (o : Offered) (old new : BerthView Entry) (t : Told) → is_at place (room_of o.pdu) ≡ true → IsOfferedThere caller origin o old new t →
+  pub job_one : (place : PlaceView) (o : Offered) (old new : BerthView Entry) (t : Told) → is_at place (room_of o.pdu) ≡ true
+      → IsOfferedThere caller origin o old new t →
       AreOfferedThere caller origin (events_at place (o ∷ [])) old new (t ∷ [])
-  job_one place o old new t is one = subst (λ b. AreOfferedThere caller origin (cond b (o ∷ []) []) old new (t ∷ [])) (sym is) (new, one, refl)
+  job_one place o old new t is one =
+      subst (λ b. AreOfferedThere caller origin (cond b (o ∷ []) []) old new (t ∷ [])) (sym is) (new, one, refl)
 
   -- ---- so far
 
   pub record SoFarThere (events : List Offered) (index : ℕ) (old job : Job K) : Type 0 where
     pub seated : IsSeated docks caller job
     pub same : IsSameJob old job
-    pub offered : AreOfferedThere caller origin (events_at old.place (take index events)) (own old.berth) (own job.berth) job.told.items
+    pub offered : AreOfferedThere caller origin (events_at old.place (take index events)) (own old.berth) (own job.berth)
+        job.told.items
 
   pub there_none : (events : List Offered) (job : Job K) → IsReady docks caller events job → SoFarThere events 0 job job
   there_none events job r = record {
     seated = r.seated;
-    same = record { placed = refl; busy = refl; fault = refl; same = record { numbered = refl; opened = refl; counted = refl; placed = refl } };
+    same = record {
+      placed = refl;
+      busy = refl;
+      fault = refl;
+      same = record { numbered = refl; opened = refl; counted = refl; placed = refl };
+    };
     offered = subst (λ ts. AreOfferedThere caller origin [] (own job.berth) (own job.berth) ts) (sym r.untold) refl;
   }
 
@@ -56,26 +66,35 @@ module _ {K : Type 0} (docks : List (CachePadded (Dock (DockedShard K) Entry))) 
     };
   }
 
-  one_more : (place : PlaceView) (events : List Offered) (index : ℕ) (o : Offered) → index < length events → o ≡ get_or events index o →
+  one_more : (place : PlaceView) (events : List Offered) (index : ℕ) (o : Offered) → index < length events
+      → o ≡ get_or events index o →
       events_at place (take (index + 1) events) ≡ events_at place (take index events) ++ events_at place (o ∷ [])
   one_more place events index o l is =
-      ap (events_at place) (take_more events index o l ∙ ap (λ x. take index events ++ x ∷ []) (sym is)) ∙ filter-append (λ x. is_at place (room_of x.pdu)) (take index events) (o ∷ [])
+      ap (events_at place) (take_more events index o l ∙ ap (λ x. take index events ++ x ∷ []) (sym is))
+      ∙ filter-append (λ x. is_at place (room_of x.pdu)) (take index events) (o ∷ [])
 
-  pub there_more : (events : List Offered) (index : ℕ) (o : Offered) (old job new : Job K) → index < length events → o ≡ get_or events index o → SoFarThere events index old job → IsSeated docks caller new → IsSameJob job new →
-      (later : List Told) × AreOfferedThere caller origin (events_at job.place (o ∷ [])) (own job.berth) (own new.berth) later × (new.told.items ≡ job.told.items ++ later) → SoFarThere events (index + 1) old new
+  pub there_more : (events : List Offered) (index : ℕ) (o : Offered) (old job new : Job K) → index < length events
+      → o ≡ get_or events index o → SoFarThere events index old job → IsSeated docks caller new → IsSameJob job new →
+      (later : List Told) × AreOfferedThere caller origin (events_at job.place (o ∷ [])) (own job.berth) (own new.berth)
+      later × (new.told.items ≡ job.told.items ++ later) → SoFarThere events (index + 1) old new
   there_more events index o old job new l is far seated same more = record {
     seated = seated;
     same = same_job_trans old job new far.same same;
     offered =
-        subst (λ es. AreOfferedThere caller origin es (own old.berth) (own new.berth) new.told.items) (sym (one_more old.place events index o l is))
-        (subst (λ ts. AreOfferedThere caller origin (events_at old.place (take index events) ++ events_at old.place (o ∷ [])) (own old.berth) (own new.berth) ts) (sym more.2)
-        (there-append caller origin (events_at old.place (take index events)) (events_at old.place (o ∷ [])) (own old.berth) (own job.berth) (own new.berth) job.told.items more.0 far.offered
-        (subst (λ (p : PlaceView). AreOfferedThere caller origin (events_at p (o ∷ [])) (own job.berth) (own new.berth) more.0) far.same.placed more.1)));
+        subst (λ es. AreOfferedThere caller origin es (own old.berth) (own new.berth) new.told.items)
+        (sym (one_more old.place events index o l is))
+        (subst (λ ts. AreOfferedThere caller origin (events_at old.place (take index events) ++ events_at old.place (o ∷ []))
+        (own old.berth) (own new.berth) ts) (sym more.2)
+        (there-append caller origin (events_at old.place (take index events)) (events_at old.place (o ∷ [])) (own old.berth)
+        (own job.berth) (own new.berth) job.told.items more.0 far.offered
+        (subst (λ (p : PlaceView). AreOfferedThere caller origin (events_at p (o ∷ [])) (own job.berth) (own new.berth)
+        more.0) far.same.placed more.1)));
   }
 
   -- ---- the whole
 
-  pub run_idle : (events : List Offered) (job : Job K) → IsReady docks caller events job → job.is_busy ≡ false → IsRun docks caller origin events job job
+  pub run_idle : (events : List Offered) (job : Job K) → IsReady docks caller events job → job.is_busy ≡ false
+      → IsRun docks caller origin events job job
   run_idle events job r idle = record {
     seated = r.seated;
     placed = refl;
@@ -85,28 +104,42 @@ module _ {K : Type 0} (docks : List (CachePadded (Dock (DockedShard K) Entry))) 
         (subst (λ ts. AreOfferedThere caller origin [] (own job.berth) (own job.berth) ts) (sym r.untold) refl));
   }
 
-  pub run_through : (events : List Offered) (index : ℕ) (old job : Job K) → length events ≤ index → IsReady docks caller events old → SoFarThere events index old job → IsRun docks caller origin events old job
+  pub run_through : (events : List Offered) (index : ℕ) (old job : Job K) → length events ≤ index
+      → IsReady docks caller events old → SoFarThere events index old job → IsRun docks caller origin events old job
   run_through events index old job l r far = record {
     seated = far.seated;
     placed = far.same.placed;
     same = far.same.same;
-    done = subst (λ f. IsDone caller origin (events_at old.place events) (own old.berth) job f) (sym (far.same.fault ∙ r.faultless))
-        (subst (λ es. AreOfferedThere caller origin (events_at old.place es) (own old.berth) (own job.berth) job.told.items) (take_all index events l) far.offered);
+    done = subst (λ f. IsDone caller origin (events_at old.place events) (own old.berth) job f)
+        (sym (far.same.fault ∙ r.faultless))
+        (subst (λ es. AreOfferedThere caller origin (events_at old.place es) (own old.berth) (own job.berth) job.told.items)
+        (take_all index events l) far.offered);
   }
 
-  pub run_stopped : (events : List Offered) (index : ℕ) (o : Offered) (fault : Fault) (old job new : Job K) → index < length events → o ≡ get_or events index o → SoFarThere events index old job → IsSeated docks caller new → IsSameJob job new →
-      SomeOfferedThere caller origin (events_at job.place (o ∷ [])) (own job.berth) (own new.berth) → IsRun docks caller origin events old (record new { fault = Some fault })
+  pub run_stopped : (events : List Offered) (index : ℕ) (o : Offered) (fault : Fault) (old job new : Job K)
+      → index < length events → o ≡ get_or events index o → SoFarThere events index old job → IsSeated docks caller new
+      → IsSameJob job new →
+      SomeOfferedThere caller origin (events_at job.place (o ∷ [])) (own job.berth) (own new.berth)
+      → IsRun docks caller origin events old (record new { fault = Some fault })
   run_stopped events index o fault old job new l is far seated same some = record {
     seated = record { within = seated.within; counted = seated.counted; berth = seated.berth };
     placed = same.placed ∙ far.same.placed;
     same = (same_job_trans old job new far.same same).same;
     done = subst (λ es. SomeOfferedThere caller origin es (own old.berth) (own new.berth)) (sym (split old.place))
-        (there-later caller origin (events_at old.place (take index events)) (events_at old.place (o ∷ [])) (events_at old.place (drop (index + 1) events)) (own old.berth) (own job.berth) (own new.berth) job.told.items far.offered
-        (subst (λ (p : PlaceView). SomeOfferedThere caller origin (events_at p (o ∷ [])) (own job.berth) (own new.berth)) far.same.placed some));
+        (there-later caller origin (events_at old.place (take index events)) (events_at old.place (o ∷ []))
+        (events_at old.place (drop (index + 1) events)) (own old.berth) (own job.berth) (own new.berth) job.told.items
+        far.offered
+        (subst (λ (p : PlaceView). SomeOfferedThere caller origin (events_at p (o ∷ [])) (own job.berth) (own new.berth))
+        far.same.placed some));
   }
     where
-      split : (place : PlaceView) → events_at place events ≡ events_at place (take index events) ++ (events_at place (o ∷ []) ++ events_at place (drop (index + 1) events))
+      split : (place : PlaceView)
+          → events_at place events ≡ events_at place
+          (take index events) ++ (events_at place (o ∷ []) ++ events_at place (drop (index + 1) events))
       split place =
-          ap (events_at place) (sym (take-append-drop index events) ∙ ap (λ os. take index events ++ os) (drop_more events index o l ∙ ap (λ x. x ∷ drop (index + 1) events) (sym is)))
+          ap (events_at place) (sym (take-append-drop index events)
+          ∙ ap (λ os. take index events ++ os)
+          (drop_more events index o l ∙ ap (λ x. x ∷ drop (index + 1) events) (sym is)))
           ∙ filter-append (λ x. is_at place (room_of x.pdu)) (take index events) ((o ∷ []) ++ drop (index + 1) events)
-          ∙ ap (λ os. events_at place (take index events) ++ os) (filter-append (λ x. is_at place (room_of x.pdu)) (o ∷ []) (drop (index + 1) events))
+          ∙ ap (λ os. events_at place (take index events) ++ os)
+          (filter-append (λ x. is_at place (room_of x.pdu)) (o ∷ []) (drop (index + 1) events))

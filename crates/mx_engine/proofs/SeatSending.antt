@@ -35,7 +35,8 @@ docked_shard_send K g k = declared_send (docked_shard.the_type K g) (Box-send _ 
 pub docked_book_send : (L : RattleType) (g : Ghosts L.Denot BookRow) → IsSend L → IsSend (docked_book.the_row L g)
 docked_book_send L g l = declared_send (docked_book.the_type L g) (Box-send _ (book_send L g l), tt)
 
-pub seat_send : (K L : RattleType) (g : Ghosts K.Denot ShardRow) (h : Ghosts L.Denot BookRow) → IsSend K → IsSend L → IsSend (seat.the_row K L g h)
+pub seat_send : (K L : RattleType) (g : Ghosts K.Denot ShardRow) (h : Ghosts L.Denot BookRow) → IsSend K → IsSend L
+    → IsSend (seat.the_row K L g h)
 seat_send K L g h k l = declared_send (seat.the_type K L g h) (
   caller.the_send,
   (
@@ -58,19 +59,28 @@ job_send K g k = declared_send (job.the_type K g) (
 
 -- a dock of a shard, with nothing else on its cache lines
 abbrev pub padded_row : (K : RattleType) → Ghosts K.Denot ShardRow → RattleType
-padded_row K g = padding.the_row (docks.the_row (docked_shard.the_row K g) shard_entry.the_row (shard_journaled.ghosts K g shard_journaled.no_dict shard_journaled.no_dict))
+padded_row K g = padding.the_row
+    (docks.the_row (docked_shard.the_row K g) shard_entry.the_row
+    (shard_journaled.ghosts K g shard_journaled.no_dict shard_journaled.no_dict))
 
 pub padded_sync : (K : RattleType) (g : Ghosts K.Denot ShardRow) → IsSend K → IsSync (padded_row K g)
-padded_sync K g k = padded.the_sync _ (dock.the_sync (docked_shard.the_row K g) shard_entry.the_row (shard_journaled.ghosts K g shard_journaled.no_dict shard_journaled.no_dict) (docked_shard_send K g k))
+padded_sync K g k = padded.the_sync _
+    (dock.the_sync (docked_shard.the_row K g) shard_entry.the_row
+    (shard_journaled.ghosts K g shard_journaled.no_dict shard_journaled.no_dict) (docked_shard_send K g k))
 
 pub sender_sync : (l : NamedLft) → IsSync (sender.the_row l)
 sender_sync l = declared_sync (sender.the_type l) (caller.the_sync, (search (server_name.the_sync, sendable) depth 20, tt))
 
-pub engine_sync : (K L V G : RattleType) (g : Ghosts K.Denot ShardRow) (h : Ghosts L.Denot BookRow) → IsSend K → IsSend L → IsSync V → IsSync G → IsSync (engine.the_row K L V G g h)
+pub engine_sync : (K L V G : RattleType) (g : Ghosts K.Denot ShardRow) (h : Ghosts L.Denot BookRow) → IsSend K → IsSend L
+    → IsSync V → IsSync G → IsSync (engine.the_row K L V G g h)
 engine_sync K L V G g h k l v w = declared_sync (engine.the_type K L V G g h) (
-  Vec-sync _ (padded.the_sync _ (dock.the_sync (docked_shard.the_row K g) shard_entry.the_row (shard_journaled.ghosts K g shard_journaled.no_dict shard_journaled.no_dict) (docked_shard_send K g k))),
+  Vec-sync _ (padded.the_sync _
+      (dock.the_sync (docked_shard.the_row K g) shard_entry.the_row
+      (shard_journaled.ghosts K g shard_journaled.no_dict shard_journaled.no_dict) (docked_shard_send K g k))),
   (
-    Vec-sync _ (padded.the_sync _ (dock.the_sync (docked_book.the_row L h) book_entry.the_row (book_journaled.ghosts L h book_journaled.no_dict book_journaled.no_dict) (docked_book_send L h l))),
+    Vec-sync _ (padded.the_sync _
+        (dock.the_sync (docked_book.the_row L h) book_entry.the_row
+        (book_journaled.ghosts L h book_journaled.no_dict book_journaled.no_dict) (docked_book_send L h l))),
     (search (v, sendable) depth 20, (search (w, sendable) depth 20, (search sendable depth 20, tt))),
   ),
 )

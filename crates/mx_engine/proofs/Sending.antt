@@ -61,10 +61,12 @@ pub value_sync : IsSync value.the_row
 value_sync = search (sync-Value, crosses, maps.crosses, sendable) depth 20 fits 20000
 
 parts_send : IsSend parts.the_row
-parts_send = search (crosses, maps.crosses, value_send, room_id.the_send, user_id.the_send, event_id.the_send, sendable) depth 20 fits 20000
+parts_send = search (crosses, maps.crosses, value_send, room_id.the_send, user_id.the_send, event_id.the_send, sendable)
+    depth 20 fits 20000
 
 parts_sync : IsSync parts.the_row
-parts_sync = search (crosses, maps.crosses, value_sync, room_id.the_sync, user_id.the_sync, event_id.the_sync, sendable) depth 20 fits 20000
+parts_sync = search (crosses, maps.crosses, value_sync, room_id.the_sync, user_id.the_sync, event_id.the_sync, sendable)
+    depth 20 fits 20000
 
 pub pdu_send : IsSend pdu.the_row
 pdu_send = search (crosses, parts_send, parts_sync, sendable) depth 20 fits 20000
@@ -83,10 +85,33 @@ graph_row_send : IsSend graph_row.the_row
 graph_row_send = search (pdu_send, event_id.the_send, sendable) depth 20 fits 20000
 
 pub graph_send : IsSend graph.the_row
-graph_send = view_send _ _ _ _ _ (declared_send graph_inside.the_type (search (graph_row_send, auth_chains.the_send, redactions.the_send, event_id.the_send, event_no.the_send, crosses, maps.crosses, sendable) depth 20))
+graph_send = view_send _ _ _ _ _
+    (declared_send graph_inside.the_type
+    (search (
+      graph_row_send,
+      auth_chains.the_send,
+      redactions.the_send,
+      event_id.the_send,
+      event_no.the_send,
+      crosses,
+      maps.crosses,
+      sendable,
+    ) depth 20))
 
 pub timeline_send : IsSend timeline.the_row
-timeline_send = view_send _ _ _ _ _ (declared_send timeline_inside.the_type (search (graph_send, states.the_send, resolutions.the_send, judgement.the_send, prepared.the_send, event_no.the_send, state_no.the_send, crosses, sendable) depth 20))
+timeline_send = view_send _ _ _ _ _
+    (declared_send timeline_inside.the_type
+    (search (
+      graph_send,
+      states.the_send,
+      resolutions.the_send,
+      judgement.the_send,
+      prepared.the_send,
+      event_no.the_send,
+      state_no.the_send,
+      crosses,
+      sendable,
+    ) depth 20))
 
 pub room_send : IsSend room.the_row
 room_send = view_send _ _ _ _ _ (declared_send room_inside.the_type (room_id.the_send, (timeline_send, tt)))
@@ -108,15 +133,46 @@ pub query_reply_send : IsSend query_reply.the_row
 query_reply_send = search (pdu_send, event_list_send, id_list.the_send, join_template_send, sendable) depth 40 fits 20000
 
 pub answer_send : IsSend answer.the_row
-answer_send = variants_send answer.enum (search (query_reply_send, join_reply_send, outcome.the_send, event_id.the_send, not_a_room.the_send, denied.the_send, sendable) depth 20)
+answer_send = variants_send answer.enum
+    (search (
+      query_reply_send,
+      join_reply_send,
+      outcome.the_send,
+      event_id.the_send,
+      not_a_room.the_send,
+      denied.the_send,
+      sendable,
+    ) depth 20)
 
 -- ---- shards
 pub shard_send : (K : RattleType) (g : Ghosts K.Denot ShardRow) → IsSend K → IsSend (shard.the_row K g)
-shard_send K g k = view_send _ _ _ _ _ (declared_send (shard_inside.the_type K g) (search (crosses, sendable) depth 20, (search (k, sendable) depth 20, search (room_send, place.the_send, room_id.the_send, event_id.the_send, holder.the_send, journal_place.the_send, crosses, maps.crosses, sendable) depth 20)))
+shard_send K g k = view_send _ _ _ _ _
+    (declared_send (shard_inside.the_type K g) (
+      search (crosses, sendable) depth 20,
+      (
+        search (k, sendable) depth 20,
+        search (
+          room_send,
+          place.the_send,
+          room_id.the_send,
+          event_id.the_send,
+          holder.the_send,
+          journal_place.the_send,
+          crosses,
+          maps.crosses,
+          sendable,
+        ) depth 20,
+      ),
+    ))
 
 -- ---- books
 journal_send : IsSend journal.the_row
 journal_send = search (send-Journal, caller.the_send, crosses, sendable) depth 20 fits 20000
 
 pub book_send : (K : RattleType) (g : Ghosts K.Denot BookRow) → IsSend K → IsSend (book.the_row K g)
-book_send K g k = view_send _ _ _ _ _ (declared_send (book_inside.the_type K g) (search (k, sendable) depth 20, search (place.the_send, journal_send, caller.the_send, key.the_send, reply.the_send, crosses, maps.crosses, sendable) depth 20))
+book_send K g k = view_send _ _ _ _ _
+    (declared_send (book_inside.the_type K g) (
+      search (k, sendable) depth 20,
+      search
+          (place.the_send, journal_send, caller.the_send, key.the_send, reply.the_send, crosses, maps.crosses, sendable) depth 20,
+    ))

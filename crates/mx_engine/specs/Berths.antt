@@ -23,7 +23,8 @@ module _ {T E : Type 0} where
     pub few : length docks ≤ 64
     pub same : length berths ≡ length docks
     pub each : (n : ℕ) (d : CachePadded (Dock T E)) (b : Berth T E) → n < length docks
-        → IsBerthAt (record { number = n; count = length docks }) (padded_value (get_or docks n d)) caller (get_or berths n b)
+        → IsBerthAt (record { number = n; count = length docks }) (padded_value (get_or docks n d)) caller
+        (get_or berths n b)
 
   abbrev pub views_of : List (Berth T E) → List (BerthView E)
   views_of berths = map own berths

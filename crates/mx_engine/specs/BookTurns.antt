@@ -17,7 +17,8 @@ pub record HasBegun (caller : ℕ) (key : TransactionKey) (view : BerthView Book
   pub is_begun : hold_of view.seen key ≡ begun caller
 
 -- A book was opened for a transaction.
-pub record IsOpened (caller : ℕ) (key : TransactionKey) (old new : BerthView BookEntry) (result : Result Opening CallError) : Type 0 where
+pub record IsOpened (caller : ℕ) (key : TransactionKey) (old new : BerthView BookEntry)
+    (result : Result Opening CallError) : Type 0 where
   pub journal : List BookEntry
   pub legal : IsTrue (is_legal journal)
   pub later : IsPrefix old.seen journal
@@ -42,7 +43,8 @@ abbrev pub HasBegunIn : ℕ → TransactionKey → List (BerthView BookEntry) �
 HasBegunIn caller key views = HasBegun caller key (view_at views (book_number views key))
 
 -- The transaction's book was opened for it.
-pub record IsOpenedIn (caller : ℕ) (key : TransactionKey) (old new : List (BerthView BookEntry)) (result : Result Opening CallError) : Type 0 where
+pub record IsOpenedIn (caller : ℕ) (key : TransactionKey) (old new : List (BerthView BookEntry))
+    (result : Result Opening CallError) : Type 0 where
   pub journal : List BookEntry
   pub within : book_number old key < length old
   pub found : IsFound old key journal
@@ -51,7 +53,8 @@ pub record IsOpenedIn (caller : ℕ) (key : TransactionKey) (old new : List (Ber
   pub err : OnErr result (AddsNothing old new)
 
 -- The transaction, which this caller has begun, was ended by an entry.
-pub record IsEndedIn (caller : ℕ) (key : TransactionKey) (end_ : BookEntry) (old new : List (BerthView BookEntry)) : Type 0 where
+pub record IsEndedIn (caller : ℕ) (key : TransactionKey) (end_ : BookEntry)
+    (old new : List (BerthView BookEntry)) : Type 0 where
   pub journal : List BookEntry
   pub found : IsFound old key journal
   pub is_begun : hold_of journal key ≡ begun caller

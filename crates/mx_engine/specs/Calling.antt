@@ -39,7 +39,8 @@ entries_by journal caller call (Some room) = entries_added journal caller room c
 
 -- A caller's berth at the dock of this place holds: the value has this place and this journal, which is legal and begins
 -- with all that the caller had seen. What the caller added is all there, and nothing else has its number.
-pub record IsHeld {T E : Type 0} (Legal : List E → Type 0) (caller_of : E → ℕ) (at : PlaceView) (dock : Dock T E) (caller : ℕ) (old : BerthView E) (new : Berth T E) (found_place : PlaceView) (journal : List E) : Type 0 where
+pub record IsHeld {T E : Type 0} (Legal : List E → Type 0) (caller_of : E → ℕ) (at : PlaceView) (dock : Dock T E)
+    (caller : ℕ) (old : BerthView E) (new : Berth T E) (found_place : PlaceView) (journal : List E) : Type 0 where
   pub mine : IsBerthOf dock new
   pub held : holds new ≡ true
   pub numbered : number new ≡ caller
@@ -52,7 +53,8 @@ pub record IsHeld {T E : Type 0} (Legal : List E → Type 0) (caller_of : E → 
   pub its : entries_of caller_of caller (since old.opening journal) ≡ old.added
 
 -- A call of a shard: a legal journal was found, which begins with what was seen, and the answer is by its rooms' records.
-pub record IsTurn (caller : ℕ) (call : Call) (room : Option (List ℕ)) (old new : BerthView Entry) (result : Result Answer CallError) : Type 0 where
+pub record IsTurn (caller : ℕ) (call : Call) (room : Option (List ℕ)) (old new : BerthView Entry)
+    (result : Result Answer CallError) : Type 0 where
   pub journal : List Entry
   pub legal : IsLegal journal
   pub later : IsPrefix old.seen journal

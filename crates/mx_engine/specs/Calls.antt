@@ -19,7 +19,8 @@ entries_added journal caller room call = map (entry_of room caller) (added (reco
 -- The room's shard was found at some legal journal, which begins with all that the caller had seen. The answer is that of
 -- a server that hosts the room alone, and the caller has then seen that journal, and behind it, with the caller's number,
 -- what the call made the room keep.
-pub record IsAnswered (caller : ℕ) (call : Call) (room : List ℕ) (old new : List (BerthView Entry)) (told : Answer) : Type 0 where
+pub record IsAnswered (caller : ℕ) (call : Call) (room : List ℕ) (old new : List (BerthView Entry))
+    (told : Answer) : Type 0 where
   pub journal : List Entry
   pub legal : IsLegal journal
   pub later : IsPrefix (view_at old (place_number (length old) room)).seen journal
@@ -49,7 +50,8 @@ IsAsked caller call (Some room) old new told = IsAnswered caller call room old n
 IsAsked caller call None old new told = IsShownBy call new told
 
 -- What the caller has now seen of the shard with this number is legal, and what was read is of the rooms that it makes.
-pub record IsRead {A : Type 0} (Gives : List RoomView → A → Type 0) (views : List (BerthView Entry)) (n : ℕ) (told : A) : Type 0 where
+pub record IsRead {A : Type 0} (Gives : List RoomView → A → Type 0) (views : List (BerthView Entry)) (n : ℕ)
+    (told : A) : Type 0 where
   pub rooms : List RoomView
   pub legal : IsLegal (view_at views n).seen
   pub are : AreRoomsOf (view_at views n).seen rooms

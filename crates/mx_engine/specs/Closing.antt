@@ -37,7 +37,8 @@ module _ {E : Type 0} where
 -- ---- for private clauses
 
 -- the first berth of a dock that was opened with a value of this journal and this place
-pub record IsDockOpened {T E : Type 0} (journal : List E) (at : PlaceView) (dock : Dock T E) (berth : Berth T E) : Type 0 where
+pub record IsDockOpened {T E : Type 0} (journal : List E) (at : PlaceView) (dock : Dock T E)
+    (berth : Berth T E) : Type 0 where
   pub mine : IsBerthOf dock berth
   pub away : holds berth ≡ false
   pub numbered : number berth ≡ 1
@@ -48,20 +49,24 @@ pub record IsDockOpened {T E : Type 0} (journal : List E) (at : PlaceView) (dock
   pub nothing : (own berth).added ≡ []
 
 -- the first caller's berths, of which so many berths were made at each dock; it has added nothing
-pub record AreFirst {T E : Type 0} (journals : List (List E)) (docks : List (CachePadded (Dock T E))) (made : ℕ) (berths : List (Berth T E)) : Type 0 where
+pub record AreFirst {T E : Type 0} (journals : List (List E)) (docks : List (CachePadded (Dock T E))) (made : ℕ)
+    (berths : List (Berth T E)) : Type 0 where
   pub seated : AreBerthsAt docks 1 berths
   pub new : IsNew journals (views_of berths)
   pub counted : (n : ℕ) → n < length docks → (view_at (views_of berths) n).made ≡ made
 
 -- a caller's berths; it has added nothing
-pub record AreNext {T E : Type 0} (journals : List (List E)) (docks : List (CachePadded (Dock T E))) (caller : ℕ) (berths : List (Berth T E)) : Type 0 where
+pub record AreNext {T E : Type 0} (journals : List (List E)) (docks : List (CachePadded (Dock T E))) (caller : ℕ)
+    (berths : List (Berth T E)) : Type 0 where
   pub seated : AreBerthsAt docks caller berths
   pub new : IsNew journals (views_of berths)
 
 -- the first caller's berths, and with each the berths that other callers have given back, who know this
-pub record AreGathered {T E : Type 0} (docks : List (CachePadded (Dock T E))) (berths : List (Berth T E)) (known : List (List (BerthView E))) : Type 0 where
+pub record AreGathered {T E : Type 0} (docks : List (CachePadded (Dock T E))) (berths : List (Berth T E))
+    (known : List (List (BerthView E))) : Type 0 where
   pub same : length berths ≡ length docks
-  pub first : (n : ℕ) (d : CachePadded (Dock T E)) (b : Berth T E) → n < length docks → IsFirstOf (padded_value (get_or docks n d)) (get_or berths n b)
+  pub first : (n : ℕ) (d : CachePadded (Dock T E)) (b : Berth T E) → n < length docks
+      → IsFirstOf (padded_value (get_or docks n d)) (get_or berths n b)
   pub away : (n : ℕ) (b : Berth T E) → n < length docks → holds (get_or berths n b) ≡ false
   pub given : (n : ℕ) (b : Berth T E) → n < length docks → given_back (get_or berths n b) ≡ known_at known n
 
@@ -74,7 +79,8 @@ pub record IsAllBack {T E : Type 0} (at : PlaceView) (dock : Dock T E) (berth : 
   pub each : HasEach (made berth) (own berth ∷ given_back berth)
 
 -- so at each dock, where the others know this
-pub record AreAllBack {T E : Type 0} (docks : List (CachePadded (Dock T E))) (berths : List (Berth T E)) (known : List (List (BerthView E))) : Type 0 where
+pub record AreAllBack {T E : Type 0} (docks : List (CachePadded (Dock T E))) (berths : List (Berth T E))
+    (known : List (List (BerthView E))) : Type 0 where
   pub some : 0 < length docks
   pub few : length docks ≤ 64
   pub same : length berths ≡ length docks

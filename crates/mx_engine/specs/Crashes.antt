@@ -39,20 +39,25 @@ use Rattle.mx_engine.specs.declared.docked.DockedBook.{DockedBook}
 
 -- what lies in the dock of a shard, and what the dock's passes know: each berth has one
 abbrev pub IsShardDock : {K : Type 0} → List (DockedShard K) → List (PassView Entry) → Type 0
-IsShardDock lying passes = Docked (λ docked. docked.shard.value.journal) (λ entry. entry.caller) (λ docked. place_code docked.shard.value.place) lying passes
+IsShardDock lying passes =
+    Docked (λ docked. docked.shard.value.journal) (λ entry. entry.caller) (λ docked. place_code docked.shard.value.place)
+    lying passes
 
 abbrev pub IsBookDock : {L : Type 0} → List (DockedBook L) → List (PassView BookEntry) → Type 0
-IsBookDock lying passes = Docked (λ docked. docked.book.value.journal) book_caller (λ docked. place_code docked.book.value.place) lying passes
+IsBookDock lying passes =
+    Docked (λ docked. docked.book.value.journal) book_caller (λ docked. place_code docked.book.value.place) lying passes
 
 module _ {E : Type 0} where
   -- so it is of what the owner of each berth has seen, the berths that were given back among them
   abbrev pub AllSeen : (List E → Type 0) → List (PassView E) → Type 0
-  AllSeen Fact passes = Each (λ _ pass. pass.is_live ≡ true → Fact pass.own.seen × All (λ berth. Fact berth.seen) pass.joined) passes
+  AllSeen Fact passes = Each
+      (λ _ pass. pass.is_live ≡ true → Fact pass.own.seen × All (λ berth. Fact berth.seen) pass.joined) passes
 
   -- the value is out with a berth, and had this journal when it was taken
   abbrev pub IsOutWith : List E → List (PassView E) → Type 0
   IsOutWith journal passes =
-      (n : ℕ) × (pass : PassView E) × (get_elem? passes n ≡ some pass) × (pass.is_live ≡ true) × (pass.holds ≡ true) × (pass.own.seen ≡ journal)
+      (n : ℕ) × (pass : PassView E) × (get_elem? passes n ≡ some pass) × (pass.is_live ≡ true) × (pass.holds ≡ true)
+      × (pass.own.seen ≡ journal)
 
 -- The shard lies in its dock.
 pub record IsShardInDock {K : Type 0} (shard : ShardView K) (passes : List (PassView Entry)) : Type 0 where
@@ -78,7 +83,8 @@ pub record IsBookOut {L : Type 0} (book : BookView L) (passes : List (PassView B
 
 -- while the keeper is honest, nothing but these rows
 abbrev pub LeavesOnly : {K Row : Type 0} → (K → Type 0) → (K → Option (List Row) → Type 0) → K → List Row → Type 0
-LeavesOnly {Row = Row} is_honest may_leave keeper rows = is_honest keeper → (left : Option (List Row)) → may_leave keeper left → left ≡ Some rows
+LeavesOnly {Row = Row} is_honest may_leave keeper rows = is_honest keeper → (left : Option (List Row))
+    → may_leave keeper left → left ≡ Some rows
 
 -- of a shard the rows of its journal; of one that is refused for storage maybe these and the row of one entry that a
 -- refused call tried to add
@@ -101,7 +107,8 @@ LeavesBook is_honest may_leave book =
 
 -- An exit of a call of a shard that would add these entries: a crash leaves what it might have left before the call, or
 -- the rows with theirs. Where the shard is refused then, its journal stayed.
-pub record IsShardExit {K : Type 0} (is_honest : K → Type 0) (may_leave : K → Option (List ShardRow) → Type 0) (entries : List Entry) (old new : ShardView K) : Type 0 where
+pub record IsShardExit {K : Type 0} (is_honest : K → Type 0) (may_leave : K → Option (List ShardRow) → Type 0)
+    (entries : List Entry) (old new : ShardView K) : Type 0 where
   pub few : length entries ≤ 1
   pub refused : new.is_refused ≡ true → new.journal ≡ old.journal
   pub honest : is_honest new.keeper → is_honest old.keeper
@@ -110,13 +117,16 @@ pub record IsShardExit {K : Type 0} (is_honest : K → Type 0) (may_leave : K �
 
 -- An exit of a call of a book: a crash leaves what it might have left before the call, or the rows with that of a reply to
 -- a transaction that was begun. Where the book is refused then, its journal stayed, or such a transaction was given up.
-pub record IsBookExit {L : Type 0} (is_honest : L → Type 0) (may_leave : L → Option (List BookRow) → Type 0) (old new : BookView L) : Type 0 where
+pub record IsBookExit {L : Type 0} (is_honest : L → Type 0) (may_leave : L → Option (List BookRow) → Type 0)
+    (old new : BookView L) : Type 0 where
   pub refused : new.is_refused ≡ true → (new.journal ≡ old.journal)
-      ⊎ ((key : TransactionKey) × (caller : ℕ) × (hold_of old.journal key ≡ begun caller) × (new.journal ≡ old.journal ++ entry.GivenUp key caller ∷ []))
+      ⊎ ((key : TransactionKey) × (caller : ℕ) × (hold_of old.journal key ≡ begun caller)
+      × (new.journal ≡ old.journal ++ entry.GivenUp key caller ∷ []))
   pub honest : is_honest new.keeper → is_honest old.keeper
   pub crash : is_honest new.keeper → (left : Option (List BookRow)) → may_leave new.keeper left
       → may_leave old.keeper left
-      ⊎ ((key : TransactionKey) × (caller : ℕ) × (reply : List ℕ) × (hold_of old.journal key ≡ begun caller) × (left ≡ Some (stored_replies (old.journal ++ entry.Kept key caller reply ∷ []))))
+      ⊎ ((key : TransactionKey) × (caller : ℕ) × (reply : List ℕ) × (hold_of old.journal key ≡ begun caller)
+      × (left ≡ Some (stored_replies (old.journal ++ entry.Kept key caller reply ∷ []))))
 
 module _ {V : Type 0} where
   -- what a value was after each of some calls, one after the other; what always holds of a value holds of each
@@ -137,11 +147,14 @@ module _ {V : Type 0} where
     pub calls : AreExits is_sound IsExit first later
     pub last : last_of first later ≡ value
 
-abbrev pub IsSharedShard : {K : Type 0} → (K → Type 0) → (K → Type 0) → (K → Option (List ShardRow)) → (K → Option (List ShardRow) → Type 0) → ShardView K → Type 0
+abbrev pub IsSharedShard : {K : Type 0} → (K → Type 0) → (K → Type 0) → (K → Option (List ShardRow))
+    → (K → Option (List ShardRow) → Type 0) → ShardView K → Type 0
 IsSharedShard is_honest is_open read may_leave =
-    IsShared (IsSoundShard is_honest is_open read) (λ shard. shard.is_refused ≡ false) (λ old new. (entries : List Entry) × IsShardExit is_honest may_leave entries old new)
+    IsShared (IsSoundShard is_honest is_open read) (λ shard. shard.is_refused ≡ false)
+    (λ old new. (entries : List Entry) × IsShardExit is_honest may_leave entries old new)
 
-abbrev pub IsSharedBook : {L : Type 0} → (L → Type 0) → (L → Type 0) → (L → Option (List BookRow)) → (L → Option (List BookRow) → Type 0) → BookView L → Type 0
+abbrev pub IsSharedBook : {L : Type 0} → (L → Type 0) → (L → Type 0) → (L → Option (List BookRow))
+    → (L → Option (List BookRow) → Type 0) → BookView L → Type 0
 IsSharedBook is_honest is_open read may_leave =
     IsShared (IsSoundBook is_honest is_open read) (λ book. book.is_refused ≡ false) (IsBookExit is_honest may_leave)
 
@@ -188,20 +201,25 @@ seen_of_book books key = (view_at books (book_number books key)).seen
 pub record Remembers (seen journal : List Entry) : Type 0 where
   pub entries : IsPrefix seen journal
   pub records : (room : List ℕ) → IsPrefix (record_of seen room) (record_of journal room)
-  pub events : (room id : List ℕ) (verdict : Verdict) → IsKeptAs (record_of seen room) id verdict → IsKeptAs (record_of journal room) id verdict
+  pub events : (room id : List ℕ) (verdict : Verdict) → IsKeptAs (record_of seen room) id verdict
+      → IsKeptAs (record_of journal room) id verdict
 
 -- A shard that is opened again over what was left remembers what was seen, where its ids are those that are worked out of
 -- its events.
-abbrev pub ShardRemembers : {K : Type 0} → (K → Type 0) → (K → Type 0) → (K → Option (List ShardRow)) → (K → Option (List ShardRow) → Type 0) → Option (List ShardRow) → List Entry → Type 0
+abbrev pub ShardRemembers : {K : Type 0} → (K → Type 0) → (K → Type 0) → (K → Option (List ShardRow))
+    → (K → Option (List ShardRow) → Type 0) → Option (List ShardRow) → List Entry → Type 0
 ShardRemembers {K = K} is_ready is_honest read may_leave left seen =
-    AreWorkedOut seen → (keeper : K) (opened : ShardView K) → read keeper ≡ left → IsReopenedShard is_ready is_honest read may_leave keeper opened
+    AreWorkedOut seen → (keeper : K) (opened : ShardView K) → read keeper ≡ left
+    → IsReopenedShard is_ready is_honest read may_leave keeper opened
     → is_honest opened.keeper → Remembers seen opened.journal
 
 -- A book that is opened again over what was left has each reply that was seen as kept.
-abbrev pub BookRemembers : {L : Type 0} → (L → Type 0) → (L → Type 0) → (L → Option (List BookRow)) → (L → Option (List BookRow) → Type 0) → Option (List BookRow) → List BookEntry → Type 0
+abbrev pub BookRemembers : {L : Type 0} → (L → Type 0) → (L → Type 0) → (L → Option (List BookRow))
+    → (L → Option (List BookRow) → Type 0) → Option (List BookRow) → List BookEntry → Type 0
 BookRemembers {L = L} is_ready is_honest read may_leave left seen =
     (keeper : L) (opened : BookView L) → read keeper ≡ left → IsReopenedBook is_ready is_honest read may_leave keeper opened
-    → is_honest opened.keeper → (key : TransactionKey) (reply : List ℕ) → hold_of seen key ≡ kept reply → hold_of opened.journal key ≡ kept reply
+    → is_honest opened.keeper → (key : TransactionKey) (reply : List ℕ) → hold_of seen key ≡ kept reply
+    → hold_of opened.journal key ≡ kept reply
 
 -- So it is of what a caller has seen of each shard, and of each book, of a server.
 pub record ShardsRemember {K : Type 0} (seen : List (BerthView Entry)) (shards : List (ShardView K)) : Type 0 where
@@ -213,4 +231,5 @@ pub record BooksRemember {L : Type 0} (seen : List (BerthView BookEntry)) (books
   pub some : 0 < length books
   pub same : length seen ≡ length books
   pub each : (n : ℕ) (d : BookView L) → n < length books
-      → (key : TransactionKey) (reply : List ℕ) → hold_of (view_at seen n).seen key ≡ kept reply → hold_of (get_or books n d).journal key ≡ kept reply
+      → (key : TransactionKey) (reply : List ℕ) → hold_of (view_at seen n).seen key ≡ kept reply
+      → hold_of (get_or books n d).journal key ≡ kept reply

@@ -67,7 +67,8 @@ module _ {K : Type 0} where
   pub record IsSeated (docks : List (CachePadded (Dock (DockedShard K) Entry))) (caller : ℕ) (job : Job K) : Type 0 where
     pub within : job.place.number < length docks
     pub counted : job.place.count ≡ length docks
-    pub berth : (d : CachePadded (Dock (DockedShard K) Entry)) → IsBerthAt job.place (padded_value (get_or docks job.place.number d)) caller job.berth
+    pub berth : (d : CachePadded (Dock (DockedShard K) Entry))
+        → IsBerthAt job.place (padded_value (get_or docks job.place.number d)) caller job.berth
 
   -- the job of the dock with this number, of so many, before it is run
   pub record IsFresh (n count : ℕ) (is_busy : Bool) (berth : Berth (DockedShard K) Entry) (job : Job K) : Type 0 where
@@ -78,7 +79,8 @@ module _ {K : Type 0} where
     pub faultless : job.fault ≡ None
 
   -- nothing is told yet; where it is not busy, no event is of its shard
-  pub record IsReady (docks : List (CachePadded (Dock (DockedShard K) Entry))) (caller : ℕ) (events : List Offered) (job : Job K) : Type 0 where
+  pub record IsReady (docks : List (CachePadded (Dock (DockedShard K) Entry))) (caller : ℕ) (events : List Offered)
+      (job : Job K) : Type 0 where
     pub seated : IsSeated docks caller job
     pub untold : job.told.items ≡ []
     pub faultless : job.fault ≡ None
@@ -96,7 +98,8 @@ module _ {K : Type 0} where
   IsDone caller origin events old job (Some fault) = SomeOfferedThere caller origin events old (own job.berth)
 
   -- the events of the job's shard were offered in their order, up to the first fault
-  pub record IsRun (docks : List (CachePadded (Dock (DockedShard K) Entry))) (caller : ℕ) (origin : List ℕ) (events : List Offered) (old new : Job K) : Type 0 where
+  pub record IsRun (docks : List (CachePadded (Dock (DockedShard K) Entry))) (caller : ℕ) (origin : List ℕ)
+      (events : List Offered) (old new : Job K) : Type 0 where
     pub seated : IsSeated docks caller new
     pub placed : new.place ≡ old.place
     pub same : IsSameView (own old.berth) (own new.berth)
@@ -104,26 +107,31 @@ module _ {K : Type 0} where
 
   -- the jobs are those of the docks, in their order
   abbrev pub AreInOrder : List (CachePadded (Dock (DockedShard K) Entry)) → List (Job K) → Type 0
-  AreInOrder docks jobs = (n : ℕ) (d : Job K) → n < length jobs → (get_or jobs n d).place ≡ record { number = n; count = length docks }
+  AreInOrder docks jobs = (n : ℕ) (d : Job K) → n < length jobs
+      → (get_or jobs n d).place ≡ record { number = n; count = length docks }
 
   -- a job with one of these berths, before it is run
-  pub record IsReadyAt (docks : List (CachePadded (Dock (DockedShard K) Entry))) (caller : ℕ) (events : List Offered) (berths : List (Berth (DockedShard K) Entry)) (job : Job K) : Type 0 where
+  pub record IsReadyAt (docks : List (CachePadded (Dock (DockedShard K) Entry))) (caller : ℕ) (events : List Offered)
+      (berths : List (Berth (DockedShard K) Entry)) (job : Job K) : Type 0 where
     pub ready : IsReady docks caller events job
     pub known : own job.berth ≡ view_at (views_of berths) job.place.number
 
   -- and after
-  pub record IsOver (docks : List (CachePadded (Dock (DockedShard K) Entry))) (caller : ℕ) (origin : List ℕ) (events : List Offered) (berths : List (Berth (DockedShard K) Entry)) (job : Job K) : Type 0 where
+  pub record IsOver (docks : List (CachePadded (Dock (DockedShard K) Entry))) (caller : ℕ) (origin : List ℕ)
+      (events : List Offered) (berths : List (Berth (DockedShard K) Entry)) (job : Job K) : Type 0 where
     pub seated : IsSeated docks caller job
     pub same : IsSameView (view_at (views_of berths) job.place.number) (own job.berth)
     pub done : IsDone caller origin (events_at job.place events) (view_at (views_of berths) job.place.number) job job.fault
 
   -- so of all jobs, each in its place
-  pub record AreReady (docks : List (CachePadded (Dock (DockedShard K) Entry))) (caller : ℕ) (events : List Offered) (berths : List (Berth (DockedShard K) Entry)) (jobs : List (Job K)) : Type 0 where
+  pub record AreReady (docks : List (CachePadded (Dock (DockedShard K) Entry))) (caller : ℕ) (events : List Offered)
+      (berths : List (Berth (DockedShard K) Entry)) (jobs : List (Job K)) : Type 0 where
     pub long : length jobs ≡ length docks
     pub ordered : AreInOrder docks jobs
     pub each : All (IsReadyAt docks caller events berths) jobs
 
-  pub record AreOver (docks : List (CachePadded (Dock (DockedShard K) Entry))) (caller : ℕ) (origin : List ℕ) (events : List Offered) (berths : List (Berth (DockedShard K) Entry)) (jobs : List (Job K)) : Type 0 where
+  pub record AreOver (docks : List (CachePadded (Dock (DockedShard K) Entry))) (caller : ℕ) (origin : List ℕ)
+      (events : List Offered) (berths : List (Berth (DockedShard K) Entry)) (jobs : List (Job K)) : Type 0 where
     pub long : length jobs ≡ length docks
     pub ordered : AreInOrder docks jobs
     pub each : All (IsOver docks caller origin events berths) jobs

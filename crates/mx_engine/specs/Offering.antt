@@ -7,7 +7,8 @@ use Rattle.mx_engine.specs.Views.{BerthView, AddsNothing}
 use Rattle.mx_engine.specs.Transactions.{AreOffered}
 
 -- some first ones were offered, and of the others none was kept
-pub record FirstOffered (caller : ℕ) (origin : List ℕ) (events : List Offered) (old new : List (BerthView Entry)) : Type 0 where
+pub record FirstOffered (caller : ℕ) (origin : List ℕ) (events : List Offered)
+    (old new : List (BerthView Entry)) : Type 0 where
   pub first : List Offered
   pub others : List Offered
   pub are : events ≡ first ++ others

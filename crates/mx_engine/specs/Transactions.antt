@@ -20,12 +20,14 @@ use Rattle.mx_engine.specs.declared.replies.TransactionReply.TheVariants as repl
 -- ---- its events
 
 -- One event was offered: as of any call of a room, what is told of it is what a server says that hosts the room alone.
-pub record IsOffered (caller : ℕ) (origin : List ℕ) (o : Offered) (old new : List (BerthView Entry)) (told : Told) : Type 0 where
+pub record IsOffered (caller : ℕ) (origin : List ℕ) (o : Offered) (old new : List (BerthView Entry))
+    (told : Told) : Type 0 where
   pub journal : List Entry
   pub legal : IsLegal journal
   pub later : IsPrefix (view_at old (place_number (length old) (room_of o.pdu))).seen journal
   pub outcome : told ≡ told_of (record_of journal) origin o
-  pub seen : new ≡ turned old (place_number (length old) (room_of o.pdu)) journal (entries_added journal caller (room_of o.pdu) (to_offer origin o))
+  pub seen : new ≡ turned old (place_number (length old) (room_of o.pdu)) journal
+      (entries_added journal caller (room_of o.pdu) (to_offer origin o))
 
 -- each event was offered once, in their order
 abbrev pub AreOffered : ℕ → List ℕ → List Offered → List (BerthView Entry) → List (BerthView Entry) → List Told → Type 0
@@ -40,7 +42,8 @@ abbrev pub events_at : PlaceView → List Offered → List Offered
 events_at place events = filter (λ o. is_at place (room_of o.pdu)) events
 
 -- one event was offered, by what is known of its room's shard alone
-pub record IsOfferedThere (caller : ℕ) (origin : List ℕ) (o : Offered) (old new : BerthView Entry) (told : Told) : Type 0 where
+pub record IsOfferedThere (caller : ℕ) (origin : List ℕ) (o : Offered) (old new : BerthView Entry)
+    (told : Told) : Type 0 where
   pub journal : List Entry
   pub legal : IsLegal journal
   pub later : IsPrefix old.seen journal
@@ -51,7 +54,8 @@ pub record IsOfferedThere (caller : ℕ) (origin : List ℕ) (o : Offered) (old 
 abbrev pub AreOfferedThere : ℕ → List ℕ → List Offered → BerthView Entry → BerthView Entry → List Told → Type 0
 AreOfferedThere caller origin [] old new [] = new ≡ old
 AreOfferedThere caller origin (o ∷ os) old new (t ∷ ts) =
-    (between : BerthView Entry) × IsOfferedThere caller origin o old between t × AreOfferedThere caller origin os between new ts
+    (between : BerthView Entry) × IsOfferedThere caller origin o old between t
+    × AreOfferedThere caller origin os between new ts
 AreOfferedThere caller origin [] old new (t ∷ ts) = ⊥
 AreOfferedThere caller origin (o ∷ os) old new [] = ⊥
 
@@ -66,9 +70,12 @@ pub record SomeOfferedThere (caller : ℕ) (origin : List ℕ) (events : List Of
   pub nothing : AddsNothingThere between new
 
 -- So it was at each shard, of the events of its rooms: shards go side by side, and each stops at its own first fault.
-pub record SomeOffered (caller : ℕ) (origin : List ℕ) (events : List Offered) (old new : List (BerthView Entry)) : Type 0 where
+pub record SomeOffered (caller : ℕ) (origin : List ℕ) (events : List Offered)
+    (old new : List (BerthView Entry)) : Type 0 where
   pub long : length new ≡ length old
-  pub each : (n : ℕ) → n < length old → SomeOfferedThere caller origin (events_at (record { number = n; count = length old }) events) (view_at old n) (view_at new n)
+  pub each : (n : ℕ) → n < length old
+      → SomeOfferedThere caller origin (events_at (record { number = n; count = length old }) events) (view_at old n)
+      (view_at new n)
 
 -- ---- its book
 
@@ -83,7 +90,8 @@ pub record IsFound (books : List (BerthView BookEntry)) (p : TransactionKey) (jo
 
 -- The book was found with the transaction free, and it was begun; later the book was found again, with the transaction
 -- begun by this caller and not ended, and this entry ended it.
-pub record IsBegunAndEnded (caller : ℕ) (p : TransactionKey) (end_ : BookEntry) (old new : List (BerthView BookEntry)) : Type 0 where
+pub record IsBegunAndEnded (caller : ℕ) (p : TransactionKey) (end_ : BookEntry)
+    (old new : List (BerthView BookEntry)) : Type 0 where
   pub journal : List BookEntry
   pub found : IsFound old p journal
   pub is_free : hold_of journal p ≡ free
@@ -96,7 +104,9 @@ pub record IsBegunAndEnded (caller : ℕ) (p : TransactionKey) (end_ : BookEntry
 
 -- The reply: the one that is kept, and no shard is asked; or that it is begun and not ended; or, of what is free, the
 -- reply that its events call for, which is kept from then on.
-abbrev pub IsReplied : ℕ → TransactionKey → List Offered → (shards : List (BerthView Entry)) → (books : List (BerthView BookEntry)) → (shards' : List (BerthView Entry)) → (books' : List (BerthView BookEntry)) → TransactionReply → Type 0
+abbrev pub IsReplied : ℕ → TransactionKey → List Offered → (shards : List (BerthView Entry))
+    → (books : List (BerthView BookEntry)) → (shards' : List (BerthView Entry)) → (books' : List (BerthView BookEntry))
+    → TransactionReply → Type 0
 IsReplied caller p events shards books shards' books' (reply.Replayed body) =
     (journal : List BookEntry) × IsFound books p journal × (hold_of journal p ≡ kept body)
     × (books' ≡ turned books (book_number books p) journal []) × (shards' ≡ shards)
@@ -109,7 +119,9 @@ IsReplied caller p events shards books shards' books' (reply.Closed body) =
 
 -- A refusal: before the transaction was begun, and nothing was added; or it was begun, and then it was given up, and the
 -- events that were kept stay.
-abbrev pub IsRefused : ℕ → TransactionKey → List Offered → (shards : List (BerthView Entry)) → (books : List (BerthView BookEntry)) → (shards' : List (BerthView Entry)) → (books' : List (BerthView BookEntry)) → Type 0
+abbrev pub IsRefused : ℕ → TransactionKey → List Offered → (shards : List (BerthView Entry))
+    → (books : List (BerthView BookEntry)) → (shards' : List (BerthView Entry)) → (books' : List (BerthView BookEntry))
+    → Type 0
 IsRefused caller p events shards books shards' books' =
     (AddsNothing books books' × (shards' ≡ shards))
     ⊎ (SomeOffered caller p.origin events shards shards' × IsBegunAndEnded caller p (GivenUp p caller) books books')

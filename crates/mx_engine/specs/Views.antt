@@ -27,12 +27,28 @@ module _ {E : Type 0} where
 
   -- nothing was added at one dock; more may have been seen
   abbrev pub AddsNothingThere : BerthView E → BerthView E → Type 0
-  AddsNothingThere old new = (journal : List E) × IsPrefix old.seen journal × (new ≡ record { number = old.number; seen = journal; added = old.added; opening = old.opening; made = old.made; place = old.place })
+  AddsNothingThere old new = (journal : List E) × IsPrefix old.seen journal
+      × (new ≡ record {
+        number = old.number;
+        seen = journal;
+        added = old.added;
+        opening = old.opening;
+        made = old.made;
+        place = old.place;
+      })
 
   -- so at each dock
   pub record AddsNothing (old new : List (BerthView E)) : Type 0 where
     pub long : length new ≡ length old
-    pub each : (n : ℕ) → (journal : List E) × IsPrefix (view_at old n).seen journal × (view_at new n ≡ record { number = (view_at old n).number; seen = journal; added = (view_at old n).added; opening = (view_at old n).opening; made = (view_at old n).made; place = (view_at old n).place })
+    pub each : (n : ℕ) → (journal : List E) × IsPrefix (view_at old n).seen journal
+        × (view_at new n ≡ record {
+          number = (view_at old n).number;
+          seen = journal;
+          added = (view_at old n).added;
+          opening = (view_at old n).opening;
+          made = (view_at old n).made;
+          place = (view_at old n).place;
+        })
 
   -- what no call changes of what a caller knows
   pub record IsSameView (old new : BerthView E) : Type 0 where

@@ -32,8 +32,11 @@ pub(crate) fn ask_each<R: Wait, K: Keeper<Row = ShardRow>, G: Gate>(
     ensures seated { AreBerthsAt docks.now caller berths.new.items }
     ensures same { AreSameViews (views_of berths.old.items) (views_of berths.new.items) }
     ensures nothing { AddsNothing (views_of berths.old.items) (views_of berths.new.items) }
-    ensures shown { IfOk result (IsShownBy (to_ask question.now.origin.now question.now.moment question.now.query.now) (views_of berths.new.items)) }
-    ensures storage { result ≡ Err CallError.Storage → IsRefusedBySome (to_ask question.now.origin.now question.now.moment question.now.query.now) (views_of berths.new.items) }
+    ensures shown { IfOk result
+        (IsShownBy (to_ask question.now.origin.now question.now.moment question.now.query.now) (views_of berths.new.items)) }
+    ensures storage { result ≡ Err CallError.Storage
+        → IsRefusedBySome (to_ask question.now.origin.now question.now.moment question.now.query.now)
+        (views_of berths.new.items) }
 {
     let mut is_refused = false;
     for number in 0..docks.len() {
@@ -85,7 +88,8 @@ fn ask_one<R: Wait, K: Keeper<Row = ShardRow>, G: Gate>(
     requires berth { IsBerthAt place dock.now caller berth.old }
     requires alone { room_named question.now.query.now ≡ None }
     ensures berth { IsBerthAt place dock.now caller berth.new }
-    ensures turn { IsAskTurn (to_ask question.now.origin.now question.now.moment question.now.query.now) (own berth.old) (own berth.new) result }
+    ensures turn { IsAskTurn (to_ask question.now.origin.now question.now.moment question.now.query.now) (own berth.old)
+        (own berth.new) result }
 {
     let call = ShardCall::Ask(question);
     let answer = call_at(rt, gate, place, dock, berth, caller, &call)?;

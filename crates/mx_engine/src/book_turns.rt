@@ -30,7 +30,8 @@ pub(crate) fn begin_transaction<R: Wait, L: Keeper<Row = BookRow>>(
     ensures seated { AreBerthsAt docks.now caller berths.new.items }
     ensures same { AreSameViews (views_of berths.old.items) (views_of berths.new.items) }
     ensures opened { IsOpenedIn caller key.now (views_of berths.old.items) (views_of berths.new.items) result }
-    ensures begun { IfOk result (λ opening. opening ≡ Opening.Fresh → HasBegunIn caller key.now (views_of berths.new.items)) }
+    ensures begun { IfOk result
+        (λ opening. opening ≡ Opening.Fresh → HasBegunIn caller key.now (views_of berths.new.items)) }
 {
     let place = Place::of(key.origin.as_str(), docks.len());
     let number = place.number();
@@ -52,8 +53,10 @@ pub(crate) fn keep_reply<R: Wait, L: Keeper<Row = BookRow>>(
     requires begun { HasBegunIn caller key.now (views_of berths.old.items) }
     ensures seated { AreBerthsAt docks.now caller berths.new.items }
     ensures same { AreSameViews (views_of berths.old.items) (views_of berths.new.items) }
-    ensures kept { OnOk result (IsEndedIn caller key.now (Kept key.now caller reply) (views_of berths.old.items) (views_of berths.new.items)) }
-    ensures given_up { OnErr result (IsEndedIn caller key.now (GivenUp key.now caller) (views_of berths.old.items) (views_of berths.new.items)) }
+    ensures kept { OnOk result
+        (IsEndedIn caller key.now (Kept key.now caller reply) (views_of berths.old.items) (views_of berths.new.items)) }
+    ensures given_up { OnErr result
+        (IsEndedIn caller key.now (GivenUp key.now caller) (views_of berths.old.items) (views_of berths.new.items)) }
 {
     let place = Place::of(key.origin.as_str(), docks.len());
     let number = place.number();
@@ -73,7 +76,8 @@ pub(crate) fn give_up_transaction<R: Wait, L: Keeper<Row = BookRow>>(
     requires begun { HasBegunIn caller key.now (views_of berths.old.items) }
     ensures seated { AreBerthsAt docks.now caller berths.new.items }
     ensures same { AreSameViews (views_of berths.old.items) (views_of berths.new.items) }
-    ensures ended { IsEndedIn caller key.now (GivenUp key.now caller) (views_of berths.old.items) (views_of berths.new.items) }
+    ensures ended { IsEndedIn caller key.now (GivenUp key.now caller) (views_of berths.old.items)
+        (views_of berths.new.items) }
 {
     let place = Place::of(key.origin.as_str(), docks.len());
     let number = place.number();

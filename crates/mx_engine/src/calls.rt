@@ -53,10 +53,12 @@ pub(crate) fn call_in<R: Wait, K: Keeper<Row = ShardRow>, G: Gate>(
     requires room { call_room (call_of call.now) ≡ Some room.now }
     ensures seated { AreBerthsAt docks.now caller berths.new.items }
     ensures same { AreSameViews (views_of berths.old.items) (views_of berths.new.items) }
-    ensures ok { IfOk result (IsAnswered caller (call_of call.now) room.now (views_of berths.old.items) (views_of berths.new.items)) }
+    ensures ok { IfOk result
+        (IsAnswered caller (call_of call.now) room.now (views_of berths.old.items) (views_of berths.new.items)) }
     ensures err { OnErr result (AddsNothing (views_of berths.old.items) (views_of berths.new.items)) }
     // A query adds nothing.
-    ensures asked { (origin : List ℕ) (now : ℕ) (q : QueryOf) → call_of call.now ≡ to_ask origin now q → AddsNothing (views_of berths.old.items) (views_of berths.new.items) }
+    ensures asked { (origin : List ℕ) (now : ℕ) (q : QueryOf) → call_of call.now ≡ to_ask origin now q
+        → AddsNothing (views_of berths.old.items) (views_of berths.new.items) }
 {
     let place = Place::of(room.as_str(), docks.len());
     let number = place.number();
@@ -94,12 +96,15 @@ fn call_shard<K: Keeper<Row = ShardRow>>(
 ) -> Result<Answer, CallError>
     requires { IsHere shard.old.place (call_room (call_of call.now)) }
     ensures reply { IfOk result (IsAnswer (record_of shard.old.journal) (call_of call.now) (call_room (call_of call.now))) }
-    ensures journal { OnOk result (shard.new.journal ≡ shard.old.journal ++ entries_by shard.old.journal caller (call_of call.now) (call_room (call_of call.now))) }
+    ensures journal { OnOk result
+        (shard.new.journal ≡ shard.old.journal ++ entries_by shard.old.journal caller (call_of call.now)
+        (call_room (call_of call.now))) }
     ensures err { OnErr result (shard.new.journal ≡ shard.old.journal) }
     ensures place { shard.new.place ≡ shard.old.place }
     // At each exit a crash leaves what it might have left before the call, or the rows with those of the entries that the
     // call adds; after `Ok` the rows of the journal.
-    ensures crash { IsShardExit K.is_honest K.may_leave (entries_by shard.old.journal caller (call_of call.now) (call_room (call_of call.now))) shard.old shard.new }
+    ensures crash { IsShardExit K.is_honest K.may_leave
+        (entries_by shard.old.journal caller (call_of call.now) (call_room (call_of call.now))) shard.old shard.new }
     ensures durable { OnOk result (LeavesOnly K.is_honest K.may_leave shard.new.keeper (stored shard.new.journal)) }
 {
     match *call {
@@ -121,7 +126,8 @@ pub(crate) fn take_at<R: Wait, T: Docked>(
     berth: &mut Berth<T>,
 ) -> T
     requires { IsBerthAt place dock.now (caller_of berth.old) berth.old }
-    ensures { IsHeld T.is_legal T.caller place dock.now (caller_of berth.old) (own berth.old) berth.new (T.place_of (T.value_of result)) (T.journal_of (T.value_of result)) }
+    ensures { IsHeld T.is_legal T.caller place dock.now (caller_of berth.old) (own berth.old) berth.new
+        (T.place_of (T.value_of result)) (T.journal_of (T.value_of result)) }
 {
     // They are called for what they ensure.
     place.number();

@@ -46,10 +46,14 @@ pub(crate) fn close_all<R: Wait, K: Keeper<Row = ShardRow>, L: Keeper<Row = Book
     ensures books_placed { ArePlaced (book_places result.1.items) }
     ensures legal_shards { All (λ shard. IsLegal shard.journal) result.0.items }
     ensures legal_books { All (λ book. IsTrue (is_legal book.journal)) result.1.items }
-    ensures shards { (n : ℕ) → n < length result.0.items → IsWhole (λ e. e.caller) (view_at (views_of first.shards.items) n).opening
-        (known_at (map (λ seat. views_of seat.shards.items) (first ∷ others.items)) n) (get_or (shard_journals result.0.items) n []) }
-    ensures books { (n : ℕ) → n < length result.1.items → IsWhole book_caller (view_at (views_of first.books.items) n).opening
-        (known_at (map (λ seat. views_of seat.books.items) (first ∷ others.items)) n) (get_or (book_journals result.1.items) n []) }
+    ensures shards { (n : ℕ) → n < length result.0.items
+        → IsWhole (λ e. e.caller) (view_at (views_of first.shards.items) n).opening
+        (known_at (map (λ seat. views_of seat.shards.items) (first ∷ others.items)) n)
+        (get_or (shard_journals result.0.items) n []) }
+    ensures books { (n : ℕ) → n < length result.1.items
+        → IsWhole book_caller (view_at (views_of first.books.items) n).opening
+        (known_at (map (λ seat. views_of seat.books.items) (first ∷ others.items)) n)
+        (get_or (book_journals result.1.items) n []) }
 {
     let mut first = first;
     gather(&shards, &books, &mut first, others);
@@ -113,11 +117,14 @@ fn give_back_seat<K: Keeper<Row = ShardRow>, L: Keeper<Row = BookRow>>(
     other: Seat<K, L>,
 )
     requires first_shards { (known : List (List (BerthView Entry))) × AreGathered shards.now first.old.shards.items known }
-    requires first_books { (known : List (List (BerthView BookEntryOf))) × AreGathered books.now first.old.books.items known }
+    requires first_books { (known : List (List (BerthView BookEntryOf)))
+        × AreGathered books.now first.old.books.items known }
     requires shards { AreBerthsAt shards.now other.number other.shards.items }
     requires books { AreBerthsAt books.now other.number other.books.items }
-    ensures shards { (known : List (List (BerthView Entry))) → AreGathered shards.now first.old.shards.items known → AreGathered shards.now first.new.shards.items (known ++ views_of other.shards.items ∷ []) }
-    ensures books { (known : List (List (BerthView BookEntryOf))) → AreGathered books.now first.old.books.items known → AreGathered books.now first.new.books.items (known ++ views_of other.books.items ∷ []) }
+    ensures shards { (known : List (List (BerthView Entry))) → AreGathered shards.now first.old.shards.items known
+        → AreGathered shards.now first.new.shards.items (known ++ views_of other.shards.items ∷ []) }
+    ensures books { (known : List (List (BerthView BookEntryOf))) → AreGathered books.now first.old.books.items known
+        → AreGathered books.now first.new.books.items (known ++ views_of other.books.items ∷ []) }
     ensures shard_views { views_of first.new.shards.items ≡ views_of first.old.shards.items }
     ensures book_views { views_of first.new.books.items ≡ views_of first.old.books.items }
     ensures lists { (first.new.closed_shards ≡ first.old.closed_shards) × (first.new.closed_books ≡ first.old.closed_books) }
@@ -139,7 +146,8 @@ fn give_back<T: Journaled>(
 )
     requires first { (known : List (List (BerthView T.Entry))) × AreGathered docks.now first.old.items known }
     requires other { (caller : ℕ) × AreBerthsAt docks.now caller berths.items }
-    ensures first { (known : List (List (BerthView T.Entry))) → AreGathered docks.now first.old.items known → AreGathered docks.now first.new.items (known ++ views_of berths.items ∷ []) }
+    ensures first { (known : List (List (BerthView T.Entry))) → AreGathered docks.now first.old.items known
+        → AreGathered docks.now first.new.items (known ++ views_of berths.items ∷ []) }
     ensures views { views_of first.new.items ≡ views_of first.old.items }
 {
     for (number, berth) in berths.into_iter().enumerate() {
@@ -162,8 +170,10 @@ fn close_docks<R: Wait, T: Docked>(
     ensures count { length result.items ≡ length docks.items }
     ensures placed { ArePlaced (map T.place_of result.items) }
     ensures legal { All (λ value. T.is_legal (T.journal_of value)) result.items }
-    ensures whole { (known : List (List (BerthView T.Entry))) → AreAllBack docks.items berths.items known → (n : ℕ) (b : Berth T T.Entry) → n < length docks.items
-        → IsWhole T.caller (opening (get_or berths.items n b)) (own (get_or berths.items n b) ∷ known_at known n) (get_or (map T.journal_of result.items) n []) }
+    ensures whole { (known : List (List (BerthView T.Entry))) → AreAllBack docks.items berths.items known
+        → (n : ℕ) (b : Berth T T.Entry) → n < length docks.items
+        → IsWhole T.caller (opening (get_or berths.items n b)) (own (get_or berths.items n b) ∷ known_at known n)
+        (get_or (map T.journal_of result.items) n []) }
 {
     let mut berths = berths;
     let mut values = list;

@@ -38,16 +38,21 @@ use mx_world::World;
 /// This is said while the shard's keeper is honest, of a shard that was refused for nothing when callers began to share it.
 pub fn shards_outlast_a_crash<K: Keeper<Row = ShardRow>>(shard: &Shard<K>)
     // Between two calls, unless it is refused, nothing is left but the rows of its journal.
-    ensures whole { shard.now.is_refused ≡ false → LeavesOnly K.is_honest K.may_leave shard.now.keeper (stored_events shard.now.journal) }
+    ensures whole { shard.now.is_refused ≡ false
+        → LeavesOnly K.is_honest K.may_leave shard.now.keeper (stored_events shard.now.journal) }
     // So it is of one that is refused, but for one row that a refused call tried to add.
-    ensures shared { IsSharedShard K.is_honest K.is_open K.rows K.may_leave shard.now → LeavesShard K.is_honest K.may_leave shard.now }
+    ensures shared { IsSharedShard K.is_honest K.is_open K.rows K.may_leave shard.now
+        → LeavesShard K.is_honest K.may_leave shard.now }
     // While it lies in its dock its journal begins with all that any caller has seen, and what is left has that.
-    ensures begins { (passes : List (PassView Entry)) → IsShardInDock shard.now passes → AllSeen (λ seen. IsPrefix seen shard.now.journal) passes }
-    ensures in_dock { IsSharedShard K.is_honest K.is_open K.rows K.may_leave shard.now → (passes : List (PassView Entry)) → IsShardInDock shard.now passes
+    ensures begins { (passes : List (PassView Entry)) → IsShardInDock shard.now passes
+        → AllSeen (λ seen. IsPrefix seen shard.now.journal) passes }
+    ensures in_dock { IsSharedShard K.is_honest K.is_open K.rows K.may_leave shard.now → (passes : List (PassView Entry))
+        → IsShardInDock shard.now passes
         → K.is_honest shard.now.keeper → (left : Option (List ShardRow)) → K.may_leave shard.now.keeper left
         → AllSeen (ShardRemembers K.is_ready K.is_honest K.rows K.may_leave left) passes }
     // So it is while a caller has it, at each exit of a call that it makes of the shard as it was taken.
-    ensures in_call { IsSharedShard K.is_honest K.is_open K.rows K.may_leave shard.now → (passes : List (PassView Entry)) → IsShardOut shard.now passes
+    ensures in_call { IsSharedShard K.is_honest K.is_open K.rows K.may_leave shard.now → (passes : List (PassView Entry))
+        → IsShardOut shard.now passes
         → (entries : List Entry) (new : ShardView K) → IsShardExit K.is_honest K.may_leave entries shard.now new
         → K.is_honest new.keeper → (left : Option (List ShardRow)) → K.may_leave new.keeper left
         → AllSeen (ShardRemembers K.is_ready K.is_honest K.rows K.may_leave left) passes }
@@ -60,13 +65,18 @@ pub fn shards_outlast_a_crash<K: Keeper<Row = ShardRow>>(shard: &Shard<K>)
 /// As of [`shards_outlast_a_crash`]. So a book that is opened again over what is left answers a transaction whose reply was
 /// told as kept with that reply.
 pub fn books_outlast_a_crash<L: Keeper<Row = BookRow>>(book: &Book<L>)
-    ensures whole { book.now.is_refused ≡ false → LeavesOnly L.is_honest L.may_leave book.now.keeper (stored_replies book.now.journal) }
-    ensures shared { IsSharedBook L.is_honest L.is_open L.rows L.may_leave book.now → LeavesBook L.is_honest L.may_leave book.now }
-    ensures begins { (passes : List (PassView BookEntry)) → IsBookInDock book.now passes → AllSeen (λ seen. IsPrefix seen book.now.journal) passes }
-    ensures in_dock { IsSharedBook L.is_honest L.is_open L.rows L.may_leave book.now → (passes : List (PassView BookEntry)) → IsBookInDock book.now passes
+    ensures whole { book.now.is_refused ≡ false
+        → LeavesOnly L.is_honest L.may_leave book.now.keeper (stored_replies book.now.journal) }
+    ensures shared { IsSharedBook L.is_honest L.is_open L.rows L.may_leave book.now
+        → LeavesBook L.is_honest L.may_leave book.now }
+    ensures begins { (passes : List (PassView BookEntry)) → IsBookInDock book.now passes
+        → AllSeen (λ seen. IsPrefix seen book.now.journal) passes }
+    ensures in_dock { IsSharedBook L.is_honest L.is_open L.rows L.may_leave book.now → (passes : List (PassView BookEntry))
+        → IsBookInDock book.now passes
         → L.is_honest book.now.keeper → (left : Option (List BookRow)) → L.may_leave book.now.keeper left
         → AllSeen (BookRemembers L.is_ready L.is_honest L.rows L.may_leave left) passes }
-    ensures in_call { IsSharedBook L.is_honest L.is_open L.rows L.may_leave book.now → (passes : List (PassView BookEntry)) → IsBookOut book.now passes
+    ensures in_call { IsSharedBook L.is_honest L.is_open L.rows L.may_leave book.now → (passes : List (PassView BookEntry))
+        → IsBookOut book.now passes
         → (new : BookView L) → IsBookExit L.is_honest L.may_leave book.now new
         → L.is_honest new.keeper → (left : Option (List BookRow)) → L.may_leave new.keeper left
         → AllSeen (BookRemembers L.is_ready L.is_honest L.rows L.may_leave left) passes }
@@ -84,17 +94,27 @@ pub fn books_outlast_a_crash<L: Keeper<Row = BookRow>>(book: &Book<L>)
 /// [`Engine::join`]: crate::Engine::join
 /// [`Engine::transaction`]: crate::Engine::transaction
 pub fn told_as_kept_is_seen()
-    ensures answers { (caller : ℕ) (call : Call) (room : List ℕ) (old new : List (BerthView Entry)) (told : Answer) → 0 < length old → IsAnswered caller call room old new told
+    ensures answers { (caller : ℕ) (call : Call) (room : List ℕ) (old new : List (BerthView Entry)) (told : Answer)
+        → 0 < length old → IsAnswered caller call room old new told
         → (sent : Offered) (verdict : Verdict) → event_sent call ≡ Some sent → verdict_answered told ≡ Some verdict
         → IsKeptAs (record_of (seen_of_room new room) room) sent.id verdict }
     // Of the events of a transaction, by their places.
-    ensures events { (caller : ℕ) (origin : List ℕ) (events : List Offered) (old new : List (BerthView Entry)) (told : List Told) → 0 < length old → AreOffered caller origin events old new told
-        → (n : ℕ) (o : Offered) (t : Told) (verdict : Verdict) → n < length events → verdict_told (get_or told n t).outcome ≡ Some verdict
-        → IsKeptAs (record_of (seen_of_room new (room_of (get_or events n o).pdu)) (room_of (get_or events n o).pdu)) (get_or events n o).id verdict }
-    ensures closed { (caller : ℕ) (key : TransactionKey) (events : List Offered) (shards shards_then : List (BerthView Entry)) (books books_then : List (BerthView BookEntry)) (body : List ℕ) → 0 < length books
-        → IsReplied caller key events shards books shards_then books_then (Closed body) → hold_of (seen_of_book books_then key) key ≡ kept body }
-    ensures replayed { (caller : ℕ) (key : TransactionKey) (events : List Offered) (shards shards_then : List (BerthView Entry)) (books books_then : List (BerthView BookEntry)) (body : List ℕ) → 0 < length books
-        → IsReplied caller key events shards books shards_then books_then (Replayed body) → hold_of (seen_of_book books_then key) key ≡ kept body }
+    ensures events { (caller : ℕ) (origin : List ℕ) (events : List Offered) (old new : List (BerthView Entry))
+        (told : List Told) → 0 < length old → AreOffered caller origin events old new told
+        → (n : ℕ) (o : Offered) (t : Told) (verdict : Verdict) → n < length events
+        → verdict_told (get_or told n t).outcome ≡ Some verdict
+        → IsKeptAs (record_of (seen_of_room new (room_of (get_or events n o).pdu)) (room_of (get_or events n o).pdu))
+        (get_or events n o).id verdict }
+    ensures closed { (caller : ℕ) (key : TransactionKey) (events : List Offered)
+        (shards shards_then : List (BerthView Entry)) (books books_then : List (BerthView BookEntry)) (body : List ℕ)
+        → 0 < length books
+        → IsReplied caller key events shards books shards_then books_then (Closed body)
+        → hold_of (seen_of_book books_then key) key ≡ kept body }
+    ensures replayed { (caller : ℕ) (key : TransactionKey) (events : List Offered)
+        (shards shards_then : List (BerthView Entry)) (books books_then : List (BerthView BookEntry)) (body : List ℕ)
+        → 0 < length books
+        → IsReplied caller key events shards books shards_then books_then (Replayed body)
+        → hold_of (seen_of_book books_then key) key ≡ kept body }
 {}
 
 /// A law: a server that is opened again, whose shards and books have all that a caller had seen, has each event that the
@@ -107,7 +127,9 @@ pub fn reopened_servers_have_what_was_told<K: Keeper<Row = ShardRow>, L: Keeper<
     world: &World<K, L>,
 )
     ensures events { (seen : List (BerthView Entry)) → ShardsRemember seen world.now.shards
-        → (room id : List ℕ) (verdict : Verdict) → IsKeptAs (record_of (seen_of_room seen room) room) id verdict → IsKeptAs (records_in world.now room) id verdict }
+        → (room id : List ℕ) (verdict : Verdict) → IsKeptAs (record_of (seen_of_room seen room) room) id verdict
+        → IsKeptAs (records_in world.now room) id verdict }
     ensures replies { (seen : List (BerthView BookEntry)) → BooksRemember seen world.now.books → IsTrue (none_open world.now)
-        → (key : TransactionKey) (reply : List ℕ) → hold_of (seen_of_book seen key) key ≡ kept reply → status_in world.now key ≡ ended reply }
+        → (key : TransactionKey) (reply : List ℕ) → hold_of (seen_of_book seen key) key ≡ kept reply
+        → status_in world.now key ≡ ended reply }
 {}

@@ -83,9 +83,12 @@ impl<
         ensures length { IfOk result (λ made. length made.1.items ≡ seats) }
         ensures first { IfOk result (λ made. BeginsWithFirstSeat made.1.items) }
         ensures all { IfOk result (λ made. AreAllSeats made.0 made.1.items) }
-        ensures numbers { IfOk result (λ made. (n : ℕ) (d : Seat K L) → n < seats → seat_number (get_or made.1.items n d) ≡ n + 1) }
-        ensures shards { IfOk result (λ made. All (λ seat. IsNew (shard_journals world.shards) (shard_views seat)) made.1.items) }
-        ensures books { IfOk result (λ made. All (λ seat. IsNew (book_journals world.books) (book_views seat)) made.1.items) }
+        ensures numbers { IfOk result
+            (λ made. (n : ℕ) (d : Seat K L) → n < seats → seat_number (get_or made.1.items n d) ≡ n + 1) }
+        ensures shards { IfOk result
+            (λ made. All (λ seat. IsNew (shard_journals world.shards) (shard_views seat)) made.1.items) }
+        ensures books { IfOk result
+            (λ made. All (λ seat. IsNew (book_journals world.books) (book_views seat)) made.1.items) }
         ensures verifier { IfOk result (λ made. verifier_of made.0 ≡ verifier) }
     {
         let (shards, books) = world.into_parts();
@@ -125,7 +128,8 @@ impl<
         ensures seat { IsSeatOf self.now seat.new }
         ensures number { seat_number seat.new ≡ seat_number seat.old }
         ensures same { AreSameViews (shard_views seat.old) (shard_views seat.new) }
-        ensures ok { IfOk result (IsAnswered (seat_number seat.old) (to_host (offer_by (V.judges (verifier_of self.now)) event)) (room_of event)
+        ensures ok { IfOk result
+            (IsAnswered (seat_number seat.old) (to_host (offer_by (V.judges (verifier_of self.now)) event)) (room_of event)
             (shard_views seat.old) (shard_views seat.new)) }
         ensures err { OnErr result (AddsNothing (shard_views seat.old) (shard_views seat.new)) }
         ensures books { book_views seat.new ≡ book_views seat.old }
@@ -154,7 +158,9 @@ impl<
         ensures seat { IsSeatOf self.now seat.new }
         ensures number { seat_number seat.new ≡ seat_number seat.old }
         ensures same { AreSameViews (shard_views seat.old) (shard_views seat.new) }
-        ensures ok { IfOk result (IsAnswered (seat_number seat.old) (to_join origin.now (offer_by (V.judges (verifier_of self.now)) event)) (room_of event)
+        ensures ok { IfOk result
+            (IsAnswered (seat_number seat.old) (to_join origin.now (offer_by (V.judges (verifier_of self.now)) event))
+            (room_of event)
             (shard_views seat.old) (shard_views seat.new)) }
         ensures err { OnErr result (AddsNothing (shard_views seat.old) (shard_views seat.new)) }
         ensures books { book_views seat.new ≡ book_views seat.old }
@@ -213,7 +219,8 @@ impl<
         ensures ok { IfOk result (IsAsked (seat_number seat.old) (to_ask origin.now now query.now) (room_named query.now)
             (shard_views seat.old) (shard_views seat.new)) }
         ensures nothing { AddsNothing (shard_views seat.old) (shard_views seat.new) }
-        ensures storage { room_named query.now ≡ None → result ≡ Err CallError.Storage → IsRefusedBySome (to_ask origin.now now query.now) (shard_views seat.new) }
+        ensures storage { room_named query.now ≡ None → result ≡ Err CallError.Storage
+            → IsRefusedBySome (to_ask origin.now now query.now) (shard_views seat.new) }
         ensures books { book_views seat.new ≡ book_views seat.old }
     {
         let caller = seat.number;
@@ -274,8 +281,10 @@ impl<
         ensures first_number { seat_number first.new ≡ seat_number first.old }
         ensures first_shards { AddsNothing (shard_views first.old) (shard_views first.new) }
         ensures first_books { AddsNothing (book_views first.old) (book_views first.new) }
-        ensures shards_told { (n : ℕ) → IsPrefix (view_at (shard_views second.old) n).seen (view_at (shard_views first.new) n).seen }
-        ensures books_told { (n : ℕ) → IsPrefix (view_at (book_views second.old) n).seen (view_at (book_views first.new) n).seen }
+        ensures shards_told { (n : ℕ)
+            → IsPrefix (view_at (shard_views second.old) n).seen (view_at (shard_views first.new) n).seen }
+        ensures books_told { (n : ℕ)
+            → IsPrefix (view_at (book_views second.old) n).seen (view_at (book_views first.new) n).seen }
         ensures second { IsSeatOf self.now second.new }
         ensures second_number { seat_number second.new ≡ seat_number second.old }
         ensures second_shards { shard_views second.new ≡ shard_views second.old }
@@ -297,10 +306,13 @@ impl<
         requires all { AreAllSeats self seats.items }
         ensures none_open { IsTrue (none_open result) }
         // There are as many shards and books as each seat knows of.
-        ensures counts { All (λ seat. (length (shard_views seat) ≡ length result.shards) × (length (book_views seat) ≡ length result.books)) seats.items }
-        ensures shards { (n : ℕ) → n < length result.shards → IsWhole (λ e. e.caller) (view_at (get_or (map shard_views seats.items) 0 []) n).opening
+        ensures counts { All (λ seat. (length (shard_views seat) ≡ length result.shards)
+            × (length (book_views seat) ≡ length result.books)) seats.items }
+        ensures shards { (n : ℕ) → n < length result.shards
+            → IsWhole (λ e. e.caller) (view_at (get_or (map shard_views seats.items) 0 []) n).opening
             (known_at (map shard_views seats.items) n) (get_or (shard_journals result.shards) n []) }
-        ensures books { (n : ℕ) → n < length result.books → IsWhole book_caller (view_at (get_or (map book_views seats.items) 0 []) n).opening
+        ensures books { (n : ℕ) → n < length result.books
+            → IsWhole book_caller (view_at (get_or (map book_views seats.items) 0 []) n).opening
             (known_at (map book_views seats.items) n) (get_or (book_journals result.books) n []) }
         ensures legal_shards { All (λ shard. IsLegal shard.journal) result.shards }
         ensures legal_books { All (λ book. IsTrue (is_legal book.journal)) result.books }
@@ -342,9 +354,11 @@ impl<
         ensures number { seat_number seat.new ≡ seat_number seat.old }
         ensures same_shards { AreSameViews (shard_views seat.old) (shard_views seat.new) }
         ensures same_books { AreSameViews (book_views seat.old) (book_views seat.new) }
-        ensures ok { IfOk result (IsReplied (seat_number seat.old) key.now (map (offer_by (V.judges (verifier_of self.now))) events.items)
+        ensures ok { IfOk result
+            (IsReplied (seat_number seat.old) key.now (map (offer_by (V.judges (verifier_of self.now))) events.items)
             (shard_views seat.old) (book_views seat.old) (shard_views seat.new) (book_views seat.new)) }
-        ensures err { OnErr result (IsRefused (seat_number seat.old) key.now (map (offer_by (V.judges (verifier_of self.now))) events.items)
+        ensures err { OnErr result
+            (IsRefused (seat_number seat.old) key.now (map (offer_by (V.judges (verifier_of self.now))) events.items)
             (shard_views seat.old) (book_views seat.old) (shard_views seat.new) (book_views seat.new)) }
     {
         let offers = offers_of(alloc, events, &self.verifier)?;

@@ -66,7 +66,8 @@ fn offer_there<R: Wait, K: Keeper<Row = ShardRow>, G: Gate>(
     requires here { IsTrue (is_at place (room_of offered.now.pdu)) }
     ensures berth { IsBerthAt place dock.now sender.now.caller berth.new }
     ensures same { IsSameView (own berth.old) (own berth.new) }
-    ensures ok { IfOk result (IsOfferedThere sender.now.caller sender.now.origin.now offered.now (own berth.old) (own berth.new)) }
+    ensures ok { IfOk result
+        (IsOfferedThere sender.now.caller sender.now.origin.now offered.now (own berth.old) (own berth.new)) }
     ensures err { OnErr result (AddsNothingThere (own berth.old) (own berth.new)) }
 {
     let id = offered.id.clone()?;
@@ -90,9 +91,14 @@ fn offer_in_job<R: Wait, K: Keeper<Row = ShardRow>, G: Gate>(
     requires { IsSeated docks.now sender.now.caller job.old }
     ensures seated { IsSeated docks.now sender.now.caller job.new }
     ensures same { IsSameJob job.old job.new }
-    ensures ok { OnOk result ((later : List ToldOf) × AreOfferedThere sender.now.caller sender.now.origin.now (events_at job.old.place (offered.now ∷ [])) (own job.old.berth) (own job.new.berth) later
+    ensures ok { OnOk result
+        ((later : List ToldOf)
+        × AreOfferedThere sender.now.caller sender.now.origin.now (events_at job.old.place (offered.now ∷ []))
+        (own job.old.berth) (own job.new.berth) later
         × (job.new.told.items ≡ job.old.told.items ++ later)) }
-    ensures err { OnErr result (SomeOfferedThere sender.now.caller sender.now.origin.now (events_at job.old.place (offered.now ∷ [])) (own job.old.berth) (own job.new.berth)) }
+    ensures err { OnErr result
+        (SomeOfferedThere sender.now.caller sender.now.origin.now (events_at job.old.place (offered.now ∷ []))
+        (own job.old.berth) (own job.new.berth)) }
 {
     let place = job.place;
     if !place.has(offered.pdu.room_id().as_str()) {
@@ -144,7 +150,8 @@ fn run_in_threads<R: Threads + Wait + Sync, K: Keeper<Row = ShardRow> + Send, G:
 )
     requires { All (IsReady docks.now sender.now.caller events.now) jobs.old }
     ensures count { length jobs.new ≡ length jobs.old }
-    ensures each { (n : ℕ) (d : Job K) → n < length jobs.old → IsRun docks.now sender.now.caller sender.now.origin.now events.now (get_or jobs.old n d) (get_or jobs.new n d) }
+    ensures each { (n : ℕ) (d : Job K) → n < length jobs.old
+        → IsRun docks.now sender.now.caller sender.now.origin.now events.now (get_or jobs.old n d) (get_or jobs.new n d) }
 {
     let threads = jobs.len().max(1);
     thread::for_each_mut(
@@ -153,7 +160,8 @@ fn run_in_threads<R: Threads + Wait + Sync, K: Keeper<Row = ShardRow> + Send, G:
         threads,
         &|_, job|
             requires { IsReady docks.now sender.now.caller events.now job.old }
-            ensures { IsRun docks.entry.now sender.entry.now.caller sender.entry.now.origin.now events.entry.now job.old job.new }
+            ensures { IsRun docks.entry.now sender.entry.now.caller sender.entry.now.origin.now events.entry.now job.old
+                job.new }
         { run_job(rt, gate, docks, sender, events, job) },
     );
 }
@@ -169,7 +177,8 @@ fn run_in_turn<R: Wait, K: Keeper<Row = ShardRow>, G: Gate>(
 )
     requires { All (IsReady docks.now sender.now.caller events.now) jobs.old }
     ensures count { length jobs.new ≡ length jobs.old }
-    ensures each { (n : ℕ) (d : Job K) → n < length jobs.old → IsRun docks.now sender.now.caller sender.now.origin.now events.now (get_or jobs.old n d) (get_or jobs.new n d) }
+    ensures each { (n : ℕ) (d : Job K) → n < length jobs.old
+        → IsRun docks.now sender.now.caller sender.now.origin.now events.now (get_or jobs.old n d) (get_or jobs.new n d) }
 {
     for number in 0..jobs.len() {
         run_job(rt, gate, docks, sender, events, &mut jobs[number]);
@@ -189,7 +198,8 @@ fn run_jobs<R: Threads + Wait + Sync, K: Keeper<Row = ShardRow> + Send, G: Gate 
     requires ready { All (IsReady docks.now sender.now.caller events.now) jobs.old }
     requires busy { busy ≤ length jobs.old }
     ensures count { length jobs.new ≡ length jobs.old }
-    ensures each { (n : ℕ) (d : Job K) → n < length jobs.old → IsRun docks.now sender.now.caller sender.now.origin.now events.now (get_or jobs.old n d) (get_or jobs.new n d) }
+    ensures each { (n : ℕ) (d : Job K) → n < length jobs.old
+        → IsRun docks.now sender.now.caller sender.now.origin.now events.now (get_or jobs.old n d) (get_or jobs.new n d) }
 {
     let (first, others) = jobs.split_at_mut(busy);
     run_in_threads(rt, gate, docks, sender, events, first);
@@ -202,7 +212,8 @@ fn run_jobs<R: Threads + Wait + Sync, K: Keeper<Row = ShardRow> + Send, G: Gate 
 fn busy_docks(events: &[Offered], count: usize) -> [bool; 64]
     requires some { 0 < count }
     requires few { count ≤ 64 }
-    ensures { (n : ℕ) → n < count → get_or result n true ≡ false → events_at (record { number = n; count = count }) events.now ≡ [] }
+    ensures { (n : ℕ) → n < count → get_or result n true ≡ false
+        → events_at (record { number = n; count = count }) events.now ≡ [] }
 {
     let mut busy = [false; 64];
     for offered in events {
@@ -245,7 +256,8 @@ fn jobs_of<K: Keeper<Row = ShardRow>>(
     requires none { jobs.old.items ≡ [] }
     requires room { length berths.items ≤ vec_capacity jobs.old }
     ensures count { length jobs.new.items ≡ length berths.items }
-    ensures each { (n : ℕ) (d : Job K) (b : Berth (DockedShard K) Entry) → n < length berths.items → IsFresh n (length berths.items) (get_or busy.now n true) (get_or berths.items n b) (get_or jobs.new.items n d) }
+    ensures each { (n : ℕ) (d : Job K) (b : Berth (DockedShard K) Entry) → n < length berths.items
+        → IsFresh n (length berths.items) (get_or busy.now n true) (get_or berths.items n b) (get_or jobs.new.items n d) }
 {
     let count = berths.len();
     for berth in berths {
@@ -272,8 +284,10 @@ fn bring_job<K: Keeper<Row = ShardRow>>(
     requires room { number < vec_capacity moves.old }
     ensures few { length moves.new.items ≤ number + 1 }
     ensures room { vec_capacity moves.new ≡ vec_capacity moves.old }
-    ensures jobs { (first : List (Job K)) → jobs.old.items ≡ moved 0 moves.old.items first → jobs.new.items ≡ moved 0 moves.new.items first }
-    ensures within { AreMoves (length jobs.old.items) 0 moves.old.items → AreMoves (length jobs.old.items) 0 moves.new.items }
+    ensures jobs { (first : List (Job K)) → jobs.old.items ≡ moved 0 moves.old.items first
+        → jobs.new.items ≡ moved 0 moves.new.items first }
+    ensures within { AreMoves (length jobs.old.items) 0 moves.old.items
+        → AreMoves (length jobs.old.items) 0 moves.new.items }
 {
     if !jobs[number].is_busy {
         return;
@@ -382,7 +396,8 @@ fn told_in_order(
 ) -> Result<Vec<Told>, CallError>
     requires some { 0 < length told_there.old.items }
     requires few { length told_there.old.items ≤ 64 }
-    ensures { IfOk result (λ told. told.items ≡ merged (length told_there.old.items) events.now (map (λ q. q.items) told_there.old.items)) }
+    ensures { IfOk result
+        (λ told. told.items ≡ merged (length told_there.old.items) events.now (map (λ q. q.items) told_there.old.items)) }
 {
     let mut told = Vec::new(alloc);
     let count = told_there.len();
@@ -406,10 +421,12 @@ fn take_out<K: Keeper<Row = ShardRow>>(
     jobs: &mut Vec<Job<K>>,
 )
     requires few { length berths.old.items ≤ 64 }
-    requires busy { (n : ℕ) → n < length docks.now → get_or busy.now n true ≡ false → events_at (record { number = n; count = length docks.now }) events.now ≡ [] }
+    requires busy { (n : ℕ) → n < length docks.now → get_or busy.now n true ≡ false
+        → events_at (record { number = n; count = length docks.now }) events.now ≡ [] }
     requires none { jobs.old.items ≡ [] }
     requires room { length berths.old.items ≤ vec_capacity jobs.old }
-    ensures ready { (caller : ℕ) → AreBerthsAt docks.now caller berths.old.items → AreReady docks.now caller events.now berths.old.items jobs.new.items }
+    ensures ready { (caller : ℕ) → AreBerthsAt docks.now caller berths.old.items
+        → AreReady docks.now caller events.now berths.old.items jobs.new.items }
     ensures back { berths.new ≡ back }
 {
     let taken = mem::replace(berths, back);
@@ -426,10 +443,12 @@ fn run_all<R: Threads + Wait + Sync, K: Keeper<Row = ShardRow> + Send, G: Gate +
     jobs: &mut Vec<Job<K>>,
     moves: &mut Vec<usize>,
 )
-    requires ready { (berths : List (Berth (DockedShard K) Entry)) × AreReady docks.now sender.now.caller events.now berths jobs.old.items }
+    requires ready { (berths : List (Berth (DockedShard K) Entry))
+        × AreReady docks.now sender.now.caller events.now berths jobs.old.items }
     requires none { moves.old.items ≡ [] }
     requires room { length jobs.old.items ≤ vec_capacity moves.old }
-    ensures { (berths : List (Berth (DockedShard K) Entry)) → AreReady docks.now sender.now.caller events.now berths jobs.old.items
+    ensures { (berths : List (Berth (DockedShard K) Entry))
+        → AreReady docks.now sender.now.caller events.now berths jobs.old.items
         → AreOver docks.now sender.now.caller sender.now.origin.now events.now berths jobs.new.items }
 {
     bring_forward(jobs, moves);
@@ -457,8 +476,12 @@ pub(crate) fn offer_side_by_side<
     requires { AreBerthsAt docks.now sender.now.caller berths.old.items }
     ensures seated { AreBerthsAt docks.now sender.now.caller berths.new.items }
     ensures same { AreSameViews (views_of berths.old.items) (views_of berths.new.items) }
-    ensures ok { IfOk result (λ told. AreOffered sender.now.caller sender.now.origin.now events.now (views_of berths.old.items) (views_of berths.new.items) told.items) }
-    ensures err { OnErr result (SomeOffered sender.now.caller sender.now.origin.now events.now (views_of berths.old.items) (views_of berths.new.items)) }
+    ensures ok { IfOk result
+        (λ told. AreOffered sender.now.caller sender.now.origin.now events.now (views_of berths.old.items)
+        (views_of berths.new.items) told.items) }
+    ensures err { OnErr result
+        (SomeOffered sender.now.caller sender.now.origin.now events.now (views_of berths.old.items)
+        (views_of berths.new.items)) }
 {
     let busy = busy_docks(events, docks.len());
     let count = berths.len();

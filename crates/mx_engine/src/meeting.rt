@@ -20,7 +20,8 @@ pub(crate) fn meet_each<R: Wait, T: Journaled>(
     ensures first { AreBerthsAt docks.now (caller_of first.old.items) first.new.items }
     ensures second { AreBerthsAt docks.now (caller_of second.old.items) second.new.items }
     ensures nothing { AddsNothing (views_of first.old.items) (views_of first.new.items) }
-    ensures told { (n : ℕ) → IsPrefix (view_at (views_of second.old.items) n).seen (view_at (views_of first.new.items) n).seen }
+    ensures told { (n : ℕ)
+        → IsPrefix (view_at (views_of second.old.items) n).seen (view_at (views_of first.new.items) n).seen }
     ensures stays { views_of second.new.items ≡ views_of second.old.items }
 {
     for number in 0..docks.len() {

@@ -59,8 +59,10 @@ pub(crate) fn first_seat<K: Keeper<Row = ShardRow>, L: Keeper<Row = BookRow>>(
     ensures number { IfOk result (λ seat. seat.number ≡ 1) }
     ensures shards { IfOk result (λ seat. seat.shards ≡ shards) }
     ensures books { IfOk result (λ seat. seat.books ≡ books) }
-    ensures no_shard { IfOk result (λ seat. (seat.closed_shards.items ≡ []) × (length shards.items ≤ vec_capacity seat.closed_shards)) }
-    ensures no_book { IfOk result (λ seat. (seat.closed_books.items ≡ []) × (length books.items ≤ vec_capacity seat.closed_books)) }
+    ensures no_shard { IfOk result
+        (λ seat. (seat.closed_shards.items ≡ []) × (length shards.items ≤ vec_capacity seat.closed_shards)) }
+    ensures no_book { IfOk result
+        (λ seat. (seat.closed_books.items ≡ []) × (length books.items ≤ vec_capacity seat.closed_books)) }
 {
     let closed_shards = Vec::with_capacity(alloc, shards.len())?;
     let closed_books = Vec::with_capacity(alloc, books.len())?;
@@ -87,11 +89,22 @@ pub(crate) fn seats_with<K: Keeper<Row = ShardRow>, L: Keeper<Row = BookRow>>(
     requires books { (journals : List (List BookEntryOf)) × AreFirst journals books.now 1 first.books.items }
     ensures length { IfOk result (λ all. length all.items ≡ count) }
     ensures numbers { IfOk result (λ all. (n : ℕ) (d : Seat K L) → n < count → (get_or all.items n d).number ≡ n + 1) }
-    ensures shards { IfOk result (λ all. (journals : List (List Entry)) → AreFirst journals shards.now 1 first.shards.items → All (λ seat. AreNext journals shards.now seat.number seat.shards.items) all.items) }
-    ensures books { IfOk result (λ all. (journals : List (List BookEntryOf)) → AreFirst journals books.now 1 first.books.items → All (λ seat. AreNext journals books.now seat.number seat.books.items) all.items) }
-    ensures first_shards { IfOk result (λ all. (journals : List (List Entry)) (d : Seat K L) → AreFirst journals shards.now 1 first.shards.items → AreFirst journals shards.now count (get_or all.items 0 d).shards.items) }
-    ensures first_books { IfOk result (λ all. (journals : List (List BookEntryOf)) (d : Seat K L) → AreFirst journals books.now 1 first.books.items → AreFirst journals books.now count (get_or all.items 0 d).books.items) }
-    ensures lists { IfOk result (λ all. (d : Seat K L) → ((get_or all.items 0 d).closed_shards ≡ first.closed_shards) × ((get_or all.items 0 d).closed_books ≡ first.closed_books)) }
+    ensures shards { IfOk result
+        (λ all. (journals : List (List Entry)) → AreFirst journals shards.now 1 first.shards.items
+        → All (λ seat. AreNext journals shards.now seat.number seat.shards.items) all.items) }
+    ensures books { IfOk result
+        (λ all. (journals : List (List BookEntryOf)) → AreFirst journals books.now 1 first.books.items
+        → All (λ seat. AreNext journals books.now seat.number seat.books.items) all.items) }
+    ensures first_shards { IfOk result
+        (λ all. (journals : List (List Entry)) (d : Seat K L) → AreFirst journals shards.now 1 first.shards.items
+        → AreFirst journals shards.now count (get_or all.items 0 d).shards.items) }
+    ensures first_books { IfOk result
+        (λ all. (journals : List (List BookEntryOf)) (d : Seat K L) → AreFirst journals books.now 1 first.books.items
+        → AreFirst journals books.now count (get_or all.items 0 d).books.items) }
+    ensures lists { IfOk result
+        (λ all. (d : Seat K L)
+        → ((get_or all.items 0 d).closed_shards ≡ first.closed_shards)
+        × ((get_or all.items 0 d).closed_books ≡ first.closed_books)) }
 {
     let mut first = first;
     let mut all = others_of(alloc, shards, books, &mut first, count)?;
@@ -111,12 +124,22 @@ fn others_of<K: Keeper<Row = ShardRow>, L: Keeper<Row = BookRow>>(
     requires shards { (journals : List (List Entry)) × AreFirst journals shards.now 1 first.old.shards.items }
     requires books { (journals : List (List BookEntryOf)) × AreFirst journals books.now 1 first.old.books.items }
     ensures length { IfOk result (λ others. length others.items + 1 ≡ count) }
-    ensures numbers { IfOk result (λ others. (n : ℕ) (d : Seat K L) → n < length others.items → (get_or others.items n d).number ≡ n + 2) }
-    ensures shards { IfOk result (λ others. (journals : List (List Entry)) → AreFirst journals shards.now 1 first.old.shards.items → All (λ seat. AreNext journals shards.now seat.number seat.shards.items) others.items) }
-    ensures books { IfOk result (λ others. (journals : List (List BookEntryOf)) → AreFirst journals books.now 1 first.old.books.items → All (λ seat. AreNext journals books.now seat.number seat.books.items) others.items) }
-    ensures first_shards { OnOk result ((journals : List (List Entry)) → AreFirst journals shards.now 1 first.old.shards.items → AreFirst journals shards.now count first.new.shards.items) }
-    ensures first_books { OnOk result ((journals : List (List BookEntryOf)) → AreFirst journals books.now 1 first.old.books.items → AreFirst journals books.now count first.new.books.items) }
-    ensures lists { (first.new.closed_shards ≡ first.old.closed_shards) × (first.new.closed_books ≡ first.old.closed_books) × (first.new.number ≡ first.old.number) }
+    ensures numbers { IfOk result
+        (λ others. (n : ℕ) (d : Seat K L) → n < length others.items → (get_or others.items n d).number ≡ n + 2) }
+    ensures shards { IfOk result
+        (λ others. (journals : List (List Entry)) → AreFirst journals shards.now 1 first.old.shards.items
+        → All (λ seat. AreNext journals shards.now seat.number seat.shards.items) others.items) }
+    ensures books { IfOk result
+        (λ others. (journals : List (List BookEntryOf)) → AreFirst journals books.now 1 first.old.books.items
+        → All (λ seat. AreNext journals books.now seat.number seat.books.items) others.items) }
+    ensures first_shards { OnOk result
+        ((journals : List (List Entry)) → AreFirst journals shards.now 1 first.old.shards.items
+        → AreFirst journals shards.now count first.new.shards.items) }
+    ensures first_books { OnOk result
+        ((journals : List (List BookEntryOf)) → AreFirst journals books.now 1 first.old.books.items
+        → AreFirst journals books.now count first.new.books.items) }
+    ensures lists { (first.new.closed_shards ≡ first.old.closed_shards) × (first.new.closed_books ≡ first.old.closed_books)
+        × (first.new.number ≡ first.old.number) }
 {
     let mut others = Vec::new(alloc);
     for made in 1..count {
@@ -134,14 +157,25 @@ fn next_seat<K: Keeper<Row = ShardRow>, L: Keeper<Row = BookRow>>(
     first: &mut Seat<K, L>,
     number: u32,
 ) -> Result<Seat<K, L>, AllocError>
-    requires shards { (journals : List (List Entry)) × (made : ℕ) × AreFirst journals shards.now made first.old.shards.items }
-    requires books { (journals : List (List BookEntryOf)) × (made : ℕ) × AreFirst journals books.now made first.old.books.items }
+    requires shards { (journals : List (List Entry)) × (made : ℕ)
+        × AreFirst journals shards.now made first.old.shards.items }
+    requires books { (journals : List (List BookEntryOf)) × (made : ℕ)
+        × AreFirst journals books.now made first.old.books.items }
     ensures number { IfOk result (λ seat. seat.number ≡ number) }
-    ensures shards { IfOk result (λ seat. (journals : List (List Entry)) (made : ℕ) → AreFirst journals shards.now made first.old.shards.items → AreNext journals shards.now (made + 1) seat.shards.items) }
-    ensures books { IfOk result (λ seat. (journals : List (List BookEntryOf)) (made : ℕ) → AreFirst journals books.now made first.old.books.items → AreNext journals books.now (made + 1) seat.books.items) }
-    ensures first_shards { OnOk result ((journals : List (List Entry)) (made : ℕ) → AreFirst journals shards.now made first.old.shards.items → AreFirst journals shards.now (made + 1) first.new.shards.items) }
-    ensures first_books { OnOk result ((journals : List (List BookEntryOf)) (made : ℕ) → AreFirst journals books.now made first.old.books.items → AreFirst journals books.now (made + 1) first.new.books.items) }
-    ensures lists { (first.new.closed_shards ≡ first.old.closed_shards) × (first.new.closed_books ≡ first.old.closed_books) × (first.new.number ≡ first.old.number) }
+    ensures shards { IfOk result
+        (λ seat. (journals : List (List Entry)) (made : ℕ) → AreFirst journals shards.now made first.old.shards.items
+        → AreNext journals shards.now (made + 1) seat.shards.items) }
+    ensures books { IfOk result
+        (λ seat. (journals : List (List BookEntryOf)) (made : ℕ) → AreFirst journals books.now made first.old.books.items
+        → AreNext journals books.now (made + 1) seat.books.items) }
+    ensures first_shards { OnOk result
+        ((journals : List (List Entry)) (made : ℕ) → AreFirst journals shards.now made first.old.shards.items
+        → AreFirst journals shards.now (made + 1) first.new.shards.items) }
+    ensures first_books { OnOk result
+        ((journals : List (List BookEntryOf)) (made : ℕ) → AreFirst journals books.now made first.old.books.items
+        → AreFirst journals books.now (made + 1) first.new.books.items) }
+    ensures lists { (first.new.closed_shards ≡ first.old.closed_shards) × (first.new.closed_books ≡ first.old.closed_books)
+        × (first.new.number ≡ first.old.number) }
 {
     let shard_berths = next_berths(alloc, shards, &mut first.shards)?;
     let book_berths = next_berths(alloc, books, &mut first.books)?;
@@ -161,8 +195,12 @@ fn next_berths<T: Journaled>(
     first: &mut Vec<Berth<T>>,
 ) -> Result<Vec<Berth<T>>, AllocError>
     requires { (journals : List (List T.Entry)) × (made : ℕ) × AreFirst journals docks.now made first.old.items }
-    ensures first { OnOk result ((journals : List (List T.Entry)) (made : ℕ) → AreFirst journals docks.now made first.old.items → AreFirst journals docks.now (made + 1) first.new.items) }
-    ensures next { IfOk result (λ berths. (journals : List (List T.Entry)) (made : ℕ) → AreFirst journals docks.now made first.old.items → AreNext journals docks.now (made + 1) berths.items) }
+    ensures first { OnOk result
+        ((journals : List (List T.Entry)) (made : ℕ) → AreFirst journals docks.now made first.old.items
+        → AreFirst journals docks.now (made + 1) first.new.items) }
+    ensures next { IfOk result
+        (λ berths. (journals : List (List T.Entry)) (made : ℕ) → AreFirst journals docks.now made first.old.items
+        → AreNext journals docks.now (made + 1) berths.items) }
 {
     let mut berths = Vec::new(alloc);
     for number in 0..docks.len() {

@@ -61,8 +61,12 @@ pub(crate) fn transact<
     ensures number { seat.new.number ≡ seat.old.number }
     ensures same_shards { AreSameViews (views_of seat.old.shards.items) (views_of seat.new.shards.items) }
     ensures same_books { AreSameViews (views_of seat.old.books.items) (views_of seat.new.books.items) }
-    ensures ok { IfOk result (IsReplied seat.old.number key.now events.now (views_of seat.old.shards.items) (views_of seat.old.books.items) (views_of seat.new.shards.items) (views_of seat.new.books.items)) }
-    ensures err { OnErr result (IsRefused seat.old.number key.now events.now (views_of seat.old.shards.items) (views_of seat.old.books.items) (views_of seat.new.shards.items) (views_of seat.new.books.items)) }
+    ensures ok { IfOk result
+        (IsReplied seat.old.number key.now events.now (views_of seat.old.shards.items) (views_of seat.old.books.items)
+        (views_of seat.new.shards.items) (views_of seat.new.books.items)) }
+    ensures err { OnErr result
+        (IsRefused seat.old.number key.now events.now (views_of seat.old.shards.items) (views_of seat.old.books.items)
+        (views_of seat.new.shards.items) (views_of seat.new.books.items)) }
 {
     let caller = seat.number;
     let opening = begin_transaction(rt, docks.books, &mut seat.books, caller, key)?;
@@ -97,10 +101,18 @@ fn close_begun<
     ensures number { seat.new.number ≡ seat.old.number }
     ensures same_shards { AreSameViews (views_of seat.old.shards.items) (views_of seat.new.shards.items) }
     ensures same_books { AreSameViews (views_of seat.old.books.items) (views_of seat.new.books.items) }
-    ensures ok { IfOk result (λ reply. (told : List ToldOf) × AreOffered seat.old.number key.now.origin events.now (views_of seat.old.shards.items) (views_of seat.new.shards.items) told
-        × (reply ≡ TransactionReply.Closed (body_of told)) × IsEndedIn seat.old.number key.now (KeptEntry key.now seat.old.number (body_of told)) (views_of seat.old.books.items) (views_of seat.new.books.items)) }
-    ensures err { OnErr result (SomeOffered seat.old.number key.now.origin events.now (views_of seat.old.shards.items) (views_of seat.new.shards.items)
-        × IsEndedIn seat.old.number key.now (GivenUp key.now seat.old.number) (views_of seat.old.books.items) (views_of seat.new.books.items)) }
+    ensures ok { IfOk result
+        (λ reply. (told : List ToldOf)
+        × AreOffered seat.old.number key.now.origin events.now (views_of seat.old.shards.items)
+        (views_of seat.new.shards.items) told
+        × (reply ≡ TransactionReply.Closed (body_of told))
+        × IsEndedIn seat.old.number key.now (KeptEntry key.now seat.old.number (body_of told))
+        (views_of seat.old.books.items) (views_of seat.new.books.items)) }
+    ensures err { OnErr result
+        (SomeOffered seat.old.number key.now.origin events.now (views_of seat.old.shards.items)
+        (views_of seat.new.shards.items)
+        × IsEndedIn seat.old.number key.now (GivenUp key.now seat.old.number) (views_of seat.old.books.items)
+        (views_of seat.new.books.items)) }
 {
     let caller = seat.number;
     let sender = Sender {
@@ -142,9 +154,14 @@ fn reply_to<R: Threads + Wait + Sync, K: Keeper<Row = ShardRow> + Send, G: Gate 
     requires { AreBerthsAt docks.now sender.now.caller berths.old.items }
     ensures seated { AreBerthsAt docks.now sender.now.caller berths.new.items }
     ensures same { AreSameViews (views_of berths.old.items) (views_of berths.new.items) }
-    ensures ok { IfOk result (λ replies. (told : List ToldOf) × AreOffered sender.now.caller sender.now.origin.now events.now (views_of berths.old.items) (views_of berths.new.items) told
+    ensures ok { IfOk result
+        (λ replies. (told : List ToldOf)
+        × AreOffered sender.now.caller sender.now.origin.now events.now (views_of berths.old.items)
+        (views_of berths.new.items) told
         × (replies.0 ≡ body_of told) × (replies.1 ≡ body_of told)) }
-    ensures err { OnErr result (SomeOffered sender.now.caller sender.now.origin.now events.now (views_of berths.old.items) (views_of berths.new.items)) }
+    ensures err { OnErr result
+        (SomeOffered sender.now.caller sender.now.origin.now events.now (views_of berths.old.items)
+        (views_of berths.new.items)) }
 {
     let told = offer_all(rt, alloc, gate, docks, berths, sender, events)?;
     let reply = reply_body(alloc, &told)?;
@@ -166,8 +183,12 @@ fn offer_all<R: Threads + Wait + Sync, K: Keeper<Row = ShardRow> + Send, G: Gate
     requires { AreBerthsAt docks.now sender.now.caller berths.old.items }
     ensures seated { AreBerthsAt docks.now sender.now.caller berths.new.items }
     ensures same { AreSameViews (views_of berths.old.items) (views_of berths.new.items) }
-    ensures ok { IfOk result (λ told. AreOffered sender.now.caller sender.now.origin.now events.now (views_of berths.old.items) (views_of berths.new.items) told.items) }
-    ensures err { OnErr result (SomeOffered sender.now.caller sender.now.origin.now events.now (views_of berths.old.items) (views_of berths.new.items)) }
+    ensures ok { IfOk result
+        (λ told. AreOffered sender.now.caller sender.now.origin.now events.now (views_of berths.old.items)
+        (views_of berths.new.items) told.items) }
+    ensures err { OnErr result
+        (SomeOffered sender.now.caller sender.now.origin.now events.now (views_of berths.old.items)
+        (views_of berths.new.items)) }
 {
     if are_several(events, docks.len()) {
         return offer_side_by_side(rt, alloc, gate, docks, berths, sender, events);
@@ -188,8 +209,12 @@ fn offer_in_turn<R: Wait, K: Keeper<Row = ShardRow>, G: Gate>(
     requires { AreBerthsAt docks.now sender.now.caller berths.old.items }
     ensures seated { AreBerthsAt docks.now sender.now.caller berths.new.items }
     ensures same { AreSameViews (views_of berths.old.items) (views_of berths.new.items) }
-    ensures ok { IfOk result (λ told. AreOffered sender.now.caller sender.now.origin.now events.now (views_of berths.old.items) (views_of berths.new.items) told.items) }
-    ensures err { OnErr result (SomeOffered sender.now.caller sender.now.origin.now events.now (views_of berths.old.items) (views_of berths.new.items)) }
+    ensures ok { IfOk result
+        (λ told. AreOffered sender.now.caller sender.now.origin.now events.now (views_of berths.old.items)
+        (views_of berths.new.items) told.items) }
+    ensures err { OnErr result
+        (SomeOffered sender.now.caller sender.now.origin.now events.now (views_of berths.old.items)
+        (views_of berths.new.items)) }
 {
     let mut told = Vec::new(alloc);
     offer_each(rt, gate, docks, berths, sender, events, &mut told)?;
@@ -209,9 +234,14 @@ fn offer_each<R: Wait, K: Keeper<Row = ShardRow>, G: Gate>(
     requires { AreBerthsAt docks.now sender.now.caller berths.old.items }
     ensures seated { AreBerthsAt docks.now sender.now.caller berths.new.items }
     ensures same { AreSameViews (views_of berths.old.items) (views_of berths.new.items) }
-    ensures ok { OnOk result ((later : List ToldOf) × AreOffered sender.now.caller sender.now.origin.now events.now (views_of berths.old.items) (views_of berths.new.items) later
+    ensures ok { OnOk result
+        ((later : List ToldOf)
+        × AreOffered sender.now.caller sender.now.origin.now events.now (views_of berths.old.items)
+        (views_of berths.new.items) later
         × (told.new.items ≡ told.old.items ++ later)) }
-    ensures err { OnErr result (FirstOffered sender.now.caller sender.now.origin.now events.now (views_of berths.old.items) (views_of berths.new.items)) }
+    ensures err { OnErr result
+        (FirstOffered sender.now.caller sender.now.origin.now events.now (views_of berths.old.items)
+        (views_of berths.new.items)) }
 {
     for offered in events {
         offer_next(rt, gate, docks, berths, sender, offered, told)?;
@@ -232,9 +262,13 @@ fn offer_next<R: Wait, K: Keeper<Row = ShardRow>, G: Gate>(
     requires { AreBerthsAt docks.now sender.now.caller berths.old.items }
     ensures seated { AreBerthsAt docks.now sender.now.caller berths.new.items }
     ensures same { AreSameViews (views_of berths.old.items) (views_of berths.new.items) }
-    ensures ok { OnOk result ((one : ToldOf) × IsOffered sender.now.caller sender.now.origin.now offered.now (views_of berths.old.items) (views_of berths.new.items) one
+    ensures ok { OnOk result
+        ((one : ToldOf) × IsOffered sender.now.caller sender.now.origin.now offered.now (views_of berths.old.items)
+        (views_of berths.new.items) one
         × (told.new.items ≡ told.old.items ++ one ∷ [])) }
-    ensures err { OnErr result (FirstOffered sender.now.caller sender.now.origin.now (offered.now ∷ []) (views_of berths.old.items) (views_of berths.new.items)) }
+    ensures err { OnErr result
+        (FirstOffered sender.now.caller sender.now.origin.now (offered.now ∷ []) (views_of berths.old.items)
+        (views_of berths.new.items)) }
 {
     let one = offer_one(rt, gate, docks, berths, sender, offered)?;
     told.push(one)?;
@@ -253,7 +287,9 @@ fn offer_one<R: Wait, K: Keeper<Row = ShardRow>, G: Gate>(
     requires { AreBerthsAt docks.now sender.now.caller berths.old.items }
     ensures seated { AreBerthsAt docks.now sender.now.caller berths.new.items }
     ensures same { AreSameViews (views_of berths.old.items) (views_of berths.new.items) }
-    ensures ok { IfOk result (IsOffered sender.now.caller sender.now.origin.now offered.now (views_of berths.old.items) (views_of berths.new.items)) }
+    ensures ok { IfOk result
+        (IsOffered sender.now.caller sender.now.origin.now offered.now (views_of berths.old.items)
+        (views_of berths.new.items)) }
     ensures err { OnErr result (AddsNothing (views_of berths.old.items) (views_of berths.new.items)) }
 {
     let id = offered.id.clone()?;

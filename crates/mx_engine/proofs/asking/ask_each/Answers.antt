@@ -15,12 +15,14 @@ loop-number-init g c = record {
   same = same_refl (views_of c.args.berths.now.items);
   nothing = nothing_refl (views_of c.args.berths.now.items);
   within = omega arith;
-  asked = asked_none (to_ask c.args.question.now.origin.now c.args.question.now.moment c.args.question.now.query.now) (views_of c.args.berths.now.items);
+  asked = asked_none (to_ask c.args.question.now.origin.now c.args.question.now.moment c.args.question.now.query.now)
+      (views_of c.args.berths.now.items);
 }
 
 pub returns-in_err-answer-clause-storage : goal.returns-in_err-answer-clause-storage
 returns-in_err-answer-clause-storage g c = λ is.
-    absurd (never_storage c.ask_one-asked.result c.from_residual.result c.in_err-answer.field-0.0 c.from_residual.ensures.1 (sym c.found.ensures ∙ c.in_err-answer.was) is)
+    absurd (never_storage c.ask_one-asked.result c.from_residual.result c.in_err-answer.field-0.0 c.from_residual.ensures.1
+    (sym c.found.ensures ∙ c.in_err-answer.was) is)
 
 pub returns-in_err-answer-clause-same : goal.returns-in_err-answer-clause-same
 returns-in_err-answer-clause-same g c =
@@ -29,7 +31,9 @@ returns-in_err-answer-clause-same g c =
     let k : n < length berths = subst (λ j. n < j) (sym c.loop-number.invariant.seated.same) c.loop-number-test.true in
     let t = c.ask_one-asked.ensures.turn in
     same_trans (views_of c.args.berths.now.items) (views_of berths) _ c.loop-number.invariant.same
-    (same_nothing (views_of berths) _ (told_nothing berths n c.index_mut-berth.result.now c.ask_one-asked.new.berth t.journal k (sym c.index_mut-berth.ensures.value) t.later t.seen))
+    (same_nothing (views_of berths) _
+    (told_nothing berths n c.index_mut-berth.result.now c.ask_one-asked.new.berth t.journal k
+    (sym c.index_mut-berth.ensures.value) t.later t.seen))
 
 pub returns-in_err-answer-clause-nothing : goal.returns-in_err-answer-clause-nothing
 returns-in_err-answer-clause-nothing g c =
@@ -38,7 +42,8 @@ returns-in_err-answer-clause-nothing g c =
     let k : n < length berths = subst (λ j. n < j) (sym c.loop-number.invariant.seated.same) c.loop-number-test.true in
     let t = c.ask_one-asked.ensures.turn in
     nothing_trans (views_of c.args.berths.now.items) (views_of berths) _ c.loop-number.invariant.nothing
-    (told_nothing berths n c.index_mut-berth.result.now c.ask_one-asked.new.berth t.journal k (sym c.index_mut-berth.ensures.value) t.later t.seen)
+    (told_nothing berths n c.index_mut-berth.result.now c.ask_one-asked.new.berth t.journal k
+    (sym c.index_mut-berth.ensures.value) t.later t.seen)
 
 pub loop-number-preserved : goal.loop-number-preserved
 loop-number-preserved g c =
@@ -48,32 +53,43 @@ loop-number-preserved g c =
     let seated = c.loop-number.invariant.seated in
     let k : n < length berths = subst (λ j. n < j) (sym seated.same) c.loop-number-test.true in
     let t = c.ask_one-asked.ensures.turn in
-    let change = told_nothing berths n c.index_mut-berth.result.now c.ask_one-asked.new.berth t.journal k (sym c.index_mut-berth.ensures.value) t.later t.seen in
+    let change = told_nothing berths n c.index_mut-berth.result.now c.ask_one-asked.new.berth t.journal k
+    (sym c.index_mut-berth.ensures.value) t.later t.seen in
     record {
-      seated = seated_set c.args.docks.now c.args.caller berths n c.new-place.result c.index-docks-number.result c.deref.result.now c.ask_one-asked.new.berth seated c.loop-number-test.true c.new-place.ensures.number c.new-place.ensures.count (sym c.index-docks-number.is) c.deref.ensures c.ask_one-asked.ensures.berth;
-      same = same_trans (views_of c.args.berths.now.items) (views_of berths) _ c.loop-number.invariant.same (same_nothing (views_of berths) _ change);
+      seated = seated_set c.args.docks.now c.args.caller berths n c.new-place.result c.index-docks-number.result
+          c.deref.result.now c.ask_one-asked.new.berth seated c.loop-number-test.true c.new-place.ensures.number
+          c.new-place.ensures.count (sym c.index-docks-number.is) c.deref.ensures c.ask_one-asked.ensures.berth;
+      same = same_trans (views_of c.args.berths.now.items) (views_of berths) _ c.loop-number.invariant.same
+          (same_nothing (views_of berths) _ change);
       nothing = nothing_trans (views_of c.args.berths.now.items) (views_of berths) _ c.loop-number.invariant.nothing change;
       within = omega (arith, c.loop-number-test.true);
-      asked = subst (AreAsked call (views_of (set berths n c.ask_one-asked.new.berth)) (n + 1)) (sym c.is_refused_by_now-is_refused.ensures)
-          (asked_more call berths n c.index_mut-berth.result.now c.ask_one-asked.new.berth c.loop-number.is_refused c.ask_one-asked.result k c.loop-number.invariant.asked t (sym c.found.ensures ∙ c.in_ok-answer.was ∙ ap Ok c.in_default.is));
+      asked = subst (AreAsked call (views_of (set berths n c.ask_one-asked.new.berth)) (n + 1))
+          (sym c.is_refused_by_now-is_refused.ensures)
+          (asked_more call berths n c.index_mut-berth.result.now c.ask_one-asked.new.berth c.loop-number.is_refused
+          c.ask_one-asked.result k c.loop-number.invariant.asked t
+          (sym c.found.ensures ∙ c.in_ok-answer.was ∙ ap Ok c.in_default.is));
     }
 
 pub returns-then-is_refused-clause-storage : goal.returns-then-is_refused-clause-storage
 returns-then-is_refused-clause-storage g c = λ is.
     let call = to_ask c.args.question.now.origin.now c.args.question.now.moment c.args.question.now.query.now in
     let views = views_of c.loop-number.berths.items in
-    let long : length views ≡ length c.args.docks.now = length-map c.loop-number.berths.items own ∙ c.loop-number.invariant.seated.same in
+    let long : length views ≡ length c.args.docks.now = length-map c.loop-number.berths.items own
+    ∙ c.loop-number.invariant.seated.same in
     let past = c.loop-number-test.false in
     let within : c.loop-number.number ≤ length c.args.docks.now = c.loop-number.invariant.within in
-    all_refused call views c.loop-number.number c.loop-number.is_refused c.loop-number.invariant.asked (omega (arith, long, past)) (omega (arith, long, within)) c.if-is_refused.true
+    all_refused call views c.loop-number.number c.loop-number.is_refused c.loop-number.invariant.asked
+    (omega (arith, long, past)) (omega (arith, long, within)) c.if-is_refused.true
 
 pub returns-clause-shown : goal.returns-clause-shown
 returns-clause-shown g c =
     let call = to_ask c.args.question.now.origin.now c.args.question.now.moment c.args.question.now.query.now in
     let views = views_of c.loop-number.berths.items in
-    let long : length views ≡ length c.args.docks.now = length-map c.loop-number.berths.items own ∙ c.loop-number.invariant.seated.same in
+    let long : length views ≡ length c.args.docks.now = length-map c.loop-number.berths.items own
+    ∙ c.loop-number.invariant.seated.same in
     let past = c.loop-number-test.false in
-    all_unshown call views c.loop-number.number c.loop-number.is_refused c.loop-number.invariant.asked (omega (arith, long, past)) c.if-is_refused.false
+    all_unshown call views c.loop-number.number c.loop-number.is_refused c.loop-number.invariant.asked
+    (omega (arith, long, past)) c.if-is_refused.false
 
 pub returns-in-Some-clause-same : goal.returns-in-Some-clause-same
 returns-in-Some-clause-same g c =
@@ -82,7 +98,9 @@ returns-in-Some-clause-same g c =
     let k : n < length berths = subst (λ j. n < j) (sym c.loop-number.invariant.seated.same) c.loop-number-test.true in
     let t = c.ask_one-asked.ensures.turn in
     same_trans (views_of c.args.berths.now.items) (views_of berths) _ c.loop-number.invariant.same
-    (same_nothing (views_of berths) _ (told_nothing berths n c.index_mut-berth.result.now c.ask_one-asked.new.berth t.journal k (sym c.index_mut-berth.ensures.value) t.later t.seen))
+    (same_nothing (views_of berths) _
+    (told_nothing berths n c.index_mut-berth.result.now c.ask_one-asked.new.berth t.journal k
+    (sym c.index_mut-berth.ensures.value) t.later t.seen))
 
 pub returns-in-Some-clause-nothing : goal.returns-in-Some-clause-nothing
 returns-in-Some-clause-nothing g c =
@@ -91,7 +109,8 @@ returns-in-Some-clause-nothing g c =
     let k : n < length berths = subst (λ j. n < j) (sym c.loop-number.invariant.seated.same) c.loop-number-test.true in
     let t = c.ask_one-asked.ensures.turn in
     nothing_trans (views_of c.args.berths.now.items) (views_of berths) _ c.loop-number.invariant.nothing
-    (told_nothing berths n c.index_mut-berth.result.now c.ask_one-asked.new.berth t.journal k (sym c.index_mut-berth.ensures.value) t.later t.seen)
+    (told_nothing berths n c.index_mut-berth.result.now c.ask_one-asked.new.berth t.journal k
+    (sym c.index_mut-berth.ensures.value) t.later t.seen)
 
 pub returns-in-Some-clause-shown : goal.returns-in-Some-clause-shown
 returns-in-Some-clause-shown g c =
@@ -101,9 +120,17 @@ returns-in-Some-clause-shown g c =
     let k : n < length berths = subst (λ j. n < j) (sym c.loop-number.invariant.seated.same) c.loop-number-test.true in
     let told = c.in-Some.answer in
     let t : IsAskTurn call (own c.index_mut-berth.result.now) (own c.ask_one-asked.new.berth) (Ok (Some told)) =
-    subst (λ r. IsAskTurn call (own c.index_mut-berth.result.now) (own c.ask_one-asked.new.berth) r) (found_some c.ask_one-asked.result told (sym c.found.ensures ∙ c.in_ok-answer.was ∙ ap Ok c.in-Some.is)) c.ask_one-asked.ensures.turn in
-    shown_found call (views_of (set berths n c.ask_one-asked.new.berth)) n told t.told (subst (λ j. n < j) (sym (length-map (set berths n c.ask_one-asked.new.berth) own ∙ length-set berths n c.ask_one-asked.new.berth)) k) (shows_here call berths n c.index_mut-berth.result.now c.ask_one-asked.new.berth (Some told) k t)
+    subst (λ r. IsAskTurn call (own c.index_mut-berth.result.now) (own c.ask_one-asked.new.berth) r)
+    (found_some c.ask_one-asked.result told (sym c.found.ensures ∙ c.in_ok-answer.was ∙ ap Ok c.in-Some.is))
+    c.ask_one-asked.ensures.turn in
+    shown_found call (views_of (set berths n c.ask_one-asked.new.berth)) n told t.told
+    (subst (λ j. n < j) (sym
+    (length-map (set berths n c.ask_one-asked.new.berth) own ∙ length-set berths n c.ask_one-asked.new.berth)) k)
+    (shows_here call berths n c.index_mut-berth.result.now c.ask_one-asked.new.berth (Some told) k t)
 
 pub returns-in-Some-clause-seated : goal.returns-in-Some-clause-seated
 returns-in-Some-clause-seated g c =
-    seated_set c.args.docks.now c.args.caller c.loop-number.berths.items c.loop-number.number c.new-place.result c.index-docks-number.result c.deref.result.now c.ask_one-asked.new.berth c.loop-number.invariant.seated c.loop-number-test.true c.new-place.ensures.number c.new-place.ensures.count (sym c.index-docks-number.is) c.deref.ensures c.ask_one-asked.ensures.berth
+    seated_set c.args.docks.now c.args.caller c.loop-number.berths.items c.loop-number.number c.new-place.result
+    c.index-docks-number.result c.deref.result.now c.ask_one-asked.new.berth c.loop-number.invariant.seated
+    c.loop-number-test.true c.new-place.ensures.number c.new-place.ensures.count (sym c.index-docks-number.is)
+    c.deref.ensures c.ask_one-asked.ensures.berth

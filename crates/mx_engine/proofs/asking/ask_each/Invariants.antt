@@ -11,5 +11,6 @@ invariant-loop-number g l = record {
   same : AreSameViews (views_of l.fn.berths.items) (views_of l.berths.items);
   nothing : AddsNothing (views_of l.fn.berths.items) (views_of l.berths.items);
   within : l.number ≤ length l.fn.docks;
-  asked : AreAsked (to_ask l.fn.question.origin.now l.fn.question.moment l.fn.question.query.now) (views_of l.berths.items) l.number l.is_refused;
+  asked : AreAsked (to_ask l.fn.question.origin.now l.fn.question.moment l.fn.question.query.now) (views_of l.berths.items)
+      l.number l.is_refused;
 }

@@ -9,7 +9,8 @@ returns-clause-same g c =
     let within = c.number-number.ensures.within in
     let of_count = c.of-place.ensures.count in
     let l : c.number-number.result < length c.args.berths.now.items = omega (arith, count, within, of_count) in
-    opened_same c.args.caller c.args.key.now c.args.berths.now.items c.number-number.result c.index_mut-berth.result.now c.begin_at.new.berth c.begin_at.result l (sym c.index_mut-berth.ensures.value) c.begin_at.ensures.opened
+    opened_same c.args.caller c.args.key.now c.args.berths.now.items c.number-number.result c.index_mut-berth.result.now
+    c.begin_at.new.berth c.begin_at.result l (sym c.index_mut-berth.ensures.value) c.begin_at.ensures.opened
 
 pub returns-clause-opened : goal.returns-clause-opened
 returns-clause-opened g c =
@@ -18,8 +19,11 @@ returns-clause-opened g c =
     let of_count = c.of-place.ensures.count in
     let l : c.number-number.result < length c.args.berths.now.items = omega (arith, count, within, of_count) in
     let there : c.number-number.result ≡ place_number (length c.args.berths.now.items) c.args.key.now.origin =
-    c.number-number.ensures.number ∙ c.of-place.ensures.number ∙ ap (place_number (length c.args.docks.now)) c.as_str.ensures.text ∙ ap (λ k. place_number k c.args.key.now.origin) (sym count) in
-    opened_in c.args.caller c.args.key.now c.args.berths.now.items c.number-number.result c.index_mut-berth.result.now c.begin_at.new.berth c.begin_at.result there l (sym c.index_mut-berth.ensures.value) c.begin_at.ensures.opened
+    c.number-number.ensures.number ∙ c.of-place.ensures.number
+    ∙ ap (place_number (length c.args.docks.now)) c.as_str.ensures.text
+    ∙ ap (λ k. place_number k c.args.key.now.origin) (sym count) in
+    opened_in c.args.caller c.args.key.now c.args.berths.now.items c.number-number.result c.index_mut-berth.result.now
+    c.begin_at.new.berth c.begin_at.result there l (sym c.index_mut-berth.ensures.value) c.begin_at.ensures.opened
 
 pub returns-clause-begun : goal.returns-clause-begun
 returns-clause-begun g c =
@@ -28,5 +32,8 @@ returns-clause-begun g c =
     let of_count = c.of-place.ensures.count in
     let l : c.number-number.result < length c.args.berths.now.items = omega (arith, count, within, of_count) in
     let there : c.number-number.result ≡ place_number (length c.args.berths.now.items) c.args.key.now.origin =
-    c.number-number.ensures.number ∙ c.of-place.ensures.number ∙ ap (place_number (length c.args.docks.now)) c.as_str.ensures.text ∙ ap (λ k. place_number k c.args.key.now.origin) (sym count) in
-    begun_in c.args.caller c.args.key.now c.args.berths.now.items c.number-number.result c.index_mut-berth.result.now c.begin_at.new.berth c.begin_at.result there l c.begin_at.ensures.opened
+    c.number-number.ensures.number ∙ c.of-place.ensures.number
+    ∙ ap (place_number (length c.args.docks.now)) c.as_str.ensures.text
+    ∙ ap (λ k. place_number k c.args.key.now.origin) (sym count) in
+    begun_in c.args.caller c.args.key.now c.args.berths.now.items c.number-number.result c.index_mut-berth.result.now
+    c.begin_at.new.berth c.begin_at.result there l c.begin_at.ensures.opened

@@ -9,18 +9,24 @@ pub give_up-requires : goal.give_up-requires
 give_up-requires g c =
     let t = c.take_at-docked in
     let is = c.deref_mut.ensures.value in
-    rw is (held_begun c.args.caller (number c.args.berth.now) c.args.key.now (own c.args.berth.now) t.result.book.value.journal c.requires.berth.numbered c.requires.begun t.ensures.later t.ensures.its t.ensures.legal)
+    rw is (held_begun c.args.caller (number c.args.berth.now) c.args.key.now (own c.args.berth.now)
+    t.result.book.value.journal c.requires.berth.numbered c.requires.begun t.ensures.later t.ensures.its t.ensures.legal)
 
 pub put-requires-clause-longer : goal.put-requires-clause-longer
 put-requires-clause-longer g c =
     let t = c.take_at-docked in
     let is = c.deref_mut.ensures.value in
-    put-longer (own c.args.berth.now) (own t.new.berth) t.result.book.value.journal c.give_up.new.self.journal (GivenUp c.args.key.now c.args.caller ∷ []) t.ensures.same (rw is at c.give_up.ensures.journal)
+    put-longer (own c.args.berth.now) (own t.new.berth) t.result.book.value.journal c.give_up.new.self.journal
+    (GivenUp c.args.key.now c.args.caller ∷ []) t.ensures.same (rw is at c.give_up.ensures.journal)
 
 pub returns-clause-ended : goal.returns-clause-ended
 returns-clause-ended g c =
     let t = c.take_at-docked in
     let is = c.deref_mut.ensures.value in
-    let is_begun = held_begun c.args.caller (number c.args.berth.now) c.args.key.now (own c.args.berth.now) t.result.book.value.journal c.requires.berth.numbered c.requires.begun t.ensures.later t.ensures.its t.ensures.legal in
-    ended c.args.caller c.args.key.now (GivenUp c.args.key.now c.args.caller) (own c.args.berth.now) (own t.new.berth) (own c.put.new.berth) t.result.book.value.journal c.give_up.new.self.journal
-    t.ensures.same t.ensures.legal t.ensures.later is_begun c.put.ensures.same c.put.ensures.seen c.put.ensures.added (rw is at c.give_up.ensures.journal)
+    let is_begun = held_begun c.args.caller (number c.args.berth.now) c.args.key.now (own c.args.berth.now)
+    t.result.book.value.journal c.requires.berth.numbered c.requires.begun t.ensures.later t.ensures.its
+    t.ensures.legal in
+    ended c.args.caller c.args.key.now (GivenUp c.args.key.now c.args.caller) (own c.args.berth.now) (own t.new.berth)
+    (own c.put.new.berth) t.result.book.value.journal c.give_up.new.self.journal
+    t.ensures.same t.ensures.legal t.ensures.later is_begun c.put.ensures.same c.put.ensures.seen c.put.ensures.added
+    (rw is at c.give_up.ensures.journal)

@@ -11,8 +11,11 @@ give_up_at-requires-clause-begun g c =
     let of_count = c.of-place.ensures.count in
     let l : c.number-number.result < length c.args.berths.now.items = omega (arith, count, within, of_count) in
     let there : c.number-number.result ≡ place_number (length c.args.berths.now.items) c.args.key.now.origin =
-    c.number-number.ensures.number ∙ c.of-place.ensures.number ∙ ap (place_number (length c.args.docks.now)) c.as_str.ensures.text ∙ ap (λ k. place_number k c.args.key.now.origin) (sym count) in
-    begun_there c.args.caller c.args.key.now c.args.berths.now.items c.number-number.result c.index_mut-berth.result.now there l (sym c.index_mut-berth.ensures.value) c.requires.begun
+    c.number-number.ensures.number ∙ c.of-place.ensures.number
+    ∙ ap (place_number (length c.args.docks.now)) c.as_str.ensures.text
+    ∙ ap (λ k. place_number k c.args.key.now.origin) (sym count) in
+    begun_there c.args.caller c.args.key.now c.args.berths.now.items c.number-number.result c.index_mut-berth.result.now
+    there l (sym c.index_mut-berth.ensures.value) c.requires.begun
 
 pub returns-clause-same : goal.returns-clause-same
 returns-clause-same g c =
@@ -20,7 +23,9 @@ returns-clause-same g c =
     let within = c.number-number.ensures.within in
     let of_count = c.of-place.ensures.count in
     let l : c.number-number.result < length c.args.berths.now.items = omega (arith, count, within, of_count) in
-    ended_same c.args.caller c.args.key.now (GivenUp c.args.key.now c.args.caller) c.args.berths.now.items c.number-number.result c.index_mut-berth.result.now c.give_up_at.new.berth l (sym c.index_mut-berth.ensures.value) c.give_up_at.ensures.ended
+    ended_same c.args.caller c.args.key.now (GivenUp c.args.key.now c.args.caller) c.args.berths.now.items
+    c.number-number.result c.index_mut-berth.result.now c.give_up_at.new.berth l (sym c.index_mut-berth.ensures.value)
+    c.give_up_at.ensures.ended
 
 pub returns-clause-ended : goal.returns-clause-ended
 returns-clause-ended g c =
@@ -29,5 +34,9 @@ returns-clause-ended g c =
     let of_count = c.of-place.ensures.count in
     let l : c.number-number.result < length c.args.berths.now.items = omega (arith, count, within, of_count) in
     let there : c.number-number.result ≡ place_number (length c.args.berths.now.items) c.args.key.now.origin =
-    c.number-number.ensures.number ∙ c.of-place.ensures.number ∙ ap (place_number (length c.args.docks.now)) c.as_str.ensures.text ∙ ap (λ k. place_number k c.args.key.now.origin) (sym count) in
-    ended_in c.args.caller c.args.key.now (GivenUp c.args.key.now c.args.caller) c.args.berths.now.items c.number-number.result c.index_mut-berth.result.now c.give_up_at.new.berth there l (sym c.index_mut-berth.ensures.value) c.give_up_at.ensures.ended
+    c.number-number.ensures.number ∙ c.of-place.ensures.number
+    ∙ ap (place_number (length c.args.docks.now)) c.as_str.ensures.text
+    ∙ ap (λ k. place_number k c.args.key.now.origin) (sym count) in
+    ended_in c.args.caller c.args.key.now (GivenUp c.args.key.now c.args.caller) c.args.berths.now.items
+    c.number-number.result c.index_mut-berth.result.now c.give_up_at.new.berth there l
+    (sym c.index_mut-berth.ensures.value) c.give_up_at.ensures.ended

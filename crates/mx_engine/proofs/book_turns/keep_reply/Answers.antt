@@ -11,8 +11,11 @@ keep_at-requires-clause-begun g c =
     let of_count = c.of-place.ensures.count in
     let l : c.number-number.result < length c.args.berths.now.items = omega (arith, count, within, of_count) in
     let there : c.number-number.result ≡ place_number (length c.args.berths.now.items) c.args.key.now.origin =
-    c.number-number.ensures.number ∙ c.of-place.ensures.number ∙ ap (place_number (length c.args.docks.now)) c.as_str.ensures.text ∙ ap (λ k. place_number k c.args.key.now.origin) (sym count) in
-    begun_there c.args.caller c.args.key.now c.args.berths.now.items c.number-number.result c.index_mut-berth.result.now there l (sym c.index_mut-berth.ensures.value) c.requires.begun
+    c.number-number.ensures.number ∙ c.of-place.ensures.number
+    ∙ ap (place_number (length c.args.docks.now)) c.as_str.ensures.text
+    ∙ ap (λ k. place_number k c.args.key.now.origin) (sym count) in
+    begun_there c.args.caller c.args.key.now c.args.berths.now.items c.number-number.result c.index_mut-berth.result.now
+    there l (sym c.index_mut-berth.ensures.value) c.requires.begun
 
 pub returns-clause-same : goal.returns-clause-same
 returns-clause-same g c =
@@ -20,7 +23,10 @@ returns-clause-same g c =
     let within = c.number-number.ensures.within in
     let of_count = c.of-place.ensures.count in
     let l : c.number-number.result < length c.args.berths.now.items = omega (arith, count, within, of_count) in
-    kept_same c.args.caller c.args.key.now (Kept c.args.key.now c.args.caller c.args.reply) (GivenUp c.args.key.now c.args.caller) c.args.berths.now.items c.number-number.result c.index_mut-berth.result.now c.keep_at.new.berth c.keep_at.result l (sym c.index_mut-berth.ensures.value) c.keep_at.ensures.kept c.keep_at.ensures.given_up
+    kept_same c.args.caller c.args.key.now (Kept c.args.key.now c.args.caller c.args.reply)
+    (GivenUp c.args.key.now c.args.caller) c.args.berths.now.items c.number-number.result c.index_mut-berth.result.now
+    c.keep_at.new.berth c.keep_at.result l (sym c.index_mut-berth.ensures.value) c.keep_at.ensures.kept
+    c.keep_at.ensures.given_up
 
 pub returns-clause-kept : goal.returns-clause-kept
 returns-clause-kept g c =
@@ -29,8 +35,12 @@ returns-clause-kept g c =
     let of_count = c.of-place.ensures.count in
     let l : c.number-number.result < length c.args.berths.now.items = omega (arith, count, within, of_count) in
     let there : c.number-number.result ≡ place_number (length c.args.berths.now.items) c.args.key.now.origin =
-    c.number-number.ensures.number ∙ c.of-place.ensures.number ∙ ap (place_number (length c.args.docks.now)) c.as_str.ensures.text ∙ ap (λ k. place_number k c.args.key.now.origin) (sym count) in
-    kept_in c.args.caller c.args.key.now (Kept c.args.key.now c.args.caller c.args.reply) c.args.berths.now.items c.number-number.result c.index_mut-berth.result.now c.keep_at.new.berth c.keep_at.result there l (sym c.index_mut-berth.ensures.value) c.keep_at.ensures.kept
+    c.number-number.ensures.number ∙ c.of-place.ensures.number
+    ∙ ap (place_number (length c.args.docks.now)) c.as_str.ensures.text
+    ∙ ap (λ k. place_number k c.args.key.now.origin) (sym count) in
+    kept_in c.args.caller c.args.key.now (Kept c.args.key.now c.args.caller c.args.reply) c.args.berths.now.items
+    c.number-number.result c.index_mut-berth.result.now c.keep_at.new.berth c.keep_at.result there l
+    (sym c.index_mut-berth.ensures.value) c.keep_at.ensures.kept
 
 pub returns-clause-given_up : goal.returns-clause-given_up
 returns-clause-given_up g c =
@@ -39,5 +49,9 @@ returns-clause-given_up g c =
     let of_count = c.of-place.ensures.count in
     let l : c.number-number.result < length c.args.berths.now.items = omega (arith, count, within, of_count) in
     let there : c.number-number.result ≡ place_number (length c.args.berths.now.items) c.args.key.now.origin =
-    c.number-number.ensures.number ∙ c.of-place.ensures.number ∙ ap (place_number (length c.args.docks.now)) c.as_str.ensures.text ∙ ap (λ k. place_number k c.args.key.now.origin) (sym count) in
-    refused_in c.args.caller c.args.key.now (GivenUp c.args.key.now c.args.caller) c.args.berths.now.items c.number-number.result c.index_mut-berth.result.now c.keep_at.new.berth c.keep_at.result there l (sym c.index_mut-berth.ensures.value) c.keep_at.ensures.given_up
+    c.number-number.ensures.number ∙ c.of-place.ensures.number
+    ∙ ap (place_number (length c.args.docks.now)) c.as_str.ensures.text
+    ∙ ap (λ k. place_number k c.args.key.now.origin) (sym count) in
+    refused_in c.args.caller c.args.key.now (GivenUp c.args.key.now c.args.caller) c.args.berths.now.items
+    c.number-number.result c.index_mut-berth.result.now c.keep_at.new.berth c.keep_at.result there l
+    (sym c.index_mut-berth.ensures.value) c.keep_at.ensures.given_up

@@ -5,4 +5,11 @@ pub returns-clause-whole : goal.returns-clause-whole
 returns-clause-whole g c =
     let e = c.close-docked.ensures in
     let s = c.soundness.ensures in
-    rw c.out_of_box.ensures (rw (sym s.journal) (record { opened = e.opening; same = e.same_opening; numbered = e.numbered; added = e.added; seen = e.seen }))
+    rw c.out_of_box.ensures
+    (rw (sym s.journal) (record {
+      opened = e.opening;
+      same = e.same_opening;
+      numbered = e.numbered;
+      added = e.added;
+      seen = e.seen;
+    }))

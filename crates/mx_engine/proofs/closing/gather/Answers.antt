@@ -22,9 +22,12 @@ loop-seat-preserved g c =
     let seat = c.in-Some.seat in
     let new = c.give_back_seat.new.first in
     record {
-      split = i.split ∙ ap (λ rest. done ++ rest) c.in-Some.ensures.steps.0 ∙ sym (append_assoc done (seat ∷ []) c.next.new.self.rest.items);
-      shards = gathered-views c.args.shards.now new.shards.items (λ (s : Seat g.row.K.Denot g.row.L.Denot). views_of s.shards.items) done seat (e.shards _ i.shards);
-      books = gathered-views c.args.books.now new.books.items (λ (s : Seat g.row.K.Denot g.row.L.Denot). views_of s.books.items) done seat (e.books _ i.books);
+      split = i.split ∙ ap (λ rest. done ++ rest) c.in-Some.ensures.steps.0
+          ∙ sym (append_assoc done (seat ∷ []) c.next.new.self.rest.items);
+      shards = gathered-views c.args.shards.now new.shards.items
+          (λ (s : Seat g.row.K.Denot g.row.L.Denot). views_of s.shards.items) done seat (e.shards _ i.shards);
+      books = gathered-views c.args.books.now new.books.items
+          (λ (s : Seat g.row.K.Denot g.row.L.Denot). views_of s.books.items) done seat (e.books _ i.books);
       shard_views = e.shard_views ∙ i.shard_views;
       book_views = e.book_views ∙ i.book_views;
       lists = (e.lists.0 ∙ i.lists.0, e.lists.1 ∙ i.lists.1);

@@ -8,7 +8,9 @@ pub returns-clause-events : goal.returns-clause-events
 returns-clause-events c = events-kept
 
 pub returns-clause-closed : goal.returns-clause-closed
-returns-clause-closed c = λ caller key events shards shards_then books books_then body some replied. closed-kept caller key body books books_then some replied.3
+returns-clause-closed c =
+    λ caller key events shards shards_then books books_then body some replied. closed-kept caller key body books books_then
+    some replied.3
 
 pub returns-clause-replayed : goal.returns-clause-replayed
 returns-clause-replayed c = λ caller key events shards shards_then books books_then body some replied.

@@ -13,7 +13,9 @@ loop-number-init g c = record {
 
 pub bring_job-requires-clause-number : goal.bring_job-requires-clause-number
 bring_job-requires-clause-number g c =
-    subst (λ n. c.loop-number.number < n) (sym (ap length c.loop-number.invariant.forth ∙ length-moved 0 c.loop-number.moves.items c.args.jobs.now.items)) (omega (arith, c.loop-number-test.true))
+    subst (λ n. c.loop-number.number < n)
+    (sym (ap length c.loop-number.invariant.forth ∙ length-moved 0 c.loop-number.moves.items c.args.jobs.now.items))
+    (omega (arith, c.loop-number-test.true))
 
 pub loop-number-preserved : goal.loop-number-preserved
 loop-number-preserved g c =
@@ -21,7 +23,8 @@ loop-number-preserved g c =
     let long = ap length i.forth ∙ length-moved 0 c.loop-number.moves.items c.args.jobs.now.items in
     record {
       forth = c.bring_job.ensures.jobs c.args.jobs.now.items i.forth;
-      within = subst (λ n. AreMoves n 0 c.bring_job.new.moves.items) long (c.bring_job.ensures.within (subst (λ n. AreMoves n 0 c.loop-number.moves.items) (sym long) i.within));
+      within = subst (λ n. AreMoves n 0 c.bring_job.new.moves.items) long
+          (c.bring_job.ensures.within (subst (λ n. AreMoves n 0 c.loop-number.moves.items) (sym long) i.within));
       few = c.bring_job.ensures.few;
       room = c.bring_job.ensures.room ∙ i.room;
     }

@@ -14,4 +14,5 @@ returns-clause-jobs g c = λ first is.
 pub returns-clause-within : goal.returns-clause-within
 returns-clause-within g c = λ are.
     subst (AreMoves (length c.args.jobs.now.items) 0) (sym c.push_reserved.ensures.items)
-    (moves-snoc (length c.args.jobs.now.items) 0 c.args.moves.now.items c.args.number are (omega (arith, c.requires.few, c.requires.number)) c.requires.number)
+    (moves-snoc (length c.args.jobs.now.items) 0 c.args.moves.now.items c.args.number are
+    (omega (arith, c.requires.few, c.requires.number)) c.requires.number)

@@ -10,6 +10,8 @@ abbrev pub invariant-loop-berth : goal.invariant-loop-berth
 invariant-loop-berth g l = record {
   left : l.berth-iterator.rest.items ≡ drop (length l.jobs.items) l.fn.berths.items;
   within : length l.jobs.items ≤ length l.fn.berths.items;
-  each : (n : ℕ) (d : Job g.row.K.Denot) (b : Berth (DockedShard g.row.K.Denot) Entry) → n < length l.jobs.items → IsFresh n (length l.fn.berths.items) (get_or l.fn.busy n true) (get_or l.fn.berths.items n b) (get_or l.jobs.items n d);
+  each : (n : ℕ) (d : Job g.row.K.Denot) (b : Berth (DockedShard g.row.K.Denot) Entry) → n < length l.jobs.items
+      → IsFresh n (length l.fn.berths.items) (get_or l.fn.busy n true) (get_or l.fn.berths.items n b)
+      (get_or l.jobs.items n d);
   room : vec_capacity l.jobs ≡ vec_capacity l.fn.jobs;
 }

@@ -10,7 +10,8 @@ use Rattle.mx_engine.proofs.jobs.offer_in_job.Goals as goal
 
 pub returns-then-not-has-clause-ok : goal.returns-then-not-has-clause-ok
 returns-then-not-has-clause-ok g c =
-    job_elsewhere c.args.docks.now c.args.sender.now.caller c.args.sender.now.origin.now c.args.job.now.place c.args.offered.now (own c.args.job.now.berth) c.args.job.now.told.items
+    job_elsewhere c.args.docks.now c.args.sender.now.caller c.args.sender.now.origin.now c.args.job.now.place
+    c.args.offered.now (own c.args.job.now.berth) c.args.job.now.told.items
     (sym (c.has.ensures ∙ ap (is_at c.args.job.now.place) (c.as_str.ensures.text ∙ c.room_id.ensures)) ∙ c.if-not-has.true)
 
 pub offer_there-requires-clause-here : goal.offer_there-requires-clause-here
@@ -20,19 +21,27 @@ offer_there-requires-clause-here g c =
 pub returns-in_err-one-clause-err : goal.returns-in_err-one-clause-err
 returns-in_err-one-clause-err g c =
     on_err c.from_residual.result
-    (there-none c.args.sender.now.caller c.args.sender.now.origin.now (events_at c.args.job.now.place (c.args.offered.now ∷ [])) (own c.args.job.now.berth) (own c.offer_there.new.berth) c.in_err-one.ensures.err)
+    (there-none c.args.sender.now.caller c.args.sender.now.origin.now
+    (events_at c.args.job.now.place (c.args.offered.now ∷ [])) (own c.args.job.now.berth) (own c.offer_there.new.berth)
+    c.in_err-one.ensures.err)
 
 pub returns-in_err-push_back-clause-err : goal.returns-in_err-push_back-clause-err
 returns-in_err-push_back-clause-err g c =
-    let here = sym (c.has.ensures ∙ ap (is_at c.args.job.now.place) (c.as_str.ensures.text ∙ c.room_id.ensures)) ∙ c.if-not-has.false in
+    let here = sym (c.has.ensures ∙ ap (is_at c.args.job.now.place) (c.as_str.ensures.text ∙ c.room_id.ensures))
+    ∙ c.if-not-has.false in
     on_err c.from_residual-in_err-push_back.result
-    (there-all c.args.sender.now.caller c.args.sender.now.origin.now (events_at c.args.job.now.place (c.args.offered.now ∷ [])) (own c.args.job.now.berth) (own c.offer_there.new.berth) (c.in_ok-one.one ∷ [])
-    (job_one c.args.docks.now c.args.sender.now.caller c.args.sender.now.origin.now c.args.job.now.place c.args.offered.now (own c.args.job.now.berth) (own c.offer_there.new.berth) c.in_ok-one.one here c.in_ok-one.ensures.ok))
+    (there-all c.args.sender.now.caller c.args.sender.now.origin.now
+    (events_at c.args.job.now.place (c.args.offered.now ∷ [])) (own c.args.job.now.berth) (own c.offer_there.new.berth)
+    (c.in_ok-one.one ∷ [])
+    (job_one c.args.docks.now c.args.sender.now.caller c.args.sender.now.origin.now c.args.job.now.place c.args.offered.now
+    (own c.args.job.now.berth) (own c.offer_there.new.berth) c.in_ok-one.one here c.in_ok-one.ensures.ok))
 
 pub returns-clause-ok : goal.returns-clause-ok
 returns-clause-ok g c =
-    let here = sym (c.has.ensures ∙ ap (is_at c.args.job.now.place) (c.as_str.ensures.text ∙ c.room_id.ensures)) ∙ c.if-not-has.false in (
+    let here = sym (c.has.ensures ∙ ap (is_at c.args.job.now.place) (c.as_str.ensures.text ∙ c.room_id.ensures))
+    ∙ c.if-not-has.false in (
       c.in_ok-one.one ∷ [],
-      job_one c.args.docks.now c.args.sender.now.caller c.args.sender.now.origin.now c.args.job.now.place c.args.offered.now (own c.args.job.now.berth) (own c.offer_there.new.berth) c.in_ok-one.one here c.in_ok-one.ensures.ok,
+      job_one c.args.docks.now c.args.sender.now.caller c.args.sender.now.origin.now c.args.job.now.place c.args.offered.now
+          (own c.args.job.now.berth) (own c.offer_there.new.berth) c.in_ok-one.one here c.in_ok-one.ensures.ok,
       c.in_ok-push_back.ensures.items,
     )

@@ -10,19 +10,28 @@ use Rattle.mx_engine.proofs.JobLemmas.{back_seated, back_same, all_offered, some
 use Rattle.mx_engine.proofs.jobs.offer_side_by_side.Goals as goal
 
 pub returns-in_err-back-clause-err : goal.returns-in_err-back-clause-err
-returns-in_err-back-clause-err g c = on_err c.from_residual.result (none_offered c.args.sender.now.caller c.args.sender.now.origin.now c.args.events.now (views_of c.args.berths.now.items))
+returns-in_err-back-clause-err g c =
+    on_err c.from_residual.result
+    (none_offered c.args.sender.now.caller c.args.sender.now.origin.now c.args.events.now (views_of c.args.berths.now.items))
 
 pub returns-in_err-jobs-clause-err : goal.returns-in_err-jobs-clause-err
-returns-in_err-jobs-clause-err g c = on_err c.from_residual-in_err-jobs.result (none_offered c.args.sender.now.caller c.args.sender.now.origin.now c.args.events.now (views_of c.args.berths.now.items))
+returns-in_err-jobs-clause-err g c =
+    on_err c.from_residual-in_err-jobs.result
+    (none_offered c.args.sender.now.caller c.args.sender.now.origin.now c.args.events.now (views_of c.args.berths.now.items))
 
 pub returns-in_err-moves-clause-err : goal.returns-in_err-moves-clause-err
-returns-in_err-moves-clause-err g c = on_err c.from_residual-in_err-moves.result (none_offered c.args.sender.now.caller c.args.sender.now.origin.now c.args.events.now (views_of c.args.berths.now.items))
+returns-in_err-moves-clause-err g c =
+    on_err c.from_residual-in_err-moves.result
+    (none_offered c.args.sender.now.caller c.args.sender.now.origin.now c.args.events.now (views_of c.args.berths.now.items))
 
 pub returns-in_err-told-clause-err : goal.returns-in_err-told-clause-err
-returns-in_err-told-clause-err g c = on_err c.from_residual-in_err-told.result (none_offered c.args.sender.now.caller c.args.sender.now.origin.now c.args.events.now (views_of c.args.berths.now.items))
+returns-in_err-told-clause-err g c =
+    on_err c.from_residual-in_err-told.result
+    (none_offered c.args.sender.now.caller c.args.sender.now.origin.now c.args.events.now (views_of c.args.berths.now.items))
 
 pub run_all-requires-clause-ready : goal.run_all-requires-clause-ready
-run_all-requires-clause-ready g c κs within = (c.args.berths.now.items, (c.take_out.ensures.ready c.args.sender.now.caller c.requires))
+run_all-requires-clause-ready g c κs within =
+    (c.args.berths.now.items, (c.take_out.ensures.ready c.args.sender.now.caller c.requires))
 
 pub run_all-requires-clause-room : goal.run_all-requires-clause-room
 run_all-requires-clause-room g c κs within =
@@ -48,55 +57,94 @@ pub told_in_order-requires-clause-some : goal.told_in_order-requires-clause-some
 told_in_order-requires-clause-some g c =
     let over = c.run_all.ensures c.args.berths.now.items (c.take_out.ensures.ready c.args.sender.now.caller c.requires) in
     let some = c.requires.some in
-    omega (arith, some, over.long, length-map c.put_back.new.told.items (λ q. q.items), ap length c.put_back.ensures.told, length-map c.run_all.new.jobs.items (λ job. job.told.items))
+    omega (
+      arith,
+      some,
+      over.long,
+      length-map c.put_back.new.told.items (λ q. q.items),
+      ap length c.put_back.ensures.told,
+      length-map c.run_all.new.jobs.items (λ job. job.told.items),
+    )
 
 pub told_in_order-requires-clause-few : goal.told_in_order-requires-clause-few
 told_in_order-requires-clause-few g c =
     let over = c.run_all.ensures c.args.berths.now.items (c.take_out.ensures.ready c.args.sender.now.caller c.requires) in
     let few = c.requires.few in
-    omega (arith, few, over.long, length-map c.put_back.new.told.items (λ q. q.items), ap length c.put_back.ensures.told, length-map c.run_all.new.jobs.items (λ job. job.told.items))
+    omega (
+      arith,
+      few,
+      over.long,
+      length-map c.put_back.new.told.items (λ q. q.items),
+      ap length c.put_back.ensures.told,
+      length-map c.run_all.new.jobs.items (λ job. job.told.items),
+    )
 
 pub returns-in-Some-clause-seated : goal.returns-in-Some-clause-seated
 returns-in-Some-clause-seated g c =
     subst (AreBerthsAt c.args.docks.now c.args.sender.now.caller) (sym c.put_back.ensures.berths)
-    (back_seated c.args.docks.now c.args.sender.now.caller c.args.sender.now.origin.now c.args.events.now c.args.berths.now.items c.run_all.new.jobs.items c.requires (c.run_all.ensures c.args.berths.now.items (c.take_out.ensures.ready c.args.sender.now.caller c.requires)))
+    (back_seated c.args.docks.now c.args.sender.now.caller c.args.sender.now.origin.now c.args.events.now
+    c.args.berths.now.items c.run_all.new.jobs.items c.requires
+    (c.run_all.ensures c.args.berths.now.items (c.take_out.ensures.ready c.args.sender.now.caller c.requires)))
 
 pub returns-in-Some-clause-same : goal.returns-in-Some-clause-same
 returns-in-Some-clause-same g c =
     subst (λ bs. AreSameViews (views_of c.args.berths.now.items) (views_of bs)) (sym c.put_back.ensures.berths)
-    (back_same c.args.docks.now c.args.sender.now.caller c.args.sender.now.origin.now c.args.events.now c.args.berths.now.items c.run_all.new.jobs.items c.requires (c.run_all.ensures c.args.berths.now.items (c.take_out.ensures.ready c.args.sender.now.caller c.requires)))
+    (back_same c.args.docks.now c.args.sender.now.caller c.args.sender.now.origin.now c.args.events.now
+    c.args.berths.now.items c.run_all.new.jobs.items c.requires
+    (c.run_all.ensures c.args.berths.now.items (c.take_out.ensures.ready c.args.sender.now.caller c.requires)))
 
 pub returns-in-Some-clause-err : goal.returns-in-Some-clause-err
 returns-in-Some-clause-err g c =
-    subst (λ bs. SomeOffered c.args.sender.now.caller c.args.sender.now.origin.now c.args.events.now (views_of c.args.berths.now.items) (views_of bs)) (sym c.put_back.ensures.berths)
-    (some_offered c.args.docks.now c.args.sender.now.caller c.args.sender.now.origin.now c.args.events.now c.args.berths.now.items c.run_all.new.jobs.items c.requires (c.run_all.ensures c.args.berths.now.items (c.take_out.ensures.ready c.args.sender.now.caller c.requires)))
+    subst (λ bs. SomeOffered c.args.sender.now.caller c.args.sender.now.origin.now c.args.events.now
+    (views_of c.args.berths.now.items) (views_of bs)) (sym c.put_back.ensures.berths)
+    (some_offered c.args.docks.now c.args.sender.now.caller c.args.sender.now.origin.now c.args.events.now
+    c.args.berths.now.items c.run_all.new.jobs.items c.requires
+    (c.run_all.ensures c.args.berths.now.items (c.take_out.ensures.ready c.args.sender.now.caller c.requires)))
 
 pub returns-clause-seated : goal.returns-clause-seated
 returns-clause-seated g c =
     subst (AreBerthsAt c.args.docks.now c.args.sender.now.caller) (sym c.put_back.ensures.berths)
-    (back_seated c.args.docks.now c.args.sender.now.caller c.args.sender.now.origin.now c.args.events.now c.args.berths.now.items c.run_all.new.jobs.items c.requires (c.run_all.ensures c.args.berths.now.items (c.take_out.ensures.ready c.args.sender.now.caller c.requires)))
+    (back_seated c.args.docks.now c.args.sender.now.caller c.args.sender.now.origin.now c.args.events.now
+    c.args.berths.now.items c.run_all.new.jobs.items c.requires
+    (c.run_all.ensures c.args.berths.now.items (c.take_out.ensures.ready c.args.sender.now.caller c.requires)))
 
 pub returns-clause-same : goal.returns-clause-same
 returns-clause-same g c =
     subst (λ bs. AreSameViews (views_of c.args.berths.now.items) (views_of bs)) (sym c.put_back.ensures.berths)
-    (back_same c.args.docks.now c.args.sender.now.caller c.args.sender.now.origin.now c.args.events.now c.args.berths.now.items c.run_all.new.jobs.items c.requires (c.run_all.ensures c.args.berths.now.items (c.take_out.ensures.ready c.args.sender.now.caller c.requires)))
+    (back_same c.args.docks.now c.args.sender.now.caller c.args.sender.now.origin.now c.args.events.now
+    c.args.berths.now.items c.run_all.new.jobs.items c.requires
+    (c.run_all.ensures c.args.berths.now.items (c.take_out.ensures.ready c.args.sender.now.caller c.requires)))
 
 pub returns-clause-ok : goal.returns-clause-ok
 returns-clause-ok g c =
     let over = c.run_all.ensures c.args.berths.now.items (c.take_out.ensures.ready c.args.sender.now.caller c.requires) in
     let jobs = c.run_all.new.jobs.items in
-    let none = sym (c.lowest_fault-fault.ensures ∙ ap (λ ls. lowest_of (faults_of ls)) c.deref.ensures.value) ∙ c.in-None.is in
-    let count = sym (length-map c.put_back.new.told.items (λ q. q.items)) ∙ ap length c.put_back.ensures.told ∙ length-map jobs (λ job. job.told.items) ∙ over.long in
-    told_result (λ v. v.items) c.told_in_order.result (merged (length c.put_back.new.told.items) c.args.events.now (map (λ q. q.items) c.put_back.new.told.items))
-    (λ ts. AreOffered c.args.sender.now.caller c.args.sender.now.origin.now c.args.events.now (views_of c.args.berths.now.items) (views_of c.put_back.new.berths.items) ts)
-    (subst (λ n. AreOffered c.args.sender.now.caller c.args.sender.now.origin.now c.args.events.now (views_of c.args.berths.now.items) (views_of c.put_back.new.berths.items) (merged n c.args.events.now (map (λ q. q.items) c.put_back.new.told.items))) (sym count)
-    (subst (λ qs. AreOffered c.args.sender.now.caller c.args.sender.now.origin.now c.args.events.now (views_of c.args.berths.now.items) (views_of c.put_back.new.berths.items) (merged (length c.args.docks.now) c.args.events.now qs)) (sym c.put_back.ensures.told)
-    (subst (λ bs. AreOffered c.args.sender.now.caller c.args.sender.now.origin.now c.args.events.now (views_of c.args.berths.now.items) (views_of bs) (merged (length c.args.docks.now) c.args.events.now (told_of_jobs jobs))) (sym c.put_back.ensures.berths)
-    (all_offered c.args.docks.now c.args.sender.now.caller c.args.sender.now.origin.now c.args.events.now c.args.berths.now.items jobs c.requires over none))))
+    let none = sym (c.lowest_fault-fault.ensures ∙ ap (λ ls. lowest_of (faults_of ls)) c.deref.ensures.value)
+    ∙ c.in-None.is in
+    let count = sym (length-map c.put_back.new.told.items (λ q. q.items)) ∙ ap length c.put_back.ensures.told
+    ∙ length-map jobs (λ job. job.told.items) ∙ over.long in
+    told_result (λ v. v.items) c.told_in_order.result
+    (merged (length c.put_back.new.told.items) c.args.events.now (map (λ q. q.items) c.put_back.new.told.items))
+    (λ ts. AreOffered c.args.sender.now.caller c.args.sender.now.origin.now c.args.events.now
+    (views_of c.args.berths.now.items) (views_of c.put_back.new.berths.items) ts)
+    (subst (λ n. AreOffered c.args.sender.now.caller c.args.sender.now.origin.now c.args.events.now
+    (views_of c.args.berths.now.items) (views_of c.put_back.new.berths.items)
+    (merged n c.args.events.now (map (λ q. q.items) c.put_back.new.told.items))) (sym count)
+    (subst (λ qs. AreOffered c.args.sender.now.caller c.args.sender.now.origin.now c.args.events.now
+    (views_of c.args.berths.now.items) (views_of c.put_back.new.berths.items)
+    (merged (length c.args.docks.now) c.args.events.now qs)) (sym c.put_back.ensures.told)
+    (subst (λ bs. AreOffered c.args.sender.now.caller c.args.sender.now.origin.now c.args.events.now
+    (views_of c.args.berths.now.items) (views_of bs)
+    (merged (length c.args.docks.now) c.args.events.now (told_of_jobs jobs))) (sym c.put_back.ensures.berths)
+    (all_offered c.args.docks.now c.args.sender.now.caller c.args.sender.now.origin.now c.args.events.now
+    c.args.berths.now.items jobs c.requires over none))))
     c.told_in_order.ensures
 
 pub returns-clause-err : goal.returns-clause-err
 returns-clause-err g c =
     on_err c.told_in_order.result
-    (subst (λ bs. SomeOffered c.args.sender.now.caller c.args.sender.now.origin.now c.args.events.now (views_of c.args.berths.now.items) (views_of bs)) (sym c.put_back.ensures.berths)
-    (some_offered c.args.docks.now c.args.sender.now.caller c.args.sender.now.origin.now c.args.events.now c.args.berths.now.items c.run_all.new.jobs.items c.requires (c.run_all.ensures c.args.berths.now.items (c.take_out.ensures.ready c.args.sender.now.caller c.requires))))
+    (subst (λ bs. SomeOffered c.args.sender.now.caller c.args.sender.now.origin.now c.args.events.now
+    (views_of c.args.berths.now.items) (views_of bs)) (sym c.put_back.ensures.berths)
+    (some_offered c.args.docks.now c.args.sender.now.caller c.args.sender.now.origin.now c.args.events.now
+    c.args.berths.now.items c.run_all.new.jobs.items c.requires
+    (c.run_all.ensures c.args.berths.now.items (c.take_out.ensures.ready c.args.sender.now.caller c.requires))))

@@ -11,17 +11,25 @@ returns-in_err-id-clause-err g c = on_err c.from_residual.result (nothing_there 
 
 pub returns-in_err-answer-clause-same : goal.returns-in_err-answer-clause-same
 returns-in_err-answer-clause-same g c =
-    turned_same_view c.args.sender.now.caller (to_offer c.args.sender.now.origin.now c.args.offered.now) (Some (room_of c.args.offered.now.pdu)) (own c.args.berth.now) (own c.call_at.new.berth) c.call_at.result c.call_at.ensures.turn
+    turned_same_view c.args.sender.now.caller (to_offer c.args.sender.now.origin.now c.args.offered.now)
+    (Some (room_of c.args.offered.now.pdu)) (own c.args.berth.now) (own c.call_at.new.berth) c.call_at.result
+    c.call_at.ensures.turn
 
 pub returns-in_err-answer-clause-err : goal.returns-in_err-answer-clause-err
 returns-in_err-answer-clause-err g c =
     on_err c.from_residual-in_err-answer.result
-    (refused_there c.args.sender.now.caller (to_offer c.args.sender.now.origin.now c.args.offered.now) (Some (room_of c.args.offered.now.pdu)) (own c.args.berth.now) (own c.call_at.new.berth) _ c.in_err-answer.ensures.turn)
+    (refused_there c.args.sender.now.caller (to_offer c.args.sender.now.origin.now c.args.offered.now)
+    (Some (room_of c.args.offered.now.pdu)) (own c.args.berth.now) (own c.call_at.new.berth) _
+    c.in_err-answer.ensures.turn)
 
 pub returns-clause-same : goal.returns-clause-same
 returns-clause-same g c =
-    turned_same_view c.args.sender.now.caller (to_offer c.args.sender.now.origin.now c.args.offered.now) (Some (room_of c.args.offered.now.pdu)) (own c.args.berth.now) (own c.call_at.new.berth) c.call_at.result c.call_at.ensures.turn
+    turned_same_view c.args.sender.now.caller (to_offer c.args.sender.now.origin.now c.args.offered.now)
+    (Some (room_of c.args.offered.now.pdu)) (own c.args.berth.now) (own c.call_at.new.berth) c.call_at.result
+    c.call_at.ensures.turn
 
 pub returns-clause-ok : goal.returns-clause-ok
 returns-clause-ok g c =
-    offered_there c.args.sender.now.caller c.args.sender.now.origin.now c.args.offered.now (own c.args.berth.now) (own c.call_at.new.berth) c.in_ok-answer.answer c.in_ok-id.id c.outcome_of.result c.in_ok-id.ensures.cases c.outcome_of.ensures c.in_ok-answer.ensures.turn
+    offered_there c.args.sender.now.caller c.args.sender.now.origin.now c.args.offered.now (own c.args.berth.now)
+    (own c.call_at.new.berth) c.in_ok-answer.answer c.in_ok-id.id c.outcome_of.result c.in_ok-id.ensures.cases
+    c.outcome_of.ensures c.in_ok-answer.ensures.turn

@@ -3,20 +3,29 @@ use Rattle.mx_engine.proofs.RunLemmas.{there_none, there_more, run_idle, run_thr
 use Rattle.mx_engine.proofs.jobs.run_job.Goals as goal
 
 pub loop-place-init : goal.loop-place-init
-loop-place-init g c = there_none c.args.docks.now c.args.sender.now.caller c.args.sender.now.origin.now c.args.events.now c.args.job.now c.requires
+loop-place-init g c = there_none c.args.docks.now c.args.sender.now.caller c.args.sender.now.origin.now c.args.events.now
+    c.args.job.now c.requires
 
 pub returns-then-not-job : goal.returns-then-not-job
-returns-then-not-job g c = run_idle c.args.docks.now c.args.sender.now.caller c.args.sender.now.origin.now c.args.events.now c.args.job.now c.requires c.if-not-job.true
+returns-then-not-job g c =
+    run_idle c.args.docks.now c.args.sender.now.caller c.args.sender.now.origin.now c.args.events.now c.args.job.now
+    c.requires c.if-not-job.true
 
 pub loop-place-preserved : goal.loop-place-preserved
 loop-place-preserved g c =
-    there_more c.args.docks.now c.args.sender.now.caller c.args.sender.now.origin.now c.args.events.now c.loop-place.place c.index-events-place.result c.args.job.now c.loop-place.job c.offer_in_job.new.job
-    c.loop-place-test.true c.index-events-place.is c.loop-place.invariant c.in-Ok.ensures.seated c.in-Ok.ensures.same c.in-Ok.ensures.ok
+    there_more c.args.docks.now c.args.sender.now.caller c.args.sender.now.origin.now c.args.events.now c.loop-place.place
+    c.index-events-place.result c.args.job.now c.loop-place.job c.offer_in_job.new.job
+    c.loop-place-test.true c.index-events-place.is c.loop-place.invariant c.in-Ok.ensures.seated c.in-Ok.ensures.same
+    c.in-Ok.ensures.ok
 
 pub returns-in-Err : goal.returns-in-Err
 returns-in-Err g c =
-    run_stopped c.args.docks.now c.args.sender.now.caller c.args.sender.now.origin.now c.args.events.now c.loop-place.place c.index-events-place.result (record { place = c.loop-place.place; error = c.in-Err.error }) c.args.job.now c.loop-place.job c.offer_in_job.new.job
-    c.loop-place-test.true c.index-events-place.is c.loop-place.invariant c.in-Err.ensures.seated c.in-Err.ensures.same c.in-Err.ensures.err
+    run_stopped c.args.docks.now c.args.sender.now.caller c.args.sender.now.origin.now c.args.events.now c.loop-place.place
+    c.index-events-place.result (record { place = c.loop-place.place; error = c.in-Err.error }) c.args.job.now
+    c.loop-place.job c.offer_in_job.new.job
+    c.loop-place-test.true c.index-events-place.is c.loop-place.invariant c.in-Err.ensures.seated c.in-Err.ensures.same
+    c.in-Err.ensures.err
 
 pub returns : goal.returns
-returns g c = run_through c.args.docks.now c.args.sender.now.caller c.args.sender.now.origin.now c.args.events.now c.loop-place.place c.args.job.now c.loop-place.job c.loop-place-test.false c.requires c.loop-place.invariant
+returns g c = run_through c.args.docks.now c.args.sender.now.caller c.args.sender.now.origin.now c.args.events.now
+    c.loop-place.place c.args.job.now c.loop-place.job c.loop-place-test.false c.requires c.loop-place.invariant

@@ -10,16 +10,21 @@ use Rattle.mx_engine.proofs.jobs.run_jobs.Goals as goal
 pub run_in_threads-requires-after_bounds : goal.run_in_threads-requires-after_bounds
 run_in_threads-requires-after_bounds g c κs within =
     let cut = c.split_at_mut-first in
-    all-first (IsReady c.args.docks.now c.args.sender.now.caller c.args.events.now) c.args.jobs.now cut.result.0.now cut.result.1.now cut.ensures.value c.requires.ready
+    all-first (IsReady c.args.docks.now c.args.sender.now.caller c.args.events.now) c.args.jobs.now cut.result.0.now
+    cut.result.1.now cut.ensures.value c.requires.ready
 
 pub run_in_turn-requires : goal.run_in_turn-requires
 run_in_turn-requires g c =
     let cut = c.split_at_mut-first in
-    all-second (IsReady c.args.docks.now c.args.sender.now.caller c.args.events.now) c.args.jobs.now cut.result.0.now cut.result.1.now cut.ensures.value c.requires.ready
+    all-second (IsReady c.args.docks.now c.args.sender.now.caller c.args.events.now) c.args.jobs.now cut.result.0.now
+    cut.result.1.now cut.ensures.value c.requires.ready
 
 pub returns-clause-each : goal.returns-clause-each
 returns-clause-each g c = λ n d l.
     let cut = c.split_at_mut-first in
-    subst (λ (xs : _). IsRun c.args.docks.now c.args.sender.now.caller c.args.sender.now.origin.now c.args.events.now (get_or xs n d) (get_or (c.run_in_threads.new.jobs ++ c.run_in_turn.new.jobs) n d)) (sym cut.ensures.value)
-    (replaced-both (IsRun c.args.docks.now c.args.sender.now.caller c.args.sender.now.origin.now c.args.events.now) cut.result.0.now c.run_in_threads.new.jobs cut.result.1.now c.run_in_turn.new.jobs c.run_in_threads.ensures.count c.run_in_threads.ensures.each c.run_in_turn.ensures.each
+    subst (λ (xs : _). IsRun c.args.docks.now c.args.sender.now.caller c.args.sender.now.origin.now c.args.events.now
+    (get_or xs n d) (get_or (c.run_in_threads.new.jobs ++ c.run_in_turn.new.jobs) n d)) (sym cut.ensures.value)
+    (replaced-both (IsRun c.args.docks.now c.args.sender.now.caller c.args.sender.now.origin.now c.args.events.now)
+    cut.result.0.now c.run_in_threads.new.jobs cut.result.1.now c.run_in_turn.new.jobs c.run_in_threads.ensures.count
+    c.run_in_threads.ensures.each c.run_in_turn.ensures.each
     n d (subst (λ m. n < m) (ap length cut.ensures.value) l))

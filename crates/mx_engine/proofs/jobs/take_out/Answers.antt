@@ -12,10 +12,16 @@ jobs_of-requires-clause-few g c =
     subst (λ bs. length bs ≤ 64) (ap (λ v. v.items) (sym c.replace-taken.ensures.value)) c.requires.few
 
 pub jobs_of-requires-clause-room : goal.jobs_of-requires-clause-room
-jobs_of-requires-clause-room g c = subst (λ bs. length bs ≤ vec_capacity c.args.jobs.now) (ap (λ v. v.items) (sym c.replace-taken.ensures.value)) c.requires.room
+jobs_of-requires-clause-room g c =
+    subst (λ bs. length bs ≤ vec_capacity c.args.jobs.now) (ap (λ v. v.items) (sym c.replace-taken.ensures.value))
+    c.requires.room
 
 pub returns-clause-ready : goal.returns-clause-ready
 returns-clause-ready g c caller seated =
     let is = ap (λ v. v.items) c.replace-taken.ensures.value in
-    are_ready c.args.docks.now caller [] c.args.events.now c.args.berths.now.items c.args.busy.now c.jobs_of.new.jobs.items seated (c.jobs_of.ensures.count ∙ ap length is) c.requires.busy
-    (subst (λ (bs : List (Berth (DockedShard g.row.K.Denot) Entry)). (n : ℕ) (d : Job g.row.K.Denot) (b : Berth (DockedShard g.row.K.Denot) Entry) → n < length bs → IsFresh n (length bs) (get_or c.args.busy.now n true) (get_or bs n b) (get_or c.jobs_of.new.jobs.items n d)) is c.jobs_of.ensures.each)
+    are_ready c.args.docks.now caller [] c.args.events.now c.args.berths.now.items c.args.busy.now c.jobs_of.new.jobs.items
+    seated (c.jobs_of.ensures.count ∙ ap length is) c.requires.busy
+    (subst (λ (bs : List (Berth (DockedShard g.row.K.Denot) Entry)). (n : ℕ) (d : Job g.row.K.Denot)
+    (b : Berth (DockedShard g.row.K.Denot) Entry) → n < length bs
+    → IsFresh n (length bs) (get_or c.args.busy.now n true) (get_or bs n b) (get_or c.jobs_of.new.jobs.items n d)) is
+    c.jobs_of.ensures.each)

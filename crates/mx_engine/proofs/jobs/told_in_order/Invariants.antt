@@ -6,6 +6,7 @@ use Rattle.mx_engine.proofs.jobs.told_in_order.Given as goal
 abbrev pub invariant-loop-offered : goal.invariant-loop-offered
 invariant-loop-offered l = record {
   long : length l.told_there.items ≡ length l.fn.told_there.items;
-  so_far : l.told.items ++ merged (length l.fn.told_there.items) (drop l.offered-index l.fn.events) (map (λ q. q.items) l.told_there.items)
+  so_far : l.told.items ++ merged (length l.fn.told_there.items) (drop l.offered-index l.fn.events)
+      (map (λ q. q.items) l.told_there.items)
       ≡ merged (length l.fn.told_there.items) l.fn.events (map (λ q. q.items) l.fn.told_there.items);
 }

@@ -10,6 +10,7 @@ invariant-loop-number g l = record {
   first : AreBerthsAt l.fn.docks (caller_of l.fn.first.items) l.first.items;
   second : AreBerthsAt l.fn.docks (caller_of l.fn.second.items) l.second.items;
   nothing : AddsNothing (views_of l.fn.first.items) (views_of l.first.items);
-  told : (n : ℕ) → n < l.number → IsPrefix (view_at (views_of l.fn.second.items) n).seen (view_at (views_of l.first.items) n).seen;
+  told : (n : ℕ) → n < l.number
+      → IsPrefix (view_at (views_of l.fn.second.items) n).seen (view_at (views_of l.first.items) n).seen;
   stays : views_of l.second.items ≡ views_of l.fn.second.items;
 }

@@ -5,4 +5,5 @@ use Rattle.mx_engine.proofs.offers.offers_of.Given as goal
 
 abbrev pub invariant-loop-event : goal.invariant-loop-event
 invariant-loop-event g l =
-    l.offers.items ++ map (offer_by (g.V.Verifier.judges l.verifier)) (into_iter_items l.event-iterator) ≡ map (offer_by (g.V.Verifier.judges l.verifier)) l.fn.events.items
+    l.offers.items ++ map (offer_by (g.V.Verifier.judges l.verifier)) (into_iter_items l.event-iterator) ≡ map
+    (offer_by (g.V.Verifier.judges l.verifier)) l.fn.events.items

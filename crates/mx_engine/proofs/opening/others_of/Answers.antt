@@ -16,11 +16,16 @@ loop-made-preserved g c =
     record {
       long = omega (arith, count, i.long);
       numbers = λ n d l. subst (λ seats. (get_or seats n d).number ≡ n + 2) (sym items)
-          (row-more (λ k (s : Seat g.row.K.Denot g.row.L.Denot). s.number ≡ k + 2) (length row) row seat refl i.numbers (omega (arith, e.number, i.long)) n d (omega (arith, l, count)));
-      shards = λ journals f. all-more (λ s. AreNext journals c.args.shards.now s.number s.shards.items) row c.push.new.self.items seat items (i.shards journals f)
-          (subst (λ k. AreNext journals c.args.shards.now k seat.shards.items) (sym e.number) (e.shards journals c.loop-made.made (i.first_shards journals f)));
-      books = λ journals f. all-more (λ s. AreNext journals c.args.books.now s.number s.books.items) row c.push.new.self.items seat items (i.books journals f)
-          (subst (λ k. AreNext journals c.args.books.now k seat.books.items) (sym e.number) (e.books journals c.loop-made.made (i.first_books journals f)));
+          (row-more (λ k (s : Seat g.row.K.Denot g.row.L.Denot). s.number ≡ k + 2) (length row) row seat refl i.numbers
+          (omega (arith, e.number, i.long)) n d (omega (arith, l, count)));
+      shards = λ journals f. all-more (λ s. AreNext journals c.args.shards.now s.number s.shards.items) row
+          c.push.new.self.items seat items (i.shards journals f)
+          (subst (λ k. AreNext journals c.args.shards.now k seat.shards.items) (sym e.number)
+          (e.shards journals c.loop-made.made (i.first_shards journals f)));
+      books = λ journals f. all-more (λ s. AreNext journals c.args.books.now s.number s.books.items) row
+          c.push.new.self.items seat items (i.books journals f)
+          (subst (λ k. AreNext journals c.args.books.now k seat.books.items) (sym e.number)
+          (e.books journals c.loop-made.made (i.first_books journals f)));
       first_shards = λ journals f. e.first_shards journals c.loop-made.made (i.first_shards journals f);
       first_books = λ journals f. e.first_books journals c.loop-made.made (i.first_books journals f);
       lists = (e.lists.0 ∙ i.lists.0, e.lists.1 ∙ i.lists.1, e.lists.2 ∙ i.lists.2);

@@ -6,7 +6,9 @@ use Rattle.mx_engine.proofs.transactions.offer_each.Goals as goal
 pub returns-in_err-offer_next-clause-err : goal.returns-in_err-offer_next-clause-err
 returns-in_err-offer_next-clause-err g c =
     on_err c.from_residual.result
-    (so_far_refused c.args.sender.now.caller c.args.sender.now.origin.now c.args.events.now c.loop-offered.offered-index c.offered-item.result (views_of c.args.berths.now.items) (views_of c.loop-offered.berths.items) (views_of c.offer_next.new.berths.items) c.args.told.now.items c.loop-offered.told.items
+    (so_far_refused c.args.sender.now.caller c.args.sender.now.origin.now c.args.events.now c.loop-offered.offered-index
+    c.offered-item.result (views_of c.args.berths.now.items) (views_of c.loop-offered.berths.items)
+    (views_of c.offer_next.new.berths.items) c.args.told.now.items c.loop-offered.told.items
     c.loop-offered-test.true c.offered-item.is c.loop-offered.invariant.so_far c.in_err-offer_next.ensures.err)
 
 pub loop-offered-preserved : goal.loop-offered-preserved
@@ -14,7 +16,11 @@ loop-offered-preserved g c =
     let one = c.in_ok-offer_next.ensures.ok in
     record {
       seated = c.in_ok-offer_next.ensures.seated;
-      same = same_trans (views_of c.args.berths.now.items) (views_of c.loop-offered.berths.items) (views_of c.offer_next.new.berths.items) c.loop-offered.invariant.same c.in_ok-offer_next.ensures.same;
-      so_far = so_far_more c.args.sender.now.caller c.args.sender.now.origin.now c.args.events.now c.loop-offered.offered-index c.offered-item.result (views_of c.args.berths.now.items) (views_of c.loop-offered.berths.items) (views_of c.offer_next.new.berths.items) c.args.told.now.items c.loop-offered.told.items c.offer_next.new.told.items one.0
+      same = same_trans (views_of c.args.berths.now.items) (views_of c.loop-offered.berths.items)
+          (views_of c.offer_next.new.berths.items) c.loop-offered.invariant.same c.in_ok-offer_next.ensures.same;
+      so_far = so_far_more c.args.sender.now.caller c.args.sender.now.origin.now c.args.events.now
+          c.loop-offered.offered-index c.offered-item.result (views_of c.args.berths.now.items)
+          (views_of c.loop-offered.berths.items) (views_of c.offer_next.new.berths.items) c.args.told.now.items
+          c.loop-offered.told.items c.offer_next.new.told.items one.0
           c.loop-offered-test.true c.offered-item.is c.loop-offered.invariant.so_far one.1 one.2;
     }

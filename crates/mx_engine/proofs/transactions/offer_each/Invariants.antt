@@ -8,5 +8,6 @@ abbrev pub invariant-loop-offered : goal.invariant-loop-offered
 invariant-loop-offered g l = record {
   seated : AreBerthsAt l.fn.docks l.fn.sender.caller l.berths.items;
   same : AreSameViews (views_of l.fn.berths.items) (views_of l.berths.items);
-  so_far : SoFar l.fn.sender.caller l.fn.sender.origin.now l.fn.events l.offered-index (views_of l.fn.berths.items) (views_of l.berths.items) l.fn.told.items l.told.items;
+  so_far : SoFar l.fn.sender.caller l.fn.sender.origin.now l.fn.events l.offered-index (views_of l.fn.berths.items)
+      (views_of l.berths.items) l.fn.told.items l.told.items;
 }

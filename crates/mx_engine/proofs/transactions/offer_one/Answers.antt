@@ -12,5 +12,9 @@ returns-in_err-id-clause-err g c = on_err c.from_residual.result (nothing_refl (
 
 pub returns-clause-ok : goal.returns-clause-ok
 returns-clause-ok g c =
-    offered_by c.args.sender.now.caller c.args.sender.now.origin.now c.args.offered.now (views_of c.args.berths.now.items) (views_of c.call_in.new.berths.items) c.in_ok-answer.answer c.in_ok-id.id c.outcome_of.result c.in_ok-id.ensures.cases c.outcome_of.ensures
-    (subst (λ room. IsAnswered c.args.sender.now.caller (to_offer c.args.sender.now.origin.now c.args.offered.now) room (views_of c.args.berths.now.items) (views_of c.call_in.new.berths.items) c.in_ok-answer.answer) c.room_id-room.ensures c.in_ok-answer.ensures.ok)
+    offered_by c.args.sender.now.caller c.args.sender.now.origin.now c.args.offered.now (views_of c.args.berths.now.items)
+    (views_of c.call_in.new.berths.items) c.in_ok-answer.answer c.in_ok-id.id c.outcome_of.result
+    c.in_ok-id.ensures.cases c.outcome_of.ensures
+    (subst (λ room. IsAnswered c.args.sender.now.caller (to_offer c.args.sender.now.origin.now c.args.offered.now) room
+    (views_of c.args.berths.now.items) (views_of c.call_in.new.berths.items) c.in_ok-answer.answer)
+    c.room_id-room.ensures c.in_ok-answer.ensures.ok)

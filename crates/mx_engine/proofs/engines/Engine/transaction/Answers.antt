@@ -5,4 +5,5 @@ use Rattle.mx_engine.proofs.SeatLemmas.{when_err}
 use Rattle.mx_engine.proofs.engines.Engine.transaction.Goals as goal
 
 pub returns-in_err-offers-clause-err : goal.returns-in_err-offers-clause-err
-returns-in_err-offers-clause-err g c = when_err c.from_residual.result (inl (nothing_refl (book_views c.args.seat.now), refl))
+returns-in_err-offers-clause-err g c =
+    when_err c.from_residual.result (inl (nothing_refl (book_views c.args.seat.now), refl))
