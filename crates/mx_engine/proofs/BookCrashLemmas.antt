@@ -16,7 +16,6 @@ use Rattle.mx_book.proofs.JournalLemmas.{same-eq, hold_of-here, hold_of-there, s
 use Rattle.mx_book.proofs.StoredLemmas.{stored-given_up}
 use Rattle.mx_book.proofs.AgainLemmas.{known-again}
 use Rattle.mx_world.specs.Parts.{IsSoundBook}
-use Rattle.mx_world.specs.Reopening.{IsReopenedBook}
 use Rattle.mx_engine.specs.Places.{place_code, book_caller}
 use Rattle.mx_engine.specs.Crashes.{AllSeen, IsBookInDock, IsBookOut, LeavesOnly, LeavesBook, IsBookExit, AreExits, last_of as last_value, IsSharedBook, BookRemembers}
 use Rattle.mx_engine.specs.declared.docked.DockedBook.{DockedBook}

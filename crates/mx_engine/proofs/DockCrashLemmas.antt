@@ -1,12 +1,10 @@
 -- What is in a dock begins with all that the owners of its berths have seen.
-use Rattle.std.proofs.Common.{◌≡◌, ℕ, zero, suc, true, false, true≢false, List, [], ◌∷◌, ◌++◌, sym, refl, ap, ◌∙◌, subst, inl, inr}
-use Rattle.std.specs.Prelude.{All}
+use Rattle.std.proofs.Common.{◌≡◌, ℕ, zero, suc, true, true≢false, List, [], ◌∷◌, sym, ap, ◌∙◌, subst, inl, inr}
 use Rattle.std.proofs.lemmas.List.Elements.{All-weaker}
 use mathlib.Core.Option.{some, some-ne-none, some-injective}
 use lib.ListN.{get_elem?}
 use Rattle.mx_dock.specs.Journal.{IsPrefix}
 use Rattle.mx_dock.specs.Rule.{Docked, Agrees, FitsBerth, first_view}
-use Rattle.mx_dock.specs.declared.views.BerthView.{BerthView}
 use Rattle.mx_dock.specs.declared.views.PassView.{PassView}
 use Rattle.mx_engine.specs.Crashes.{AllSeen, IsOutWith}
 

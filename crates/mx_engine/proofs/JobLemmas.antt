@@ -1,5 +1,5 @@
 -- The jobs of a transaction: from a caller's berths, until they are all back.
-use Rattle.std.proofs.Common.{◌≡◌, ◌≢◌, ◌<◌, ◌≤◌, ◌⊎◌, ℕ, zero, suc, length, get_or, take, drop, map, fold, Bool, true, false, cond, List, [], ◌∷◌, ◌++◌, append-nil, Option, None, Some, refl, sym, ◌∙◌, ap, subst, ⊎_elim, arith}
+use Rattle.std.proofs.Common.{◌≡◌, ◌<◌, ◌≤◌, ℕ, zero, suc, length, get_or, take, drop, fold, Bool, true, false, cond, List, [], ◌∷◌, ◌++◌, append-nil, Option, None, Some, refl, sym, ◌∙◌, ap, subst, ⊎_elim, arith}
 use Rattle.std.specs.Prelude.{All, nat_lt, Result, Ok, Err, IfOk}
 use Rattle.std.proofs.lemmas.Bool.{cases_lt}
 use Rattle.std.proofs.lemmas.List.{length-map, get_or-map, get_or_past, drop_all, take_all}
@@ -15,13 +15,15 @@ use Rattle.mx_shard.specs.Journal.{Entry}
 use Rattle.mx_world.specs.declared.answers.Told.{Told}
 use Rattle.mx_engine.specs.Views.{BerthView, view_at, IsSameView, AreSameViews}
 use Rattle.mx_engine.specs.Berths.{IsBerthAt, AreBerthsAt, views_of}
-use Rattle.mx_engine.specs.Transactions.{AreOffered, AreOfferedThere, SomeOfferedThere, SomeOffered, events_at}
-use Rattle.mx_engine.specs.Jobs.{IsReadyAt, IsOver, AreInOrder, AreReady, AreOver, IsSeated, IsFresh, IsReady, IsRun, IsDone, merged, moved, unmoved, AreMoves, lower_of, lowest_of, faults_of, berths_of, places_of, told_of_jobs}
+use Rattle.mx_engine.specs.Transactions.{AreOffered, AreOfferedThere, IsStopped, AreStopped, events_at}
+use Rattle.mx_engine.specs.Jobs.{IsReadyAt, IsOver, AreInOrder, AreReady, AreOver, IsFresh, IsReady, IsRun, IsDone, merged, moved, unmoved, AreMoves, lower_of, lowest_of, faults_of, berths_of, places_of, told_of_jobs}
 use Rattle.mx_engine.specs.declared.docked.DockedShard.{DockedShard}
-use Rattle.mx_engine.specs.declared.jobs.Fault.{Fault}
+use Rattle.mx_engine.specs.declared.faults.Fault.{Fault}
 use Rattle.mx_engine.specs.declared.jobs.Job.{Job}
 use Rattle.mx_engine.proofs.TurnLemmas.{view_at-here}
-use Rattle.mx_engine.proofs.OneShardLemmas.{offered_merged, there-all}
+use Rattle.mx_engine.proofs.OneShardLemmas.{offered_merged}
+use Rattle.mx_engine.proofs.OfferingLemmas.{nothing_there}
+use Rattle.mx_engine.proofs.StoppedLemmas.{lowest_is}
 use Rattle.mx_engine.proofs.MoveLemmas.{All-moved, All-unmoved, map-moved, map-unmoved, unmoved_moved, length-moved, length-unmoved}
 
 -- ---- faults
@@ -56,9 +58,9 @@ module _ {K : Type 0} (docks : List (CachePadded (Dock (DockedShard K) Entry))) 
       record {
         seated = run.seated;
         same = subst (λ w. IsSameView w (own new.berth)) v run.same;
-        done = subst (λ w. IsDone caller origin (events_at new.place events) w new new.fault) v
-            (subst (λ (p : PlaceView). IsDone caller origin (events_at p events) (own old.berth) new new.fault)
-            (sym run.placed) run.done);
+        done = subst (λ w. IsDone caller origin new.place events w new new.fault) v
+            (subst (λ (p : PlaceView). IsDone caller origin p events (own old.berth) new new.fault) (sym run.placed)
+            run.done);
       }
 
   pub in_order : (busy : List Bool) (jobs : List (Job K)) → AreBerthsAt docks caller berths → length jobs ≡ length berths →
@@ -224,11 +226,11 @@ module _ {K : Type 0} (docks : List (CachePadded (Dock (DockedShard K) Entry))) 
 
   done_there : (jobs : List (Job K)) (n : ℕ) (d : Job K) → (AreOver docks caller origin events berths) jobs
       → n < length jobs →
-      IsDone caller origin (events_at (record { number = n; count = length docks }) events) (view_at (views_of berths) n)
+      IsDone caller origin (record { number = n; count = length docks }) events (view_at (views_of berths) n)
       (get_or jobs n d) (get_or jobs n d).fault
   done_there jobs n d a l =
       let job : Job K = get_or jobs n d in
-      subst (λ (p : PlaceView). IsDone caller origin (events_at p events) (view_at (views_of berths) p.number) job job.fault)
+      subst (λ (p : PlaceView). IsDone caller origin p events (view_at (views_of berths) p.number) job job.fault)
       (a.ordered n d l) (a.each n d l).done
 
   pub all_offered : (jobs : List (Job K)) → AreBerthsAt docks caller berths
@@ -252,31 +254,50 @@ module _ {K : Type 0} (docks : List (CachePadded (Dock (DockedShard K) Entry))) 
       (view_at (views_of berths) n) v (get_or (told_of_jobs jobs) n [])) (sym (view_there jobs n d k))
       (subst (λ ts. AreOfferedThere caller origin (events_at (record { number = n; count = length docks }) events)
       (view_at (views_of berths) n) (own job.berth) ts) (sym (get_or-map (λ (x : Job K). x.told.items) jobs n d [] k))
-      (subst (λ f. IsDone caller origin (events_at (record { number = n; count = length docks }) events)
-      (view_at (views_of berths) n) job f) faultless (done_there jobs n d a k))))
+      (subst (λ f. IsDone caller origin (record { number = n; count = length docks }) events (view_at (views_of berths) n)
+      job f) faultless (done_there jobs n d a k))))
 
-  done_some : (os : List Offered) (old : BerthView Entry) (job : Job K) (fault : Option Fault)
-      → IsDone caller origin os old job fault → SomeOfferedThere caller origin os old (own job.berth)
-  done_some os old job None done = there-all caller origin os old (own job.berth) job.told.items done
-  done_some os old job (Some fault) done = done
-
-  pub some_offered : (jobs : List (Job K)) → AreBerthsAt docks caller berths
-      → (AreOver docks caller origin events berths) jobs
-      → SomeOffered caller origin events (views_of berths) (views_of (berths_of jobs))
-  some_offered jobs seated a = record {
-    long = views_long jobs seated a;
-    each = λ n l.
-        let count : length (views_of berths) ≡ length docks = length-map berths own ∙ seated.same in
-        let k : n < length jobs = subst (λ c. n < c) (count ∙ sym a.long) l in
-        let d = any_job n jobs k in
-        let job : Job K = get_or jobs n d in
-        subst (λ c. SomeOfferedThere caller origin (events_at (record { number = n; count = c }) events)
-        (view_at (views_of berths) n) (view_at (views_of (berths_of jobs)) n)) (sym count)
-        (subst (λ v. SomeOfferedThere caller origin (events_at (record { number = n; count = length docks }) events)
-        (view_at (views_of berths) n) v) (sym (view_there jobs n d k))
-        (done_some (events_at (record { number = n; count = length docks }) events) (view_at (views_of berths) n) job
-        job.fault (done_there jobs n d a k)));
+  done_stopped : (at : PlaceView) (old : BerthView Entry) (job : Job K) (fault : Option Fault)
+      → IsDone caller origin at events old job fault
+      → IsStopped caller origin at events fault old (own job.berth)
+  done_stopped at old job None done = record {
+    its = tt;
+    between = own job.berth;
+    told = job.told.items;
+    offered = done;
+    nothing = nothing_there (own job.berth);
   }
+  done_stopped at old job (Some fault) done = done
+
+  -- each shard stopped at its job's fault, and the lowest of these is told
+  pub all_stopped : (jobs : List (Job K)) → AreBerthsAt docks caller berths
+      → (AreOver docks caller origin events berths) jobs
+      → (lowest : Fault) → lowest_of (faults_of jobs) ≡ Some lowest
+      → AreStopped caller origin events (views_of berths) (views_of (berths_of jobs)) lowest.error
+  all_stopped jobs seated a lowest is =
+      let count : length (views_of berths) ≡ length docks = length-map berths own ∙ seated.same in
+      let faults : length (faults_of jobs) ≡ length docks = length-map jobs (λ (x : Job K). x.fault) ∙ a.long in
+      let low = lowest_is (faults_of jobs) lowest is in
+      record {
+        fault_at = λ n. get_or (faults_of jobs) n None;
+        long = views_long jobs seated a;
+        each = λ n l.
+            let k : n < length jobs = subst (λ c. n < c) (count ∙ sym a.long) l in
+            let d = any_job n jobs k in
+            let job : Job K = get_or jobs n d in
+            let at : PlaceView = record { number = n; count = length docks } in
+            subst (λ c. IsStopped caller origin (record { number = n; count = c }) events (get_or (faults_of jobs) n None)
+            (view_at (views_of berths) n) (view_at (views_of (berths_of jobs)) n)) (sym count)
+            (subst (λ v. IsStopped caller origin at events (get_or (faults_of jobs) n None) (view_at (views_of berths) n) v)
+            (sym (view_there jobs n d k))
+            (subst (λ f. IsStopped caller origin at events f (view_at (views_of berths) n) (own job.berth))
+            (sym (get_or-map (λ (x : Job K). x.fault) jobs n d None k))
+            (done_stopped at (view_at (views_of berths) n) job job.fault (done_there jobs n d a k))));
+        lowest = lowest;
+        its = (low.at, subst (λ c. low.at < c) (faults ∙ sym count) low.within, low.is);
+        low = λ n l. low.low n (subst (λ c. n < c) (count ∙ sym faults) l);
+        is = refl;
+      }
 
 -- what a slice of a `Vec` holds when it is given back
 pub written_back : {A : Type 0} (len : ℕ) (items given : List A) → len ≡ length items → length given ≡ length items

@@ -1,5 +1,5 @@
 -- What a caller is told as kept is in what it has then seen.
-use Rattle.std.proofs.Common.{◌≡◌, ◌≢◌, ◌<◌, ℕ, zero, suc, Bool, true, false, cond, List, [], ◌∷◌, ◌++◌, length, map, get_or, set, sum, Option, Some, None, refl, sym, ap, ◌∙◌, subst, arith, append_assoc, append-nil}
+use Rattle.std.proofs.Common.{◌≡◌, ◌<◌, ℕ, zero, suc, Bool, true, false, cond, List, [], ◌∷◌, ◌++◌, length, get_or, sum, Option, Some, None, refl, sym, ap, ◌∙◌, subst, arith, append_assoc, append-nil}
 use Rattle.std.specs.Prelude.{bytes_eq, if◌then◌else◌, nat_le, not, codes, option_to_list}
 use Rattle.std.specs.Option.{option_or}
 use Rattle.std.proofs.lemmas.List.{map-append, get_or_append_left, get_or_push, length-map, length-set}
@@ -15,14 +15,13 @@ use Rattle.mx_pdu.specs.Event.{has_kind, room_of, sender_of}
 use Rattle.mx_graph.specs.Adding.{most_rows}
 use Rattle.mx_graph.specs.Record.{Row, no_row, place_of}
 use Rattle.mx_graph.proofs.RowLemmas.{place_of-push}
-use Rattle.mx_receipt.specs.Receipt.{Kept, rows_of, kept_at, is_rejected, lacks_cited, verdict}
+use Rattle.mx_receipt.specs.Receipt.{Kept, rows_of, kept_at, is_rejected, lacks_cited}
 use Rattle.mx_receipt.specs.declared.verdicts.Verdict.{Verdict}
 use Rattle.mx_receipt.specs.declared.verdicts.Verdict.TheVariants.{Accepted}
 use Rattle.mx_room.specs.Hosting.{host_error}
-use Rattle.mx_room.specs.Joins.{join_reply, join_reply_by, row_by_join, with_offer}
+use Rattle.mx_room.specs.Joins.{join_reply, row_by_join}
 use Rattle.mx_room.specs.Offer.{Offered, as_kept, new_outcome, allowed_outcome, offer_outcome, row_by}
 use Rattle.mx_room.specs.declared.hosting.NotARoom.{NotARoom}
-use Rattle.mx_room.specs.declared.joining.JoinReply.TheVariants as join
 use Rattle.mx_room.specs.declared.outcomes.Outcome.{Outcome}
 use Rattle.mx_room.specs.declared.outcomes.Outcome.TheVariants as outcome
 use Rattle.mx_room.specs.declared.outcomes.Refusal.{Refusal}

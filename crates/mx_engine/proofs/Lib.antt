@@ -13,6 +13,7 @@ pub mod EndedLemmas
 pub mod TransactionLemmas
 pub mod OfferingLemmas
 pub mod OneShardLemmas
+pub mod StoppedLemmas
 pub mod MoveLemmas
 pub mod RunLemmas
 pub mod ToldLemmas

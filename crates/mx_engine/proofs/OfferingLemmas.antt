@@ -1,10 +1,10 @@
 -- Events that are offered in turn.
-use Rattle.std.proofs.Common.{◌≡◌, ◌<◌, ◌≤◌, ◌+◌, ℕ, length, get_or, take, drop, List, [], ◌∷◌, ◌++◌, append_assoc, append-nil, refl, sym, ◌∙◌, ap, subst}
+use Rattle.std.proofs.Common.{◌≡◌, ◌<◌, ◌≤◌, ◌+◌, ℕ, length, get_or, take, List, [], ◌∷◌, ◌++◌, append_assoc, append-nil, refl, sym, ◌∙◌, ap, subst}
 use Rattle.mx_pdu.specs.Event.{room_of}
 use Rattle.mx_room.specs.Offer.{Offered}
 use Rattle.mx_room.specs.declared.outcomes.Outcome.{Outcome}
 use Rattle.std.specs.Prelude.{Option, Some, Result, Ok, Err}
-use Rattle.std.proofs.lemmas.List.{take_more, take_all, drop_more, take-append-drop}
+use Rattle.std.proofs.lemmas.List.{take_more, take_all}
 use Rattle.mx_receipt.specs.Receipt.{Kept}
 use Rattle.mx_dock.proofs.ViewLemmas.{prefix_refl}
 use Rattle.mx_keeper.specs.declared.refusals.CallError.{CallError}
@@ -18,7 +18,6 @@ use Rattle.mx_engine.specs.Calls.{IsAnswered}
 use Rattle.mx_engine.specs.Calling.{IsTurn, entries_by}
 use Rattle.mx_engine.specs.Transactions.{IsOffered, AreOffered, IsOfferedThere}
 use Rattle.mx_engine.specs.Offering.{FirstOffered}
-use Rattle.mx_engine.proofs.TurnLemmas.{nothing_refl}
 
 outcome_answered : (ks : List Kept) (origin : List ℕ) (o : Offered)
     → outcome_told (answer ks (to_offer origin o)) ≡ outcome_in ks origin o
@@ -73,44 +72,6 @@ offered-snoc caller origin (o' ∷ os) o old between new [] t are one = absurd a
 offered-snoc caller origin (o' ∷ os) o old between new (t' ∷ ts) t are one =
     (are.0, are.1, offered-snoc caller origin os o are.0 between new ts t are.2 one)
 
--- what was offered, and then others
-offered-append : (caller : ℕ) (origin : List ℕ) (os qs : List Offered) (old between new : List (BerthView Entry))
-    (ts us : List Told) →
-    AreOffered caller origin os old between ts → AreOffered caller origin qs between new us
-    → AreOffered caller origin (os ++ qs) old new (ts ++ us)
-offered-append caller origin [] qs old between new [] us are later =
-    subst (λ vs. AreOffered caller origin qs vs new us) are later
-offered-append caller origin [] qs old between new (t ∷ ts) us are later = absurd are
-offered-append caller origin (o ∷ os) qs old between new [] us are later = absurd are
-offered-append caller origin (o ∷ os) qs old between new (t ∷ ts) us are later =
-    (are.0, are.1, offered-append caller origin os qs are.0 between new ts us are.2 later)
-
--- ---- where a call was refused
-
--- nothing of the event was kept
-pub some_none : (caller : ℕ) (origin : List ℕ) (events : List Offered) (old new : List (BerthView Entry))
-    → AddsNothing old new → FirstOffered caller origin events old new
-some_none caller origin events old new nothing =
-    record { first = []; others = events; are = refl; between = old; told = []; offered = refl; nothing = nothing }
-
--- all were offered
-pub some_all : (caller : ℕ) (origin : List ℕ) (events : List Offered) (old new : List (BerthView Entry)) (told : List Told)
-    → AreOffered caller origin events old new told → FirstOffered caller origin events old new
-some_all caller origin events old new told are =
-    record {
-      first = events;
-      others = [];
-      are = sym (append-nil events);
-      between = new;
-      told = told;
-      offered = are;
-      nothing = nothing_refl new;
-    }
-
-pub some_one : (caller : ℕ) (origin : List ℕ) (o : Offered) (old new : List (BerthView Entry)) (told : Told)
-    → IsOffered caller origin o old new told → FirstOffered caller origin (o ∷ []) old new
-some_one caller origin o old new told one = some_all caller origin (o ∷ []) old new (told ∷ []) (new, one, refl)
-
 -- ---- so far, with those that are left
 
 pub record SoFar (caller : ℕ) (origin : List ℕ) (events : List Offered) (index : ℕ) (old new : List (BerthView Entry))
@@ -142,29 +103,19 @@ pub so_far_all : (caller : ℕ) (origin : List ℕ) (events : List Offered) (ind
 so_far_all caller origin events index old new before after l far =
     (far.told, subst (λ os. AreOffered caller origin os old new far.told) (take_all index events l) far.offered, far.are)
 
-pub so_far_refused : (caller : ℕ) (origin : List ℕ) (events : List Offered) (index : ℕ) (o : Offered)
-    (old between new : List (BerthView Entry)) (before middle : List Told) → index < length events
-    → o ≡ get_or events index o →
-    SoFar caller origin events index old between before middle → FirstOffered caller origin (o ∷ []) between new
+pub so_far_refused : (caller : ℕ) (origin : List ℕ) (events : List Offered) (index : ℕ)
+    (old between new : List (BerthView Entry))
+    (before middle : List Told) → index < length events → SoFar caller origin events index old between before middle
+    → AddsNothing between new
     → FirstOffered caller origin events old new
-so_far_refused caller origin events index o old between new before middle l is far some = record {
-  first = take index events ++ some.first;
-  others = some.others ++ drop (index + 1) events;
-  are = split events index o l is
-      ∙ ap (λ os. take index events ++ (os ++ drop (index + 1) events)) some.are
-      ∙ ap (λ os. take index events ++ os) (append_assoc some.first some.others (drop (index + 1) events))
-      ∙ sym (append_assoc (take index events) some.first (some.others ++ drop (index + 1) events));
-  between = some.between;
-  told = far.told ++ some.told;
-  offered = offered-append caller origin (take index events) some.first old between some.between far.told some.told
-      far.offered some.offered;
-  nothing = some.nothing;
+so_far_refused caller origin events index old between new before middle l far nothing = record {
+  place = index;
+  within = l;
+  between = between;
+  told = far.told;
+  offered = far.offered;
+  nothing = nothing;
 }
-  where
-    split : (events : List Offered) (index : ℕ) (o : Offered) → index < length events → o ≡ get_or events index o
-        → events ≡ take index events ++ (o ∷ drop (index + 1) events)
-    split events index o l is = sym (take-append-drop index events)
-        ∙ ap (λ os. take index events ++ os) (drop_more events index o l ∙ ap (λ x. x ∷ drop (index + 1) events) (sym is))
 
 -- ---- by what is known of its shard alone
 

@@ -1,30 +1,27 @@
 -- Events that are offered at several shards, and what that is at one of them.
-use Rattle.std.proofs.Common.{◌≡◌, ◌≢◌, ◌<◌, ◌==◌, ℕ, length, get_or, set, take, drop, Bool, true, false, cond, List, [], ◌∷◌, ◌++◌, append_assoc, append-nil, sum, refl, sym, ◌∙◌, ap, subst, eq-eqb, ext_get_or}
+use Rattle.std.proofs.Common.{◌≡◌, ◌≢◌, ◌<◌, ◌==◌, ℕ, length, get_or, set, take, drop, Bool, true, false, cond, List, [], ◌∷◌, ◌++◌, sum, refl, sym, ◌∙◌, ap, subst, eq-eqb, ext_get_or}
 use Rattle.std.proofs.lemmas.Bool.{eqb-true}
 use Rattle.std.proofs.lemmas.List.{length-set, get_or-set_same, get_or-set_other}
-use Rattle.std.proofs.lemmas.List.Elements.{filter-append}
 use Rattle.std.proofs.lemmas.Nat.{mod_below}
 use native.Mathlib.Decide.{ℕ_discrete}
 use mathlib.Core.Logic.{dite}
 use Rattle.mx_dock.specs.Journal.{IsPrefix}
 use Rattle.mx_dock.specs.Rule.{no_berth}
-use Rattle.mx_dock.proofs.ViewLemmas.{prefix_refl}
-use Rattle.mx_keeper.specs.Places.{PlaceView, place_number, is_at}
+use Rattle.mx_keeper.specs.Places.{place_number, is_at}
 use Rattle.mx_pdu.specs.Event.{room_of}
 use Rattle.mx_room.specs.Offer.{Offered}
 use Rattle.mx_shard.specs.LoneRoom.{to_offer}
 use Rattle.mx_shard.specs.Journal.{Entry}
 use Rattle.mx_world.specs.declared.answers.Told.{Told}
-use Rattle.mx_engine.specs.Views.{BerthView, view_at, after_turn, turned, AddsNothingThere}
+use Rattle.mx_engine.specs.Views.{BerthView, view_at, after_turn, turned}
 use Rattle.mx_engine.specs.Calls.{entries_added}
-use Rattle.mx_engine.specs.Transactions.{IsOffered, AreOffered, IsOfferedThere, AreOfferedThere, SomeOfferedThere, SomeOffered, events_at}
-use Rattle.mx_engine.specs.Offering.{FirstOffered}
+use Rattle.mx_engine.specs.Transactions.{IsOffered, AreOffered, IsOfferedThere, AreOfferedThere, events_at}
 use Rattle.mx_engine.specs.Jobs.{merged}
-use Rattle.mx_engine.proofs.TurnLemmas.{view-set_same, view-set_other, nothing_refl}
+use Rattle.mx_engine.proofs.TurnLemmas.{view-set_same, view-set_other}
 
 -- ---- events of one shard
 
-here : (n count : ℕ) (o : Offered) → place_number count (room_of o.pdu) ≡ n
+pub here : (n count : ℕ) (o : Offered) → place_number count (room_of o.pdu) ≡ n
     → is_at (record { number = n; count = count }) (room_of o.pdu) ≡ true
 here n count o is = eq-eqb (place_number count (room_of o.pdu)) n is
 
@@ -58,8 +55,8 @@ module _ (caller : ℕ) (origin : List ℕ) where
       ap length a.seen ∙ length-set old k
       (after_turn (view_at old k) a.journal (entries_added a.journal caller (room_of o.pdu) (to_offer origin o)))
 
-  all_long : (os : List Offered) (old new : List (BerthView Entry)) (ts : List Told) → AreOffered caller origin os old new ts
-      → length new ≡ length old
+  pub all_long : (os : List Offered) (old new : List (BerthView Entry)) (ts : List Told)
+      → AreOffered caller origin os old new ts → length new ≡ length old
   all_long [] old new [] are = ap length are
   all_long [] old new (t ∷ ts) are = absurd are
   all_long (o ∷ os) old new [] are = absurd are
@@ -113,54 +110,6 @@ module _ (caller : ℕ) (origin : List ℕ) where
             (subst (λ v. AreOfferedThere caller origin (events_at (record { number = n; count = count }) os) v
             (view_at new n) rest.0) (offered_elsewhere n count o old are.0 t long apart are.1) rest.1),
       ))
-
-  -- where some first ones were offered in turn, so it was at each shard
-  pub some_of_first : (events : List Offered) (old new : List (BerthView Entry)) → FirstOffered caller origin events old new
-      → SomeOffered caller origin events old new
-  some_of_first events old new f = record {
-    long = f.nothing.long ∙ all_long f.first old f.between f.told f.offered;
-    each = λ n l.
-        let at : PlaceView = record { number = n; count = length old } in
-        let there = chain_there n (length old) f.first old f.between f.told refl l f.offered in
-        record {
-          first = events_at at f.first;
-          others = events_at at f.others;
-          are = ap (events_at at) f.are ∙ filter-append (λ o. is_at at (room_of o.pdu)) f.first f.others;
-          between = view_at f.between n;
-          told = there.0;
-          offered = there.1;
-          nothing = f.nothing.each n;
-        };
-  }
-
-  -- so where none was
-  pub none_offered : (events : List Offered) (views : List (BerthView Entry)) → SomeOffered caller origin events views views
-  none_offered events views =
-      some_of_first events views views
-      (record {
-        first = [];
-        others = events;
-        are = refl;
-        between = views;
-        told = [];
-        offered = refl;
-        nothing = nothing_refl views;
-      })
-
-  -- so where all were
-  pub some_where_all : (events : List Offered) (old new : List (BerthView Entry)) (told : List Told)
-      → AreOffered caller origin events old new told → SomeOffered caller origin events old new
-  some_where_all events old new told are =
-      some_of_first events old new
-      (record {
-        first = events;
-        others = [];
-        are = sym (append-nil events);
-        between = new;
-        told = told;
-        offered = are;
-        nothing = nothing_refl new;
-      })
 
   -- ---- what was offered at each shard, in turn
 
@@ -234,36 +183,3 @@ module _ (caller : ℕ) (origin : List ℕ) where
   there-append (o ∷ os) qs old between new [] us are later = absurd are
   there-append (o ∷ os) qs old between new (t ∷ ts) us are later =
       (are.0, are.1, there-append os qs are.0 between new ts us are.2 later)
-
-  pub there-none : (events : List Offered) (old new : BerthView Entry) → AddsNothingThere old new
-      → SomeOfferedThere caller origin events old new
-  there-none events old new nothing =
-      record { first = []; others = events; are = refl; between = old; told = []; offered = refl; nothing = nothing }
-
-  pub there-all : (events : List Offered) (old new : BerthView Entry) (told : List Told)
-      → AreOfferedThere caller origin events old new told → SomeOfferedThere caller origin events old new
-  there-all events old new told are =
-      record {
-        first = events;
-        others = [];
-        are = sym (append-nil events);
-        between = new;
-        told = told;
-        offered = are;
-        nothing = (new.seen, prefix_refl new.seen, refl);
-      }
-
-  -- where all were offered of the first ones, some were of all
-  pub there-later : (first next rest : List Offered) (old between new : BerthView Entry) (told : List Told)
-      → AreOfferedThere caller origin first old between told → SomeOfferedThere caller origin next between new
-      → SomeOfferedThere caller origin (first ++ (next ++ rest)) old new
-  there-later first next rest old between new told are some = record {
-    first = first ++ some.first;
-    others = some.others ++ rest;
-    are = ap (λ es. first ++ (es ++ rest)) some.are ∙ ap (λ es. first ++ es) (append_assoc some.first some.others rest)
-        ∙ sym (append_assoc first some.first (some.others ++ rest));
-    between = some.between;
-    told = told ++ some.told;
-    offered = there-append first some.first old between some.between told some.told are some.offered;
-    nothing = some.nothing;
-  }

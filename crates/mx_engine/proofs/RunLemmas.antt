@@ -1,22 +1,22 @@
 -- One job of a transaction, event by event.
-use Rattle.std.proofs.Common.{◌≡◌, ◌<◌, ◌≤◌, ◌+◌, ℕ, length, get_or, take, drop, Bool, true, false, cond, List, [], ◌∷◌, ◌++◌, append-nil, Option, None, Some, refl, sym, ◌∙◌, ap, subst}
-use Rattle.std.proofs.lemmas.List.{take_more, take_all, drop_more, take-append-drop}
+use Rattle.std.proofs.Common.{◌≡◌, ◌<◌, ◌≤◌, ◌+◌, ℕ, length, get_or, take, true, IsTrue, false, cond, List, [], ◌∷◌, ◌++◌, append-nil, Some, refl, sym, ◌∙◌, ap, subst}
+use Rattle.std.proofs.lemmas.List.{take_more, take_all}
 use Rattle.std.proofs.lemmas.List.Elements.{filter-append}
 use Rattle.crossbeam_utils.specs.declared.cache_padded.CachePadded.{CachePadded}
 use Rattle.mx_dock.specs.Dock.{own}
 use Rattle.mx_dock.specs.declared.docks.Dock.{Dock}
 use Rattle.mx_keeper.specs.Places.{PlaceView, is_at}
+use Rattle.mx_keeper.specs.declared.refusals.CallError.{CallError}
 use Rattle.mx_pdu.specs.Event.{room_of}
 use Rattle.mx_room.specs.Offer.{Offered}
 use Rattle.mx_shard.specs.Journal.{Entry}
 use Rattle.mx_world.specs.declared.answers.Told.{Told}
-use Rattle.mx_engine.specs.Views.{BerthView}
-use Rattle.mx_engine.specs.Transactions.{IsOfferedThere, AreOfferedThere, SomeOfferedThere, events_at}
+use Rattle.mx_engine.specs.Views.{BerthView, AddsNothingThere}
+use Rattle.mx_engine.specs.Transactions.{IsOfferedThere, AreOfferedThere, events_at}
 use Rattle.mx_engine.specs.Jobs.{IsSeated, IsReady, IsRun, IsDone, IsSameJob}
 use Rattle.mx_engine.specs.declared.docked.DockedShard.{DockedShard}
-use Rattle.mx_engine.specs.declared.jobs.Fault.{Fault}
 use Rattle.mx_engine.specs.declared.jobs.Job.{Job}
-use Rattle.mx_engine.proofs.OneShardLemmas.{there-append, there-later}
+use Rattle.mx_engine.proofs.OneShardLemmas.{there-append}
 
 module _ {K : Type 0} (docks : List (CachePadded (Dock (DockedShard K) Entry))) (caller : ℕ) (origin : List ℕ) where
   -- ---- one event
@@ -99,7 +99,7 @@ module _ {K : Type 0} (docks : List (CachePadded (Dock (DockedShard K) Entry))) 
     seated = r.seated;
     placed = refl;
     same = record { numbered = refl; opened = refl; counted = refl; placed = refl };
-    done = subst (λ f. IsDone caller origin (events_at job.place events) (own job.berth) job f) (sym r.faultless)
+    done = subst (λ f. IsDone caller origin job.place events (own job.berth) job f) (sym r.faultless)
         (subst (λ es. AreOfferedThere caller origin es (own job.berth) (own job.berth) job.told.items) (sym (r.idle idle))
         (subst (λ ts. AreOfferedThere caller origin [] (own job.berth) (own job.berth) ts) (sym r.untold) refl));
   }
@@ -110,36 +110,26 @@ module _ {K : Type 0} (docks : List (CachePadded (Dock (DockedShard K) Entry))) 
     seated = far.seated;
     placed = far.same.placed;
     same = far.same.same;
-    done = subst (λ f. IsDone caller origin (events_at old.place events) (own old.berth) job f)
-        (sym (far.same.fault ∙ r.faultless))
+    done = subst (λ f. IsDone caller origin old.place events (own old.berth) job f) (sym (far.same.fault ∙ r.faultless))
         (subst (λ es. AreOfferedThere caller origin (events_at old.place es) (own old.berth) (own job.berth) job.told.items)
         (take_all index events l) far.offered);
   }
 
-  pub run_stopped : (events : List Offered) (index : ℕ) (o : Offered) (fault : Fault) (old job new : Job K)
-      → index < length events → o ≡ get_or events index o → SoFarThere events index old job → IsSeated docks caller new
-      → IsSameJob job new →
-      SomeOfferedThere caller origin (events_at job.place (o ∷ [])) (own job.berth) (own new.berth)
-      → IsRun docks caller origin events old (record new { fault = Some fault })
-  run_stopped events index o fault old job new l is far seated same some = record {
+  -- it stops at the event at this place, which adds nothing
+  pub run_stopped : (events : List Offered) (index : ℕ) (o : Offered) (error : CallError) (old job new : Job K)
+      → index < length events
+      → o ≡ get_or events index o → SoFarThere events index old job → IsSeated docks caller new → IsSameJob job new
+      → AddsNothingThere (own job.berth) (own new.berth) → IsTrue (is_at job.place (room_of o.pdu))
+      → IsRun docks caller origin events old (record new { fault = Some (record { place = index; error = error }) })
+  run_stopped events index o error old job new l is far seated same nothing here = record {
     seated = record { within = seated.within; counted = seated.counted; berth = seated.berth };
     placed = same.placed ∙ far.same.placed;
     same = (same_job_trans old job new far.same same).same;
-    done = subst (λ es. SomeOfferedThere caller origin es (own old.berth) (own new.berth)) (sym (split old.place))
-        (there-later caller origin (events_at old.place (take index events)) (events_at old.place (o ∷ []))
-        (events_at old.place (drop (index + 1) events)) (own old.berth) (own job.berth) (own new.berth) job.told.items
-        far.offered
-        (subst (λ (p : PlaceView). SomeOfferedThere caller origin (events_at p (o ∷ [])) (own job.berth) (own new.berth))
-        far.same.placed some));
+    done = record {
+      its = (o, l, is, subst (λ (p : PlaceView). IsTrue (is_at p (room_of o.pdu))) far.same.placed here);
+      between = own job.berth;
+      told = job.told.items;
+      offered = far.offered;
+      nothing = nothing;
+    };
   }
-    where
-      split : (place : PlaceView)
-          → events_at place events ≡ events_at place
-          (take index events) ++ (events_at place (o ∷ []) ++ events_at place (drop (index + 1) events))
-      split place =
-          ap (events_at place) (sym (take-append-drop index events)
-          ∙ ap (λ os. take index events ++ os)
-          (drop_more events index o l ∙ ap (λ x. x ∷ drop (index + 1) events) (sym is)))
-          ∙ filter-append (λ x. is_at place (room_of x.pdu)) (take index events) ((o ∷ []) ++ drop (index + 1) events)
-          ∙ ap (λ os. events_at place (take index events) ++ os)
-          (filter-append (λ x. is_at place (room_of x.pdu)) (o ∷ []) (drop (index + 1) events))

@@ -25,7 +25,7 @@ use Rattle.mx_engine.specs.contracts.docked.DockedBookJournaled.TheImpl as book_
 use Rattle.mx_engine.specs.contracts.seats.Seat as seat
 use Rattle.mx_engine.specs.contracts.jobs.Job as job
 use Rattle.mx_engine.specs.contracts.jobs.Sender as sender
-use Rattle.mx_engine.proofs.jobs.Fault.TheSendSync as fault
+use Rattle.mx_engine.proofs.faults.Fault.TheSendSync as fault
 use Rattle.mx_engine.specs.contracts.engines.Engine as engine
 use Rattle.mx_engine.proofs.Sending.{shard_send, book_send}
 

@@ -1,5 +1,5 @@
 -- What a crash leaves of a shard that callers share, and what a shard has that is opened again over it.
-use Rattle.std.proofs.Common.{◌≡◌, ◌≤◌, ◌⊎◌, inl, inr, ℕ, Bool, true, false, List, [], ◌∷◌, ◌++◌, length, map, Option, Some, refl, sym, ap, ◌∙◌, subst, arith, append_assoc, append-nil}
+use Rattle.std.proofs.Common.{◌≡◌, ◌≤◌, ◌⊎◌, inl, inr, Bool, true, false, List, [], ◌∷◌, ◌++◌, length, Option, Some, refl, sym, ap, ◌∙◌, subst, arith, append_assoc, append-nil}
 use Rattle.mx_dock.specs.Journal.{IsPrefix}
 use Rattle.mx_dock.specs.declared.views.PassView.{PassView}
 use Rattle.mx_keeper.specs.declared.rows.ShardRow.{ShardRow}
@@ -7,9 +7,8 @@ use Rattle.mx_shard.specs.Journal.{Entry, AreWorkedOut, record_of, row_in, store
 use Rattle.mx_shard.specs.View.{ShardView}
 use Rattle.mx_shard.proofs.AgainLemmas.{journal-again}
 use Rattle.mx_world.specs.Parts.{IsSoundShard}
-use Rattle.mx_world.specs.Reopening.{IsReopenedShard}
 use Rattle.mx_engine.specs.Places.{place_code}
-use Rattle.mx_engine.specs.Crashes.{AllSeen, IsShardInDock, IsShardOut, LeavesOnly, LeavesShard, IsShardExit, AreExits, last_of, IsSharedShard, Remembers, ShardRemembers}
+use Rattle.mx_engine.specs.Crashes.{AllSeen, IsShardInDock, IsShardOut, LeavesOnly, LeavesShard, IsShardExit, AreExits, last_of, IsSharedShard, ShardRemembers}
 use Rattle.mx_engine.specs.declared.docked.DockedShard.{DockedShard}
 use Rattle.mx_engine.proofs.DockCrashLemmas.{seen_in, seen_out, each_seen}
 use Rattle.mx_engine.proofs.RecordLemmas.{record-longer}

@@ -1,5 +1,5 @@
 -- What is told at each dock, put together in the order of the events; which docks are busy; the fault at the lowest place.
-use Rattle.std.proofs.Common.{◌≡◌, ◌≢◌, ◌<◌, ◌≤◌, ◌+◌, ℕ, length, get_or, set, take, drop, fold, map, Bool, true, false, true≢false, List, [], ◌∷◌, ◌++◌, append_assoc, append-nil, Option, None, refl, sym, ◌∙◌, ap, subst}
+use Rattle.std.proofs.Common.{◌≡◌, ◌<◌, ◌≤◌, ◌+◌, ℕ, length, get_or, set, take, drop, fold, Bool, true, false, true≢false, List, [], ◌∷◌, ◌++◌, append_assoc, append-nil, Option, sym, ◌∙◌, ap, subst}
 use Rattle.std.proofs.lemmas.List.{take_more, take_all, drop_more, drop_all, get_or-set_same, get_or-set_other}
 use Rattle.std.proofs.lemmas.List.Elements.{filter-append}
 use native.Mathlib.Decide.{ℕ_discrete}
@@ -9,8 +9,8 @@ use Rattle.mx_pdu.specs.Event.{room_of}
 use Rattle.mx_room.specs.Offer.{Offered}
 use Rattle.mx_world.specs.declared.answers.Told.{Told}
 use Rattle.mx_engine.specs.Transactions.{events_at}
-use Rattle.mx_engine.specs.Jobs.{merged, lower_of, lowest_of, faults_of}
-use Rattle.mx_engine.specs.declared.jobs.Fault.{Fault}
+use Rattle.mx_engine.specs.Jobs.{merged, lower_of, faults_of}
+use Rattle.mx_engine.specs.declared.faults.Fault.{Fault}
 use Rattle.mx_engine.specs.declared.jobs.Job.{Job}
 use Rattle.mx_engine.proofs.OneShardLemmas.{events_at-elsewhere}
 

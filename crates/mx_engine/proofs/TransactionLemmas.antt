@@ -1,6 +1,6 @@
 -- A transaction that a caller has begun, and what is added to its book meanwhile.
-use Rattle.std.proofs.Common.{◌≡◌, ◌≢◌, ◌<◌, ℕ, length, set, get_or, Bool, true, false, cond, IsTrue, List, [], ◌∷◌, ◌++◌, append-nil, append_assoc, refl, sym, ◌∙◌, ap, subst, eq-eqb}
-use Rattle.std.specs.Prelude.{All, Option, None, Some, Result, Ok, Err, IfOk, OnOk, OnErr, ◌==◌}
+use Rattle.std.proofs.Common.{◌≡◌, ◌≢◌, ◌<◌, inr, ℕ, length, set, get_or, Bool, true, false, cond, IsTrue, List, [], ◌∷◌, ◌++◌, append-nil, append_assoc, refl, sym, ◌∙◌, ap, subst, eq-eqb}
+use Rattle.std.specs.Prelude.{All, Option, None, Some, Result, Ok, Err, IfErr, IfOk, OnOk, OnErr, ◌==◌}
 use Rattle.std.proofs.lemmas.Bool.{false≢true, and_parts, eqb-true}
 use Rattle.std.proofs.lemmas.List.Elements.{All-nil, filter-append}
 use Rattle.std.proofs.lemmas.List.{length-map, length-set, get_or-set_same}
@@ -29,7 +29,7 @@ use Rattle.mx_dock.specs.declared.berths.Berth.{Berth}
 use Rattle.mx_keeper.specs.Places.{place_number}
 use Rattle.mx_engine.specs.Views.{BerthView, view_at, after_turn, turned, AddsNothing, AreSameViews}
 use Rattle.mx_engine.specs.Berths.{views_of}
-use Rattle.mx_engine.specs.Transactions.{book_number, IsFound, AreOffered, SomeOffered}
+use Rattle.mx_engine.specs.Transactions.{book_number, IsFound, AreOffered, IsAborted, IsRefused}
 use Rattle.mx_engine.specs.BookTurns.{HasBegun, HasBegunIn, IsOpened, IsOpenedIn, IsEndedBy, IsEndedIn}
 use Rattle.mx_engine.proofs.TurnLemmas.{after-put, views-turned, view_at-here, view-set_same, view-set_other, told_nothing, same-set}
 
@@ -525,7 +525,7 @@ pub closed_all : (caller : ℕ) (key : TransactionKey) (events : List Offered) (
     → how ≡ opening.Fresh → IsOpenedIn caller key old between (Ok how) →
     IfOk result (λ r. (told : List Told) × AreOffered caller key.origin events shards shards' told
     × (r ≡ closing.Closed (body_of told)) × IsEndedIn caller key (Kept key caller (body_of told)) between new) →
-    OnErr result (SomeOffered caller key.origin events shards shards'
+    IfErr result (λ error. IsAborted caller key.origin events shards shards' error
     × IsEndedIn caller key (GivenUp key caller) between new) →
     ((n : ℕ) → IsEnded (view_at old n).added) → (n : ℕ) → IsEnded (view_at new n).added
 closed_all caller key events shards shards' old between new (Ok r) how is o ok err all n =
@@ -534,3 +534,26 @@ closed_all caller key events shards shards' old between new (Ok r) how is o ok e
 closed_all caller key events shards shards' old between new (Err e) how is o ok err all n =
     ended_all caller key (GivenUp key caller) old between new (ends_given_up key caller)
     (fresh_opened caller key old between how is o) err.1 all n
+
+-- what is refused once it was begun is given up
+pub refused_begun : (caller : ℕ) (key : TransactionKey) (events : List Offered) (shards shards' : List (BerthView Entry))
+    (old between new : List (BerthView BookEntry)) (result : Result TransactionReply CallError) (how : Opening)
+    → how ≡ opening.Fresh → IsOpenedIn caller key old between (Ok how)
+    → IfErr result (λ error. IsAborted caller key.origin events shards shards' error
+    × IsEndedIn caller key (GivenUp key caller) between new)
+    → IfErr result (IsRefused caller key events shards old shards' new)
+refused_begun caller key events shards shards' old between new (Ok r) how is o err = tt
+refused_begun caller key events shards shards' old between new (Err e) how is o err =
+    let fresh = fresh_opened caller key old between how is o in
+    inr (
+      err.0,
+      record {
+        journal = fresh.journal;
+        found = fresh.found;
+        is_free = free_of_fresh (hold_of fresh.journal key) fresh.reply;
+        last = err.1.journal;
+        found_again = subst (λ vs. IsFound vs key err.1.journal) (fresh_view caller key old between fresh) err.1.found;
+        is_begun = err.1.is_begun;
+        seen = end_view caller key (GivenUp key caller) old between new fresh err.1;
+      },
+    )

@@ -13,9 +13,9 @@ use Rattle.mx_shard.specs.Journal.{Entry}
 use Rattle.mx_world.specs.declared.answers.Told.{Told}
 use Rattle.mx_engine.specs.Views.{BerthView, view_at, IsSameView}
 use Rattle.mx_engine.specs.Berths.{IsBerthAt, views_of}
-use Rattle.mx_engine.specs.Transactions.{events_at, AreOfferedThere, SomeOfferedThere}
+use Rattle.mx_engine.specs.Transactions.{events_at, AreOfferedThere, IsStopped}
 use Rattle.mx_engine.specs.declared.docked.DockedShard.{DockedShard}
-use Rattle.mx_engine.specs.declared.jobs.Fault.{Fault}
+use Rattle.mx_engine.specs.declared.faults.Fault.{Fault}
 use Rattle.mx_engine.specs.declared.jobs.Job.{Job}
 
 -- the fault at the lower place
@@ -93,9 +93,10 @@ module _ {K : Type 0} where
     pub fault : new.fault ≡ old.fault
     pub same : IsSameView (own old.berth) (own new.berth)
 
-  abbrev pub IsDone : ℕ → List ℕ → List Offered → BerthView Entry → Job K → Option Fault → Type 0
-  IsDone caller origin events old job None = AreOfferedThere caller origin events old (own job.berth) job.told.items
-  IsDone caller origin events old job (Some fault) = SomeOfferedThere caller origin events old (own job.berth)
+  abbrev pub IsDone : ℕ → List ℕ → PlaceView → List Offered → BerthView Entry → Job K → Option Fault → Type 0
+  IsDone caller origin at events old job None =
+      AreOfferedThere caller origin (events_at at events) old (own job.berth) job.told.items
+  IsDone caller origin at events old job (Some fault) = IsStopped caller origin at events (Some fault) old (own job.berth)
 
   -- the events of the job's shard were offered in their order, up to the first fault
   pub record IsRun (docks : List (CachePadded (Dock (DockedShard K) Entry))) (caller : ℕ) (origin : List ℕ)
@@ -103,7 +104,7 @@ module _ {K : Type 0} where
     pub seated : IsSeated docks caller new
     pub placed : new.place ≡ old.place
     pub same : IsSameView (own old.berth) (own new.berth)
-    pub done : IsDone caller origin (events_at old.place events) (own old.berth) new new.fault
+    pub done : IsDone caller origin old.place events (own old.berth) new new.fault
 
   -- the jobs are those of the docks, in their order
   abbrev pub AreInOrder : List (CachePadded (Dock (DockedShard K) Entry)) → List (Job K) → Type 0
@@ -121,7 +122,7 @@ module _ {K : Type 0} where
       (events : List Offered) (berths : List (Berth (DockedShard K) Entry)) (job : Job K) : Type 0 where
     pub seated : IsSeated docks caller job
     pub same : IsSameView (view_at (views_of berths) job.place.number) (own job.berth)
-    pub done : IsDone caller origin (events_at job.place events) (view_at (views_of berths) job.place.number) job job.fault
+    pub done : IsDone caller origin job.place events (view_at (views_of berths) job.place.number) job job.fault
 
   -- so of all jobs, each in its place
   pub record AreReady (docks : List (CachePadded (Dock (DockedShard K) Entry))) (caller : ℕ) (events : List Offered)

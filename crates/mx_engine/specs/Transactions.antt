@@ -1,7 +1,9 @@
 -- What a caller is told of a transaction, by what it knows before and afterwards (our own).
-use Rattle.std.specs.Prelude.{◌≡◌, ◌⊎◌, ◌<◌, ℕ, List, [], ◌∷◌, ◌++◌, filter, length, IsTrue}
+use Rattle.std.specs.Prelude.{◌≡◌, ◌⊎◌, ◌<◌, ◌≤◌, ℕ, List, [], ◌∷◌, filter, get_or, length, take, Option, None, Some, IfSome, IsTrue}
 use Rattle.mx_dock.specs.Journal.{IsPrefix}
 use Rattle.mx_keeper.specs.Places.{PlaceView, place_number, is_at}
+use Rattle.mx_keeper.specs.declared.refusals.CallError.{CallError}
+use Rattle.mx_keeper.specs.declared.refusals.CallError.TheVariants.{Memory}
 use Rattle.mx_pdu.specs.Event.{room_of}
 use Rattle.mx_room.specs.Offer.{Offered}
 use Rattle.mx_shard.specs.LoneRoom.{to_offer}
@@ -14,6 +16,7 @@ use Rattle.mx_world.specs.Replies.{body_of, told_of}
 use Rattle.mx_world.specs.declared.answers.Told.{Told}
 use Rattle.mx_engine.specs.Views.{BerthView, view_at, after_turn, turned, AddsNothing, AddsNothingThere}
 use Rattle.mx_engine.specs.Calls.{entries_added}
+use Rattle.mx_engine.specs.declared.faults.Fault.{Fault}
 use Rattle.mx_engine.specs.declared.replies.TransactionReply.{TransactionReply}
 use Rattle.mx_engine.specs.declared.replies.TransactionReply.TheVariants as reply
 
@@ -59,23 +62,42 @@ AreOfferedThere caller origin (o ∷ os) old new (t ∷ ts) =
 AreOfferedThere caller origin [] old new (t ∷ ts) = ⊥
 AreOfferedThere caller origin (o ∷ os) old new [] = ⊥
 
--- some first ones were, and of the others none was kept
-pub record SomeOfferedThere (caller : ℕ) (origin : List ℕ) (events : List Offered) (old new : BerthView Entry) : Type 0 where
-  pub first : List Offered
-  pub others : List Offered
-  pub are : events ≡ first ++ others
+-- ---- its first faults
+
+-- the events before a fault; all of them where there is none
+abbrev pub before : Option Fault → List Offered → List Offered
+before None events = events
+before (Some fault) events = take fault.place events
+
+-- the fault is of an event at its place in the list, and that event's room is of this shard
+abbrev pub IsFaultAt : PlaceView → List Offered → Option Fault → Type 0
+IsFaultAt at events None = Unit {0}
+IsFaultAt at events (Some fault) =
+    (o : Offered) × (fault.place < length events) × (o ≡ get_or events fault.place o) × IsTrue (is_at at (room_of o.pdu))
+
+-- A shard was offered the events of its rooms that come before its first fault, all of them where it met none, each once
+-- and in their order. Of the others none was kept.
+pub record IsStopped (caller : ℕ) (origin : List ℕ) (at : PlaceView) (events : List Offered) (fault : Option Fault)
+    (old new : BerthView Entry) : Type 0 where
+  pub its : IsFaultAt at events fault
   pub between : BerthView Entry
   pub told : List Told
-  pub offered : AreOfferedThere caller origin first old between told
+  pub offered : AreOfferedThere caller origin (events_at at (before fault events)) old between told
   pub nothing : AddsNothingThere between new
 
--- So it was at each shard, of the events of its rooms: shards go side by side, and each stops at its own first fault.
-pub record SomeOffered (caller : ℕ) (origin : List ℕ) (events : List Offered)
-    (old new : List (BerthView Entry)) : Type 0 where
+-- So it was at each shard: shards go side by side, and each stops at its own first fault. The error is that of the fault at
+-- the lowest place.
+pub record AreStopped (caller : ℕ) (origin : List ℕ) (events : List Offered) (old new : List (BerthView Entry))
+    (error : CallError) : Type 0 where
+  pub fault_at : ℕ → Option Fault
   pub long : length new ≡ length old
   pub each : (n : ℕ) → n < length old
-      → SomeOfferedThere caller origin (events_at (record { number = n; count = length old }) events) (view_at old n)
+      → IsStopped caller origin (record { number = n; count = length old }) events (fault_at n) (view_at old n)
       (view_at new n)
+  pub lowest : Fault
+  pub its : (n : ℕ) × (n < length old) × (fault_at n ≡ Some lowest)
+  pub low : (n : ℕ) → n < length old → IfSome (fault_at n) (λ fault. lowest.place ≤ fault.place)
+  pub is : error ≡ lowest.error
 
 -- ---- its book
 
@@ -117,11 +139,18 @@ IsReplied caller p events shards books shards' books' (reply.Closed body) =
     (told : List Told) × AreOffered caller p.origin events shards shards' told
     × (body ≡ body_of told) × IsBegunAndEnded caller p (Kept p caller body) books books'
 
+-- Its events brought no reply: no memory was left to begin with them, and none was offered; or shards stopped at their first
+-- faults; or each was offered, and no memory was left for the reply, or it could not be kept.
+abbrev pub IsAborted : ℕ → List ℕ → List Offered → (old new : List (BerthView Entry)) → CallError → Type 0
+IsAborted caller origin events old new error =
+    ((new ≡ old) × (error ≡ Memory))
+    ⊎ (AreStopped caller origin events old new error ⊎ ((told : List Told) × AreOffered caller origin events old new told))
+
 -- A refusal: before the transaction was begun, and nothing was added; or it was begun, and then it was given up, and the
 -- events that were kept stay.
 abbrev pub IsRefused : ℕ → TransactionKey → List Offered → (shards : List (BerthView Entry))
     → (books : List (BerthView BookEntry)) → (shards' : List (BerthView Entry)) → (books' : List (BerthView BookEntry))
-    → Type 0
-IsRefused caller p events shards books shards' books' =
+    → CallError → Type 0
+IsRefused caller p events shards books shards' books' error =
     (AddsNothing books books' × (shards' ≡ shards))
-    ⊎ (SomeOffered caller p.origin events shards shards' × IsBegunAndEnded caller p (GivenUp p caller) books books')
+    ⊎ (IsAborted caller p.origin events shards shards' error × IsBegunAndEnded caller p (GivenUp p caller) books books')

@@ -12,14 +12,7 @@ module _ {E : Type 0} where
 
   -- what a caller knows that found this journal and added these entries
   abbrev pub after_turn : BerthView E → List E → List E → BerthView E
-  after_turn view journal entries = record {
-    number = view.number;
-    seen = journal ++ entries;
-    added = view.added ++ entries;
-    opening = view.opening;
-    made = view.made;
-    place = view.place;
-  }
+  after_turn view journal entries = record view { seen = journal ++ entries; added = view.added ++ entries }
 
   -- it found this journal at the dock with this number and added these entries there; at no other dock it did anything
   abbrev pub turned : List (BerthView E) → ℕ → List E → List E → List (BerthView E)
@@ -27,28 +20,12 @@ module _ {E : Type 0} where
 
   -- nothing was added at one dock; more may have been seen
   abbrev pub AddsNothingThere : BerthView E → BerthView E → Type 0
-  AddsNothingThere old new = (journal : List E) × IsPrefix old.seen journal
-      × (new ≡ record {
-        number = old.number;
-        seen = journal;
-        added = old.added;
-        opening = old.opening;
-        made = old.made;
-        place = old.place;
-      })
+  AddsNothingThere old new = (journal : List E) × IsPrefix old.seen journal × (new ≡ record old { seen = journal })
 
   -- so at each dock
   pub record AddsNothing (old new : List (BerthView E)) : Type 0 where
     pub long : length new ≡ length old
-    pub each : (n : ℕ) → (journal : List E) × IsPrefix (view_at old n).seen journal
-        × (view_at new n ≡ record {
-          number = (view_at old n).number;
-          seen = journal;
-          added = (view_at old n).added;
-          opening = (view_at old n).opening;
-          made = (view_at old n).made;
-          place = (view_at old n).place;
-        })
+    pub each : (n : ℕ) → AddsNothingThere (view_at old n) (view_at new n)
 
   -- what no call changes of what a caller knows
   pub record IsSameView (old new : BerthView E) : Type 0 where

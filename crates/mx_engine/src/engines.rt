@@ -1,5 +1,5 @@
 // The server.
-ghost use Rattle.std.specs.Prelude.{◌≡◌, ◌+◌, ◌<◌, ◌≤◌, ◌⊎◌, ℕ, List, [], ◌∷◌, All, None, Err, IfOk, IfSome, OnErr, IsTrue, is_some, length, get_or, map, nat_lt};
+ghost use Rattle.std.specs.Prelude.{◌≡◌, ◌+◌, ◌<◌, ◌≤◌, ◌⊎◌, ℕ, List, [], ◌∷◌, All, None, Err, IfErr, IfOk, IfSome, OnErr, IsTrue, is_some, length, get_or, map, nat_lt};
 ghost use Rattle.std.specs.Fn.{FnOnceReturnsAt};
 ghost use Rattle.mx_dock.specs.Journal.{IsPrefix};
 ghost use Rattle.mx_pdu.specs.Event.{room_of};
@@ -337,8 +337,9 @@ impl<
     /// Where its reply is kept that is the answer, and no shard is asked; where it is begun and not ended the answer is
     /// `Busy`. Else it is begun, each event is offered once to its room, in their order, and the reply that they call for
     /// is kept and answered. `Memory` where no memory is left, `Storage` where what keeps rows of a shard or of the book
-    /// failed, now or before. Then what was begun is given up, and events that were kept stay. The verifier is asked
-    /// before anything is taken.
+    /// failed, now or before. Then what was begun is given up, and events that were kept stay. A shard stops at its first
+    /// fault, and the others go on; of several faults the answer is that of the event at the lowest place in the list. The
+    /// verifier is asked before anything is taken.
     ///
     /// Source: the Matrix specification, Server-Server API, "Transactions".
     pub fn transaction<R: Threads + Wait + Sync>(
@@ -357,7 +358,7 @@ impl<
         ensures ok { IfOk result
             (IsReplied (seat_number seat.old) key.now (map (offer_by (V.judges (verifier_of self.now))) events.items)
             (shard_views seat.old) (book_views seat.old) (shard_views seat.new) (book_views seat.new)) }
-        ensures err { OnErr result
+        ensures err { IfErr result
             (IsRefused (seat_number seat.old) key.now (map (offer_by (V.judges (verifier_of self.now))) events.items)
             (shard_views seat.old) (book_views seat.old) (shard_views seat.new) (book_views seat.new)) }
     {
@@ -384,7 +385,7 @@ impl<
         ensures same_books { AreSameViews (book_views seat.old) (book_views seat.new) }
         ensures ok { IfOk result (IsReplied (seat_number seat.old) key.now events.now
             (shard_views seat.old) (book_views seat.old) (shard_views seat.new) (book_views seat.new)) }
-        ensures err { OnErr result (IsRefused (seat_number seat.old) key.now events.now
+        ensures err { IfErr result (IsRefused (seat_number seat.old) key.now events.now
             (shard_views seat.old) (book_views seat.old) (shard_views seat.new) (book_views seat.new)) }
     {
         let docks = Docks {

@@ -1,5 +1,5 @@
 // The events of a transaction at the docks of several shards, one beside the other.
-ghost use Rattle.std.specs.Prelude.{◌≡◌, ◌++◌, ◌∷◌, [], ◌+◌, ◌<◌, ◌≤◌, ℕ, List, All, IfOk, OnOk, OnErr, length, get_or, map, take, drop, true, false, IsTrue, vec_capacity};
+ghost use Rattle.std.specs.Prelude.{◌≡◌, ◌++◌, ◌∷◌, [], ◌+◌, ◌<◌, ◌≤◌, ℕ, List, All, IfErr, IfOk, OnOk, OnErr, length, get_or, map, take, drop, true, false, IsTrue, vec_capacity};
 ghost use Rattle.mx_dock.specs.Dock.{own};
 ghost use Rattle.mx_shard.specs.Journal.{Entry};
 ghost use Rattle.mx_keeper.specs.Places.{is_at};
@@ -7,11 +7,13 @@ ghost use Rattle.mx_pdu.specs.Event.{room_of};
 ghost use Rattle.mx_world.specs.declared.answers.Told.{Told as ToldOf};
 ghost use Rattle.mx_engine.specs.Views.{AddsNothingThere, AreSameViews, IsSameView};
 ghost use Rattle.mx_engine.specs.Berths.{AreBerthsAt, IsBerthAt, views_of};
-ghost use Rattle.mx_engine.specs.Transactions.{AreOffered, SomeOffered, IsOfferedThere, AreOfferedThere, SomeOfferedThere, events_at};
+ghost use Rattle.mx_engine.specs.Transactions.{AreOffered, IsAborted, IsOfferedThere, AreOfferedThere, events_at};
 ghost use Rattle.mx_engine.specs.Jobs.{IsFresh, IsReady, IsRun, IsSameJob, IsSeated, lower_of, lowest_of, merged, moved, unmoved, AreMoves, AreReady, AreOver, faults_of, berths_of, told_of_jobs};
 
 use crate::calls::{ShardCall, call_at};
 use crate::docked::{DockedShard, PaddedDock};
+use crate::event_places::busy_docks;
+use crate::faults::Fault;
 use crate::gates::Gate;
 use mx_dock::{Berth, Dock};
 use mx_ident::ServerName;
@@ -30,13 +32,6 @@ use std::{mem, thread};
 pub(crate) struct Sender<'a> {
     pub caller: Caller,
     pub origin: &'a ServerName,
-}
-
-/// The place in the list of an event that could not be offered, and why.
-#[derive(Clone, Copy, Drop)]
-pub(crate) struct Fault {
-    place: usize,
-    error: CallError,
 }
 
 /// What is done at one dock: the events of the rooms of its shard are offered there, in their order, up to the first
@@ -97,16 +92,17 @@ fn offer_in_job<R: Wait, K: Keeper<Row = ShardRow>, G: Gate>(
         (own job.old.berth) (own job.new.berth) later
         × (job.new.told.items ≡ job.old.told.items ++ later)) }
     ensures err { OnErr result
-        (SomeOfferedThere sender.now.caller sender.now.origin.now (events_at job.old.place (offered.now ∷ []))
-        (own job.old.berth) (own job.new.berth)) }
+        (AddsNothingThere (own job.old.berth) (own job.new.berth) × IsTrue (is_at job.old.place (room_of offered.now.pdu))) }
 {
     let place = job.place;
     if !place.has(offered.pdu.room_id().as_str()) {
         return Ok(());
     }
+    // What it is told has its room before the event is offered: behind a fault no event was kept.
+    job.told.reserve(1)?;
     let dock = &docks[place.number()];
     let one = offer_there(rt, gate, place, dock, &mut job.berth, sender, offered)?;
-    job.told.push_back(one)?;
+    job.told.push_back_reserved(one);
     Ok(())
 }
 
@@ -207,35 +203,6 @@ fn run_jobs<R: Threads + Wait + Sync, K: Keeper<Row = ShardRow> + Send, G: Gate 
 }
 
 // ---- where jobs stand
-
-// Which docks have an event of a room of their shard, of so many docks.
-fn busy_docks(events: &[Offered], count: usize) -> [bool; 64]
-    requires some { 0 < count }
-    requires few { count ≤ 64 }
-    ensures { (n : ℕ) → n < count → get_or result n true ≡ false
-        → events_at (record { number = n; count = count }) events.now ≡ [] }
-{
-    let mut busy = [false; 64];
-    for offered in events {
-        let place = Place::of(offered.pdu.room_id().as_str(), count);
-        busy[place.number()] = true;
-    }
-    busy
-}
-
-/// Whether events are of rooms of several shards, of so many.
-pub(crate) fn are_several(events: &[Offered], count: usize) -> bool
-    requires some { 0 < count }
-    requires few { count ≤ 64 }
-{
-    let Some(first) = events.first() else {
-        return false;
-    };
-    let place = Place::of(first.pdu.room_id().as_str(), count);
-    events
-        .iter()
-        .any(|offered| !place.has(offered.pdu.room_id().as_str()))
-}
 
 // Whether the dock with this number is busy.
 fn is_busy_at(busy: &[bool; 64], number: usize) -> bool
@@ -479,8 +446,8 @@ pub(crate) fn offer_side_by_side<
     ensures ok { IfOk result
         (λ told. AreOffered sender.now.caller sender.now.origin.now events.now (views_of berths.old.items)
         (views_of berths.new.items) told.items) }
-    ensures err { OnErr result
-        (SomeOffered sender.now.caller sender.now.origin.now events.now (views_of berths.old.items)
+    ensures err { IfErr result
+        (IsAborted sender.now.caller sender.now.origin.now events.now (views_of berths.old.items)
         (views_of berths.new.items)) }
 {
     let busy = busy_docks(events, docks.len());

@@ -8,6 +8,8 @@ mod closing;
 mod crashes;
 mod docked;
 mod engines;
+mod event_places;
+mod faults;
 mod gates;
 mod jobs;
 mod meeting;

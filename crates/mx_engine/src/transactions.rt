@@ -1,20 +1,21 @@
 // Transactions: their books, and their events in turn.
-ghost use Rattle.std.specs.Prelude.{◌≡◌, ◌++◌, ◌∷◌, [], ℕ, List, IfOk, OnOk, OnErr};
+ghost use Rattle.std.specs.Prelude.{◌≡◌, ◌++◌, ◌∷◌, [], ℕ, List, IfErr, IfOk, OnOk, OnErr, length};
 ghost use Rattle.mx_book.specs.Journal.{IsEnded};
 ghost use Rattle.mx_book.specs.declared.entries.BookEntry.TheVariants.{Kept as KeptEntry, GivenUp};
 ghost use Rattle.mx_world.specs.Replies.{body_of};
 ghost use Rattle.mx_world.specs.declared.answers.Told.{Told as ToldOf};
 ghost use Rattle.mx_engine.specs.Views.{view_at, AddsNothing, AreSameViews};
 ghost use Rattle.mx_engine.specs.BookTurns.{HasBegunIn, IsEndedIn};
-ghost use Rattle.mx_engine.specs.Transactions.{IsOffered, AreOffered, SomeOffered, IsReplied, IsRefused};
-ghost use Rattle.mx_engine.specs.Offering.{FirstOffered};
+ghost use Rattle.mx_engine.specs.Transactions.{IsOffered, AreOffered, IsAborted, IsReplied, IsRefused};
+ghost use Rattle.mx_engine.specs.Offering.{AreOfOne, FirstOffered};
 ghost use Rattle.mx_engine.specs.Berths.{AreBerthsAt, views_of};
 
 use crate::book_turns::{begin_transaction, give_up_transaction, keep_reply};
 use crate::calls::{ShardCall, call_in};
 use crate::docked::{DockedBook, DockedShard, PaddedDock};
+use crate::event_places::are_several;
 use crate::gates::Gate;
-use crate::jobs::{Sender, are_several, offer_side_by_side};
+use crate::jobs::{Sender, offer_side_by_side};
 use crate::replies::TransactionReply;
 use crate::seats::Seat;
 use mx_book::{Opening, TransactionKey};
@@ -64,7 +65,7 @@ pub(crate) fn transact<
     ensures ok { IfOk result
         (IsReplied seat.old.number key.now events.now (views_of seat.old.shards.items) (views_of seat.old.books.items)
         (views_of seat.new.shards.items) (views_of seat.new.books.items)) }
-    ensures err { OnErr result
+    ensures err { IfErr result
         (IsRefused seat.old.number key.now events.now (views_of seat.old.shards.items) (views_of seat.old.books.items)
         (views_of seat.new.shards.items) (views_of seat.new.books.items)) }
 {
@@ -108,9 +109,9 @@ fn close_begun<
         × (reply ≡ TransactionReply.Closed (body_of told))
         × IsEndedIn seat.old.number key.now (KeptEntry key.now seat.old.number (body_of told))
         (views_of seat.old.books.items) (views_of seat.new.books.items)) }
-    ensures err { OnErr result
-        (SomeOffered seat.old.number key.now.origin events.now (views_of seat.old.shards.items)
-        (views_of seat.new.shards.items)
+    ensures err { IfErr result
+        (λ error. IsAborted seat.old.number key.now.origin events.now (views_of seat.old.shards.items)
+        (views_of seat.new.shards.items) error
         × IsEndedIn seat.old.number key.now (GivenUp key.now seat.old.number) (views_of seat.old.books.items)
         (views_of seat.new.books.items)) }
 {
@@ -159,8 +160,8 @@ fn reply_to<R: Threads + Wait + Sync, K: Keeper<Row = ShardRow> + Send, G: Gate 
         × AreOffered sender.now.caller sender.now.origin.now events.now (views_of berths.old.items)
         (views_of berths.new.items) told
         × (replies.0 ≡ body_of told) × (replies.1 ≡ body_of told)) }
-    ensures err { OnErr result
-        (SomeOffered sender.now.caller sender.now.origin.now events.now (views_of berths.old.items)
+    ensures err { IfErr result
+        (IsAborted sender.now.caller sender.now.origin.now events.now (views_of berths.old.items)
         (views_of berths.new.items)) }
 {
     let told = offer_all(rt, alloc, gate, docks, berths, sender, events)?;
@@ -186,8 +187,8 @@ fn offer_all<R: Threads + Wait + Sync, K: Keeper<Row = ShardRow> + Send, G: Gate
     ensures ok { IfOk result
         (λ told. AreOffered sender.now.caller sender.now.origin.now events.now (views_of berths.old.items)
         (views_of berths.new.items) told.items) }
-    ensures err { OnErr result
-        (SomeOffered sender.now.caller sender.now.origin.now events.now (views_of berths.old.items)
+    ensures err { IfErr result
+        (IsAborted sender.now.caller sender.now.origin.now events.now (views_of berths.old.items)
         (views_of berths.new.items)) }
 {
     if are_several(events, docks.len()) {
@@ -196,7 +197,7 @@ fn offer_all<R: Threads + Wait + Sync, K: Keeper<Row = ShardRow> + Send, G: Gate
     offer_in_turn(rt, alloc, gate, docks, berths, sender, events)
 }
 
-// Offers each event to its room, one after the other, and tells of each.
+// Offers each event to its room, one after the other, and tells of each. All are of rooms of one shard.
 fn offer_in_turn<R: Wait, K: Keeper<Row = ShardRow>, G: Gate>(
     rt: &R,
     alloc: Global,
@@ -206,14 +207,15 @@ fn offer_in_turn<R: Wait, K: Keeper<Row = ShardRow>, G: Gate>(
     sender: &Sender<'_>,
     events: &[Offered],
 ) -> Result<Vec<Told>, CallError>
-    requires { AreBerthsAt docks.now sender.now.caller berths.old.items }
+    requires seated { AreBerthsAt docks.now sender.now.caller berths.old.items }
+    requires one { AreOfOne (length docks.now) events.now }
     ensures seated { AreBerthsAt docks.now sender.now.caller berths.new.items }
     ensures same { AreSameViews (views_of berths.old.items) (views_of berths.new.items) }
     ensures ok { IfOk result
         (λ told. AreOffered sender.now.caller sender.now.origin.now events.now (views_of berths.old.items)
         (views_of berths.new.items) told.items) }
-    ensures err { OnErr result
-        (SomeOffered sender.now.caller sender.now.origin.now events.now (views_of berths.old.items)
+    ensures err { IfErr result
+        (IsAborted sender.now.caller sender.now.origin.now events.now (views_of berths.old.items)
         (views_of berths.new.items)) }
 {
     let mut told = Vec::new(alloc);
@@ -266,12 +268,12 @@ fn offer_next<R: Wait, K: Keeper<Row = ShardRow>, G: Gate>(
         ((one : ToldOf) × IsOffered sender.now.caller sender.now.origin.now offered.now (views_of berths.old.items)
         (views_of berths.new.items) one
         × (told.new.items ≡ told.old.items ++ one ∷ [])) }
-    ensures err { OnErr result
-        (FirstOffered sender.now.caller sender.now.origin.now (offered.now ∷ []) (views_of berths.old.items)
-        (views_of berths.new.items)) }
+    ensures err { OnErr result (AddsNothing (views_of berths.old.items) (views_of berths.new.items)) }
 {
+    // What it is told has its room before the event is offered: behind a fault no event was kept.
+    told.reserve(1)?;
     let one = offer_one(rt, gate, docks, berths, sender, offered)?;
-    told.push(one)?;
+    told.push_reserved(one);
     Ok(())
 }
 

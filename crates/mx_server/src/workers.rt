@@ -344,7 +344,7 @@ fn answer_in<K: Keeper<Row = ShardRow> + Send, L: Keeper<Row = BookRow>, R: Thre
     ensures reply { result.refused ≡ None → IsCallAnswered shared.now.name now (seat_number seat.old) (call_shown call)
         (shard_views seat.old) (book_views seat.old) (shard_views seat.new) (book_views seat.new) (reply_shown result.reply) }
     ensures refused { IfSome result.refused (λ error. IsCallRefused (seat_number seat.old) (call_shown call)
-        (shard_views seat.old) (book_views seat.old) (shard_views seat.new) (book_views seat.new)
+        (shard_views seat.old) (book_views seat.old) (shard_views seat.new) (book_views seat.new) error
         × (reply_shown result.reply ≡ unavailable error)) }
 {
     answer_call(rt, alloc, &shared.name, &shared.engine, seat, now, call)

@@ -19,9 +19,10 @@ call_answered judges server now caller shards books shards' books' r call respon
     subst (λ read. IsReadAnswered server now caller read shards books shards' books' response) (sym is) told
 
 -- and it leaves what the call leaves
-pub call_refused : (judges : Judge) (server : List ℕ) (caller : ℕ) (shards : ShardViews) (books : BookViews) (shards' : ShardViews) (books' : BookViews) (r : Request) (call : Call) → call_of judges server r ≡ Ok call → IsCallRefused caller call shards books shards' books' → IsUnanswered judges server caller shards books shards' books' r
-call_refused judges server caller shards books shards' books' r call is left =
-    subst (λ read. IsReadRefused caller read shards books shards' books') (sym is) left
+pub call_refused : (judges : Judge) (server : List ℕ) (caller : ℕ) (shards : ShardViews) (books : BookViews) (shards' : ShardViews) (books' : BookViews) (r : Request) (call : Call) (error : CallError) → call_of judges server r ≡ Ok call
+    → IsCallRefused caller call shards books shards' books' error → IsUnanswered judges server caller shards books shards' books' r error
+call_refused judges server caller shards books shards' books' r call error is left =
+    subst (λ read. IsReadRefused caller read shards books shards' books' error) (sym is) left
 
 -- a request with a fault is told it
 pub fault_answered : (judges : Judge) (server : List ℕ) (now caller : ℕ) (shards : ShardViews) (books : BookViews) (r : Request) (fault : Fault) (response : Response) → call_of judges server r ≡ Err fault → response ≡ failure fault → IsResponse judges server now caller shards books shards books r response
@@ -29,32 +30,33 @@ fault_answered judges server now caller shards books r fault response is told =
     subst (λ read. IsReadAnswered server now caller read shards books shards books response) (sym is) (told, refl, refl)
 
 -- where nothing was asked, whatever the request asks for
-none_called : (caller : ℕ) (call : Call) (shards : ShardViews) (books : BookViews) → IsCallRefused caller call shards books shards books
-none_called caller (sends origin txn events) shards books = inl (inl (nothing_refl books, refl))
-none_called caller (asks origin q) shards books = (nothing_refl shards, refl)
-none_called caller (joins origin o) shards books = (inl (nothing_refl shards), refl)
+none_called : (caller : ℕ) (call : Call) (shards : ShardViews) (books : BookViews) (error : CallError) → IsCallRefused caller call shards books shards books error
+none_called caller (sends origin txn events) shards books error = inl (inl (nothing_refl books, refl))
+none_called caller (asks origin q) shards books error = (nothing_refl shards, refl)
+none_called caller (joins origin o) shards books error = (inl (nothing_refl shards), refl)
 
-none_read : (caller : ℕ) (read : Read Call) (shards : ShardViews) (books : BookViews) → IsReadRefused caller read shards books shards books
-none_read caller (Ok call) shards books = none_called caller call shards books
-none_read caller (Err fault) shards books = (refl, refl)
+none_read : (caller : ℕ) (read : Read Call) (shards : ShardViews) (books : BookViews) (error : CallError) → IsReadRefused caller read shards books shards books error
+none_read caller (Ok call) shards books error = none_called caller call shards books error
+none_read caller (Err fault) shards books error = (refl, refl)
 
-pub none_asked : (judges : Judge) (server : List ℕ) (caller : ℕ) (shards : ShardViews) (books : BookViews) (r : Request) → IsUnanswered judges server caller shards books shards books r
-none_asked judges server caller shards books r = none_read caller (call_of judges server r) shards books
+pub none_asked : (judges : Judge) (server : List ℕ) (caller : ℕ) (shards : ShardViews) (books : BookViews) (r : Request) (error : CallError)
+    → IsUnanswered judges server caller shards books shards books r error
+none_asked judges server caller shards books r error = none_read caller (call_of judges server r) shards books error
 
 -- ---- refused requests, of which one error is told
 
 pub call_unanswered : (judges : Judge) (server : List ℕ) (caller : ℕ) (shards : ShardViews) (books : BookViews) (shards' : ShardViews) (books' : BookViews) (r : Request) (call : Call) (response : Response) (error : Option CallError) → call_of judges server r ≡ Ok call
-    → IfSome error (λ e. IsCallRefused caller call shards books shards' books' × (response ≡ unavailable e))
-    → IfSome error (λ e. IsUnanswered judges server caller shards books shards' books' r × (response ≡ unavailable e))
+    → IfSome error (λ e. IsCallRefused caller call shards books shards' books' e × (response ≡ unavailable e))
+    → IfSome error (λ e. IsUnanswered judges server caller shards books shards' books' r e × (response ≡ unavailable e))
 call_unanswered judges server caller shards books shards' books' r call response None is told = told
 call_unanswered judges server caller shards books shards' books' r call response (Some e) is told =
-    (call_refused judges server caller shards books shards' books' r call is told.0, told.1)
+    (call_refused judges server caller shards books shards' books' r call e is told.0, told.1)
 
 pub fault_unanswered : (judges : Judge) (server : List ℕ) (caller : ℕ) (shards : ShardViews) (books : BookViews) (r : Request) (response : Response) (error : Option CallError)
     → IfSome error (λ e. (e ≡ refused.Memory) × (response ≡ unavailable e))
-    → IfSome error (λ e. IsUnanswered judges server caller shards books shards books r × (response ≡ unavailable e))
+    → IfSome error (λ e. IsUnanswered judges server caller shards books shards books r e × (response ≡ unavailable e))
 fault_unanswered judges server caller shards books r response None told = told
-fault_unanswered judges server caller shards books r response (Some e) told = (none_asked judges server caller shards books r, told.1)
+fault_unanswered judges server caller shards books r response (Some e) told = (none_asked judges server caller shards books r e, told.1)
 
 -- ---- views
 

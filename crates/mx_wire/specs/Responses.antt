@@ -7,6 +7,7 @@ use Rattle.mx_shard.specs.LoneRoom.{to_ask, to_join}
 use Rattle.mx_shard.specs.Journal.{Entry}
 use Rattle.mx_shard.specs.declared.answers.Answer.{Answer}
 use Rattle.mx_book.specs.declared.entries.BookEntry.{BookEntry}
+use Rattle.mx_book.specs.declared.transaction_keys.TransactionKey.{TransactionKey}
 use Rattle.mx_pdu.specs.Offers.{Judge}
 use Rattle.mx_world.specs.declared.steps.StepReply.{StepReply}
 use Rattle.mx_world.specs.declared.steps.StepReply.TheVariants as step
@@ -51,15 +52,17 @@ IsCallAnswered server now caller (sends origin txn events) shards books shards' 
     × (response ≡ reply_to server (first_step now (sends origin txn events)) (last_step_reply told))
 
 -- What a call leaves that was refused for memory or storage. A query adds nothing. A join or a transaction was refused
--- by the engine, or it was answered, and only the bytes of its reply were refused.
-abbrev pub IsCallRefused : (caller : ℕ) → Call → (shards : ShardViews) → (books : BookViews) → (shards' : ShardViews) → (books' : BookViews) → Type 0
-IsCallRefused caller (asks origin q) shards books shards' books' = AddsNothing shards shards' × (books' ≡ books)
-IsCallRefused caller (joins origin o) shards books shards' books' =
-    (AddsNothing shards shards' ⊎ ((told : Answer) × IsAnswered caller (to_join origin o) (room_of o.pdu) shards shards' told))
+-- by the engine, with this error, or it was answered, and only the bytes of its reply were refused, for memory.
+abbrev pub IsCallRefused : (caller : ℕ) → Call → (shards : ShardViews) → (books : BookViews) → (shards' : ShardViews) → (books' : BookViews) → CallError → Type 0
+IsCallRefused caller (asks origin q) shards books shards' books' error = AddsNothing shards shards' × (books' ≡ books)
+IsCallRefused caller (joins origin o) shards books shards' books' error =
+    (AddsNothing shards shards'
+    ⊎ ((told : Answer) × IsAnswered caller (to_join origin o) (room_of o.pdu) shards shards' told × (error ≡ refused.Memory)))
     × (books' ≡ books)
-IsCallRefused caller (sends origin txn events) shards books shards' books' =
-    IsRefused caller (record { origin = origin; txn = txn }) events shards books shards' books'
-    ⊎ ((told : TransactionReply) × IsReplied caller (record { origin = origin; txn = txn }) events shards books shards' books' told)
+IsCallRefused caller (sends origin txn events) shards books shards' books' error =
+    let p : TransactionKey = record { origin = origin; txn = txn } in
+    IsRefused caller p events shards books shards' books' error
+    ⊎ ((told : TransactionReply) × IsReplied caller p events shards books shards' books' told × (error ≡ refused.Memory))
 
 -- ---- requests, by what they ask for or their first fault; at a fault nothing is asked
 
@@ -69,19 +72,19 @@ IsReadAnswered server now caller (Ok call) shards books shards' books' response 
 IsReadAnswered server now caller (Err fault) shards books shards' books' response =
     (response ≡ failure fault) × (shards' ≡ shards) × (books' ≡ books)
 
-abbrev pub IsReadRefused : (caller : ℕ) → Read Call → (shards : ShardViews) → (books : BookViews) → (shards' : ShardViews) → (books' : BookViews) → Type 0
-IsReadRefused caller (Ok call) shards books shards' books' = IsCallRefused caller call shards books shards' books'
-IsReadRefused caller (Err fault) shards books shards' books' = (shards' ≡ shards) × (books' ≡ books)
+abbrev pub IsReadRefused : (caller : ℕ) → Read Call → (shards : ShardViews) → (books : BookViews) → (shards' : ShardViews) → (books' : BookViews) → CallError → Type 0
+IsReadRefused caller (Ok call) shards books shards' books' error = IsCallRefused caller call shards books shards' books' error
+IsReadRefused caller (Err fault) shards books shards' books' error = (shards' ≡ shards) × (books' ≡ books)
 
 -- the response to a request to this server
 abbrev pub IsResponse : Judge → (server : List ℕ) → (now caller : ℕ) → (shards : ShardViews) → (books : BookViews) → (shards' : ShardViews) → (books' : BookViews) → Request → Response → Type 0
 IsResponse judges server now caller shards books shards' books' r response =
     IsReadAnswered server now caller (call_of judges server r) shards books shards' books' response
 
--- what a request to this server leaves that was refused for memory or storage
-abbrev pub IsUnanswered : Judge → (server : List ℕ) → (caller : ℕ) → (shards : ShardViews) → (books : BookViews) → (shards' : ShardViews) → (books' : BookViews) → Request → Type 0
-IsUnanswered judges server caller shards books shards' books' r =
-    IsReadRefused caller (call_of judges server r) shards books shards' books'
+-- what a request to this server leaves that was refused for memory or storage, as the error says
+abbrev pub IsUnanswered : Judge → (server : List ℕ) → (caller : ℕ) → (shards : ShardViews) → (books : BookViews) → (shards' : ShardViews) → (books' : BookViews) → Request → CallError → Type 0
+IsUnanswered judges server caller shards books shards' books' r error =
+    IsReadRefused caller (call_of judges server r) shards books shards' books' error
 
 -- the reply where no memory is left, or what keeps rows failed: status 503
 abbrev pub unavailable : CallError → Response

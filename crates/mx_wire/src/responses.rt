@@ -1,5 +1,5 @@
 // The replies to requests, by an engine that callers share.
-ghost use Rattle.std.specs.Prelude.{◌≡◌, ◌≢◌, ◌⊎◌, ℕ, Err, IfErr, IfOk, IfSome, Ok, OnErr, None, Some};
+ghost use Rattle.std.specs.Prelude.{◌≡◌, ◌≢◌, ◌⊎◌, ℕ, Err, IfErr, IfOk, IfSome, Ok, None, Some};
 ghost use Rattle.mx_engine.specs.Seats.{IsSeatOf, book_views, seat_number, shard_views, verifier_of};
 ghost use Rattle.mx_engine.specs.Views.{AreSameViews};
 ghost use Rattle.mx_requests.specs.Calls.{asks, call_of, joins, sends};
@@ -63,7 +63,7 @@ pub fn respond<
     ensures reply { result.refused ≡ None → IsResponse (V.judges (verifier_of engine.now)) server.now.name now (seat_number seat.old)
         (shard_views seat.old) (book_views seat.old) (shard_views seat.new) (book_views seat.new) (request_shown request.now) (reply_shown result.reply) }
     ensures refused { IfSome result.refused (λ error. IsUnanswered (V.judges (verifier_of engine.now)) server.now.name (seat_number seat.old)
-        (shard_views seat.old) (book_views seat.old) (shard_views seat.new) (book_views seat.new) (request_shown request.now)
+        (shard_views seat.old) (book_views seat.old) (shard_views seat.new) (book_views seat.new) (request_shown request.now) error
         × (reply_shown result.reply ≡ unavailable error)) }
 {
     match read_call(alloc, server, engine.verifier(), request) {
@@ -137,7 +137,7 @@ pub fn answer_call<
     ensures reply { result.refused ≡ None → IsCallAnswered name.now now (seat_number seat.old) (call_shown call)
         (shard_views seat.old) (book_views seat.old) (shard_views seat.new) (book_views seat.new) (reply_shown result.reply) }
     ensures refused { IfSome result.refused (λ error. IsCallRefused (seat_number seat.old) (call_shown call)
-        (shard_views seat.old) (book_views seat.old) (shard_views seat.new) (book_views seat.new)
+        (shard_views seat.old) (book_views seat.old) (shard_views seat.new) (book_views seat.new) error
         × (reply_shown result.reply ≡ unavailable error)) }
 {
     match call_reply(rt, alloc, engine, seat, name, now, call) {
@@ -187,7 +187,7 @@ fn call_reply<
     ensures same_books { AreSameViews (book_views seat.old) (book_views seat.new) }
     ensures reply { IfOk result (λ reply. IsCallAnswered name.now now (seat_number seat.old) (call_shown call)
         (shard_views seat.old) (book_views seat.old) (shard_views seat.new) (book_views seat.new) (reply_shown reply)) }
-    ensures err { OnErr result (IsCallRefused (seat_number seat.old) (call_shown call)
+    ensures err { IfErr result (IsCallRefused (seat_number seat.old) (call_shown call)
         (shard_views seat.old) (book_views seat.old) (shard_views seat.new) (book_views seat.new)) }
 {
     match call {
@@ -247,7 +247,7 @@ fn answer_query<
     ensures same_books { AreSameViews (book_views seat.old) (book_views seat.new) }
     ensures reply { IfOk result (λ reply. IsCallAnswered name.now asked.entry.moment (seat_number seat.old) (asks asked.entry.origin.now asked.entry.query.now)
         (shard_views seat.old) (book_views seat.old) (shard_views seat.new) (book_views seat.new) (reply_shown reply)) }
-    ensures err { OnErr result (IsCallRefused (seat_number seat.old) (asks asked.entry.origin.now asked.entry.query.now)
+    ensures err { IfErr result (IsCallRefused (seat_number seat.old) (asks asked.entry.origin.now asked.entry.query.now)
         (shard_views seat.old) (book_views seat.old) (shard_views seat.new) (book_views seat.new)) }
 {
     let told = engine.ask(rt, seat, asked.origin, asked.moment, asked.query)?;
@@ -279,7 +279,7 @@ fn answer_join<
     ensures same_books { AreSameViews (book_views seat.old) (book_views seat.new) }
     ensures reply { IfOk result (λ reply. (now : ℕ) → IsCallAnswered name.now now (seat_number seat.old) (joins origin.now event.now)
         (shard_views seat.old) (book_views seat.old) (shard_views seat.new) (book_views seat.new) (reply_shown reply)) }
-    ensures err { OnErr result (IsCallRefused (seat_number seat.old) (joins origin.now event.now)
+    ensures err { IfErr result (IsCallRefused (seat_number seat.old) (joins origin.now event.now)
         (shard_views seat.old) (book_views seat.old) (shard_views seat.new) (book_views seat.new)) }
 {
     let told = engine.join_offered(rt, seat, origin, event)?;
@@ -311,7 +311,7 @@ fn answer_transaction<
     ensures same_books { AreSameViews (book_views seat.old) (book_views seat.new) }
     ensures reply { IfOk result (λ reply. (now : ℕ) → IsCallAnswered name.now now (seat_number seat.old) (sends key.now.origin key.now.txn events.now)
         (shard_views seat.old) (book_views seat.old) (shard_views seat.new) (book_views seat.new) (reply_shown reply)) }
-    ensures err { OnErr result (IsCallRefused (seat_number seat.old) (sends key.now.origin key.now.txn events.now)
+    ensures err { IfErr result (IsCallRefused (seat_number seat.old) (sends key.now.origin key.now.txn events.now)
         (shard_views seat.old) (book_views seat.old) (shard_views seat.new) (book_views seat.new)) }
 {
     let told = engine.transaction_offered(rt, alloc, seat, key, events)?;

@@ -1,4 +1,4 @@
-use Rattle.std.proofs.Common.{◌≡◌, ◌<◌, ◌≤◌, ◌+◌, ◌∙◌, ap, length, set, sym, subst, arith, None, Some, Ok}
+use Rattle.std.proofs.Common.{◌≡◌, ◌<◌, ◌≤◌, ◌+◌, ◌∙◌, ap, length, set, sym, subst, arith, Some, Ok}
 use Rattle.std.proofs.lemmas.List.{length-map, length-set}
 use Rattle.mx_dock.specs.Dock.{own}
 use Rattle.mx_shard.specs.LoneRoom.{to_ask}

@@ -1,4 +1,4 @@
-use Rattle.std.proofs.Common.{◌≡◌, ◌<◌, ◌∙◌, ap, sym, subst, length, arith, Some}
+use Rattle.std.proofs.Common.{◌≡◌, ◌<◌, ◌∙◌, ap, sym, subst, length, arith}
 use Rattle.mx_dock.specs.Dock.{own}
 use Rattle.mx_keeper.specs.Places.{place_number}
 use Rattle.mx_shard.specs.LoneRoom.{call_room}

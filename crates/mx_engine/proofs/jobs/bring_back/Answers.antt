@@ -1,7 +1,6 @@
-use Rattle.std.proofs.Common.{◌≡◌, ◌-◌, ◌+◌, ◌<◌, ℕ, List, drop, length, get_or, refl, sym, ◌∙◌, ap, subst, arith}
+use Rattle.std.proofs.Common.{◌≡◌, ◌-◌, ◌+◌, ◌<◌, drop, length, sym, ◌∙◌, ap, subst, arith}
 use Rattle.std.proofs.lemmas.List.{drop_all}
 use Rattle.mx_engine.specs.Jobs.{unmoved}
-use Rattle.mx_engine.specs.declared.jobs.Job.{Job}
 use Rattle.mx_engine.proofs.MoveLemmas.{moves_at, unmoved-more, length-unmoved}
 use Rattle.mx_engine.proofs.jobs.bring_back.Goals as goal
 

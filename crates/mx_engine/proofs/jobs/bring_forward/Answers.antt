@@ -1,4 +1,4 @@
-use Rattle.std.proofs.Common.{◌≡◌, ◌<◌, ◌≤◌, ◌+◌, length, vec_capacity, refl, sym, ◌∙◌, ap, subst, arith}
+use Rattle.std.proofs.Common.{◌<◌, length, refl, sym, ◌∙◌, ap, subst, arith}
 use Rattle.mx_engine.specs.Jobs.{moved, AreMoves}
 use Rattle.mx_engine.proofs.MoveLemmas.{length-moved}
 use Rattle.mx_engine.proofs.jobs.bring_forward.Goals as goal

@@ -1,9 +1,6 @@
-use Rattle.std.proofs.Common.{◌≡◌, ◌<◌, ◌≤◌, ◌+◌, ◌++◌, ◌∷◌, ℕ, true, [], drop, length, get_or, refl, sym, ◌∙◌, ap, subst, arith, vec_capacity}
+use Rattle.std.proofs.Common.{◌≡◌, ◌<◌, ◌≤◌, ◌+◌, true, drop, length, get_or, refl, sym, ◌∙◌, ap, subst, arith}
 use Rattle.std.proofs.lemmas.List.{length-append}
-use Rattle.mx_dock.specs.declared.berths.Berth.{Berth}
-use Rattle.mx_shard.specs.Journal.{Entry}
 use Rattle.mx_engine.specs.Jobs.{IsFresh}
-use Rattle.mx_engine.specs.declared.docked.DockedShard.{DockedShard}
 use Rattle.mx_engine.specs.declared.jobs.Job.{Job}
 use Rattle.mx_engine.proofs.RowLemmas.{next-within, next-is, next-rest, none-left, row-more}
 use Rattle.mx_engine.proofs.jobs.jobs_of.Goals as goal

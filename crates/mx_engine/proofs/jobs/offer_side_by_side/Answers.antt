@@ -1,33 +1,32 @@
-use Rattle.std.proofs.Common.{◌≡◌, ◌≤◌, ◌<◌, length, map, sym, ◌∙◌, ap, subst, arith, vec_capacity}
+use Rattle.std.proofs.Common.{◌≤◌, inl, inr, length, map, sym, ◌∙◌, ap, subst, arith, vec_capacity}
 use Rattle.std.proofs.lemmas.List.{length-map}
-use Rattle.mx_world.proofs.RefusalLemmas.{on_err}
 use Rattle.mx_engine.specs.Berths.{AreBerthsAt, views_of}
 use Rattle.mx_engine.specs.Views.{AreSameViews}
-use Rattle.mx_engine.specs.Transactions.{AreOffered, SomeOffered}
+use Rattle.mx_engine.specs.Transactions.{AreOffered, AreStopped}
 use Rattle.mx_engine.specs.Jobs.{merged, lowest_of, faults_of, told_of_jobs}
-use Rattle.mx_engine.proofs.OneShardLemmas.{none_offered}
-use Rattle.mx_engine.proofs.JobLemmas.{back_seated, back_same, all_offered, some_offered, told_result}
+use Rattle.mx_engine.proofs.JobLemmas.{back_seated, back_same, all_offered, all_stopped, told_result}
+use Rattle.mx_engine.proofs.StoppedLemmas.{none_begun, all_begun}
 use Rattle.mx_engine.proofs.jobs.offer_side_by_side.Goals as goal
 
 pub returns-in_err-back-clause-err : goal.returns-in_err-back-clause-err
 returns-in_err-back-clause-err g c =
-    on_err c.from_residual.result
-    (none_offered c.args.sender.now.caller c.args.sender.now.origin.now c.args.events.now (views_of c.args.berths.now.items))
+    none_begun c.args.sender.now.caller c.args.sender.now.origin.now c.args.events.now c.from_residual.result
+    (views_of c.args.berths.now.items) c.from_residual.ensures.1
 
 pub returns-in_err-jobs-clause-err : goal.returns-in_err-jobs-clause-err
 returns-in_err-jobs-clause-err g c =
-    on_err c.from_residual-in_err-jobs.result
-    (none_offered c.args.sender.now.caller c.args.sender.now.origin.now c.args.events.now (views_of c.args.berths.now.items))
+    none_begun c.args.sender.now.caller c.args.sender.now.origin.now c.args.events.now c.from_residual-in_err-jobs.result
+    (views_of c.args.berths.now.items) c.from_residual-in_err-jobs.ensures.1
 
 pub returns-in_err-moves-clause-err : goal.returns-in_err-moves-clause-err
 returns-in_err-moves-clause-err g c =
-    on_err c.from_residual-in_err-moves.result
-    (none_offered c.args.sender.now.caller c.args.sender.now.origin.now c.args.events.now (views_of c.args.berths.now.items))
+    none_begun c.args.sender.now.caller c.args.sender.now.origin.now c.args.events.now c.from_residual-in_err-moves.result
+    (views_of c.args.berths.now.items) c.from_residual-in_err-moves.ensures.1
 
 pub returns-in_err-told-clause-err : goal.returns-in_err-told-clause-err
 returns-in_err-told-clause-err g c =
-    on_err c.from_residual-in_err-told.result
-    (none_offered c.args.sender.now.caller c.args.sender.now.origin.now c.args.events.now (views_of c.args.berths.now.items))
+    none_begun c.args.sender.now.caller c.args.sender.now.origin.now c.args.events.now c.from_residual-in_err-told.result
+    (views_of c.args.berths.now.items) c.from_residual-in_err-told.ensures.1
 
 pub run_all-requires-clause-ready : goal.run_all-requires-clause-ready
 run_all-requires-clause-ready g c κs within =
@@ -95,11 +94,14 @@ returns-in-Some-clause-same g c =
 
 pub returns-in-Some-clause-err : goal.returns-in-Some-clause-err
 returns-in-Some-clause-err g c =
-    subst (λ bs. SomeOffered c.args.sender.now.caller c.args.sender.now.origin.now c.args.events.now
-    (views_of c.args.berths.now.items) (views_of bs)) (sym c.put_back.ensures.berths)
-    (some_offered c.args.docks.now c.args.sender.now.caller c.args.sender.now.origin.now c.args.events.now
+    let fault = sym (c.lowest_fault-fault.ensures ∙ ap (λ ls. lowest_of (faults_of ls)) c.deref.ensures.value)
+    ∙ c.in-Some.is in
+    inr (inl (subst (λ bs. AreStopped c.args.sender.now.caller c.args.sender.now.origin.now c.args.events.now
+    (views_of c.args.berths.now.items) (views_of bs) c.in-Some.fault.error) (sym c.put_back.ensures.berths)
+    (all_stopped c.args.docks.now c.args.sender.now.caller c.args.sender.now.origin.now c.args.events.now
     c.args.berths.now.items c.run_all.new.jobs.items c.requires
-    (c.run_all.ensures c.args.berths.now.items (c.take_out.ensures.ready c.args.sender.now.caller c.requires)))
+    (c.run_all.ensures c.args.berths.now.items (c.take_out.ensures.ready c.args.sender.now.caller c.requires))
+    c.in-Some.fault fault)))
 
 pub returns-clause-seated : goal.returns-clause-seated
 returns-clause-seated g c =
@@ -142,9 +144,14 @@ returns-clause-ok g c =
 
 pub returns-clause-err : goal.returns-clause-err
 returns-clause-err g c =
-    on_err c.told_in_order.result
-    (subst (λ bs. SomeOffered c.args.sender.now.caller c.args.sender.now.origin.now c.args.events.now
-    (views_of c.args.berths.now.items) (views_of bs)) (sym c.put_back.ensures.berths)
-    (some_offered c.args.docks.now c.args.sender.now.caller c.args.sender.now.origin.now c.args.events.now
-    c.args.berths.now.items c.run_all.new.jobs.items c.requires
-    (c.run_all.ensures c.args.berths.now.items (c.take_out.ensures.ready c.args.sender.now.caller c.requires))))
+    let over = c.run_all.ensures c.args.berths.now.items (c.take_out.ensures.ready c.args.sender.now.caller c.requires) in
+    let jobs = c.run_all.new.jobs.items in
+    let none = sym (c.lowest_fault-fault.ensures ∙ ap (λ ls. lowest_of (faults_of ls)) c.deref.ensures.value)
+    ∙ c.in-None.is in
+    let told = merged (length c.args.docks.now) c.args.events.now (told_of_jobs jobs) in
+    all_begun c.args.sender.now.caller c.args.sender.now.origin.now c.args.events.now c.told_in_order.result
+    (views_of c.args.berths.now.items) (views_of c.put_back.new.berths.items) told
+    (subst (λ bs. AreOffered c.args.sender.now.caller c.args.sender.now.origin.now c.args.events.now
+    (views_of c.args.berths.now.items) (views_of bs) told) (sym c.put_back.ensures.berths)
+    (all_offered c.args.docks.now c.args.sender.now.caller c.args.sender.now.origin.now c.args.events.now
+    c.args.berths.now.items jobs c.requires over none))

@@ -1,4 +1,4 @@
-use Rattle.std.proofs.Common.{◌≡◌, ◌<◌, ◌≤◌, ◌++◌, ◌∷◌, [], length, map, append_assoc, append-nil, refl, sym, ◌∙◌, ap, subst, arith, vec_capacity}
+use Rattle.std.proofs.Common.{◌<◌, ◌≤◌, ◌++◌, ◌∷◌, [], length, map, append_assoc, append-nil, refl, sym, ◌∙◌, ap, subst, arith, vec_capacity}
 use Rattle.std.proofs.lemmas.List.{length-map, map-append, nil_from_length}
 use Rattle.mx_engine.specs.Jobs.{berths_of, told_of_jobs}
 use Rattle.mx_engine.specs.declared.jobs.Job.{Job}

@@ -1,6 +1,6 @@
-use Rattle.std.proofs.Common.{◌≡◌, ◌≤◌, ◌<◌, ◌++◌, ℕ, List, take, drop, length, get_or, sym, ◌∙◌, ap, subst, arith}
+use Rattle.std.proofs.Common.{◌≡◌, ◌<◌, ◌++◌, List, take, drop, length, get_or, sym, ◌∙◌, ap, subst, arith}
 use Rattle.std.specs.Prelude.{All}
-use Rattle.mx_engine.specs.Jobs.{IsReady, IsRun, AreReady, AreMoves, moved, unmoved}
+use Rattle.mx_engine.specs.Jobs.{IsReady, IsRun, AreMoves, unmoved}
 use Rattle.mx_engine.specs.declared.jobs.Job.{Job}
 use Rattle.mx_engine.proofs.JobLemmas.{forward_ready, are_over, written_back}
 use Rattle.mx_engine.proofs.MoveLemmas.{moves_few, length-moved}

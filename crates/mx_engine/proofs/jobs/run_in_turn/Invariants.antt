@@ -1,4 +1,3 @@
-use Rattle.std.proofs.Common.{ℕ}
 use Rattle.mx_engine.specs.Jobs.{IsRun}
 use Rattle.mx_engine.specs.declared.jobs.Job.{Job}
 use Rattle.mx_engine.proofs.RowLemmas.{AreReplaced}

@@ -1,4 +1,3 @@
-use Rattle.mx_engine.specs.declared.jobs.Fault.{Fault}
 use Rattle.mx_engine.proofs.RunLemmas.{there_none, there_more, run_idle, run_through, run_stopped}
 use Rattle.mx_engine.proofs.jobs.run_job.Goals as goal
 
@@ -21,10 +20,9 @@ loop-place-preserved g c =
 pub returns-in-Err : goal.returns-in-Err
 returns-in-Err g c =
     run_stopped c.args.docks.now c.args.sender.now.caller c.args.sender.now.origin.now c.args.events.now c.loop-place.place
-    c.index-events-place.result (record { place = c.loop-place.place; error = c.in-Err.error }) c.args.job.now
-    c.loop-place.job c.offer_in_job.new.job
+    c.index-events-place.result c.in-Err.error c.args.job.now c.loop-place.job c.offer_in_job.new.job
     c.loop-place-test.true c.index-events-place.is c.loop-place.invariant c.in-Err.ensures.seated c.in-Err.ensures.same
-    c.in-Err.ensures.err
+    c.in-Err.ensures.err.0 c.in-Err.ensures.err.1
 
 pub returns : goal.returns
 returns g c = run_through c.args.docks.now c.args.sender.now.caller c.args.sender.now.origin.now c.args.events.now

@@ -1,9 +1,5 @@
-use Rattle.std.proofs.Common.{◌≡◌, ◌<◌, ◌++◌, ℕ, length, get_or, refl, sym, ◌∙◌, ap, subst, arith}
-use Rattle.std.specs.Prelude.{All}
-use Rattle.std.proofs.lemmas.List.{length-append}
-use Rattle.std.proofs.lemmas.List.Elements.{All-same}
+use Rattle.std.proofs.Common.{◌<◌, ◌++◌, length, get_or, sym, ap, subst}
 use Rattle.mx_engine.specs.Jobs.{IsReady, IsRun}
-use Rattle.mx_engine.specs.declared.jobs.Job.{Job}
 use Rattle.mx_engine.proofs.RowLemmas.{replaced-both, all-first, all-second}
 use Rattle.mx_engine.proofs.jobs.run_jobs.Goals as goal
 

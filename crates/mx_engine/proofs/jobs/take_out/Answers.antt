@@ -1,4 +1,4 @@
-use Rattle.std.proofs.Common.{◌≡◌, ◌<◌, ◌≤◌, ℕ, true, List, [], length, get_or, sym, ◌∙◌, ap, subst, arith, vec_capacity}
+use Rattle.std.proofs.Common.{◌<◌, ◌≤◌, ℕ, true, List, [], length, get_or, sym, ◌∙◌, ap, subst, vec_capacity}
 use Rattle.mx_dock.specs.declared.berths.Berth.{Berth}
 use Rattle.mx_shard.specs.Journal.{Entry}
 use Rattle.mx_engine.specs.Jobs.{IsFresh}

@@ -1,8 +1,6 @@
-use Rattle.std.proofs.Common.{◌≡◌, ◌<◌, ◌++◌, ℕ, List, [], length, get_or, set, map, take, drop, refl, sym, ◌∙◌, ap, subst, arith}
+use Rattle.std.proofs.Common.{◌≡◌, ◌<◌, ◌++◌, [], length, get_or, set, map, take, drop, refl, sym, ◌∙◌, ap, arith}
 use Rattle.std.proofs.lemmas.List.{get_or-map, length-set, map-set}
-use Rattle.mx_pdu.specs.Event.{room_of}
 use Rattle.mx_keeper.specs.Places.{place_number}
-use Rattle.mx_world.specs.declared.answers.Told.{Told}
 use Rattle.mx_engine.specs.Jobs.{merged}
 use Rattle.mx_engine.proofs.ToldLemmas.{told_more, told_all}
 use Rattle.mx_engine.proofs.jobs.told_in_order.Goals as goal

@@ -1,4 +1,4 @@
-use Rattle.std.proofs.Common.{◌≡◌, ◌<◌, length, sym, subst, arith}
+use Rattle.std.proofs.Common.{◌≡◌, ◌<◌, length, sym, arith}
 use Rattle.std.specs.Fn.{FnOnceReturnsAt}
 use Rattle.mx_engine.specs.Berths.{caller_of, views_of}
 use Rattle.mx_engine.proofs.ReadingLemmas.{its_berth, still_seated, read_here}

@@ -7,9 +7,9 @@ pub returns-in_err-offer_next-clause-err : goal.returns-in_err-offer_next-clause
 returns-in_err-offer_next-clause-err g c =
     on_err c.from_residual.result
     (so_far_refused c.args.sender.now.caller c.args.sender.now.origin.now c.args.events.now c.loop-offered.offered-index
-    c.offered-item.result (views_of c.args.berths.now.items) (views_of c.loop-offered.berths.items)
-    (views_of c.offer_next.new.berths.items) c.args.told.now.items c.loop-offered.told.items
-    c.loop-offered-test.true c.offered-item.is c.loop-offered.invariant.so_far c.in_err-offer_next.ensures.err)
+    (views_of c.args.berths.now.items) (views_of c.loop-offered.berths.items) (views_of c.offer_next.new.berths.items)
+    c.args.told.now.items c.loop-offered.told.items
+    c.loop-offered-test.true c.loop-offered.invariant.so_far c.in_err-offer_next.ensures.err)
 
 pub loop-offered-preserved : goal.loop-offered-preserved
 loop-offered-preserved g c =

@@ -1,5 +1,7 @@
-use Rattle.mx_engine.specs.Seats.{book_views}
-use Rattle.mx_world.proofs.RefusalLemmas.{on_err}
+use Rattle.mx_engine.specs.Seats.{book_views, seat_number, shard_views}
+use Rattle.mx_engine.proofs.StoppedLemmas.{at_err}
+use Rattle.mx_requests.specs.Calls.{asks}
+use Rattle.mx_wire.specs.Responses.{IsCallRefused}
 use Rattle.mx_wire.proofs.ResponseLemmas.{same_when}
 use Rattle.mx_wire.proofs.responses.answer_query.Goals as goal
 
@@ -7,13 +9,23 @@ pub returns-in_err-told-clause-same_books : goal.returns-in_err-told-clause-same
 returns-in_err-told-clause-same_books g c = same_when (book_views c.args.seat.now) (book_views c.ask.new.seat) c.in_err-told.ensures.books
 
 pub returns-in_err-told-clause-err : goal.returns-in_err-told-clause-err
-returns-in_err-told-clause-err g c = on_err c.from_residual.result (c.in_err-told.ensures.nothing, c.in_err-told.ensures.books)
+returns-in_err-told-clause-err g c =
+    let old = c.args.seat.now in
+    let new = c.ask.new.seat in
+    at_err c.from_residual.result
+    (IsCallRefused (seat_number old) (asks c.args.asked.origin.now c.args.asked.query.now) (shard_views old) (book_views old) (shard_views new) (book_views new))
+    (λ error. (c.in_err-told.ensures.nothing, c.in_err-told.ensures.books))
 
 pub returns-in_err-reply-clause-same_books : goal.returns-in_err-reply-clause-same_books
 returns-in_err-reply-clause-same_books g c = same_when (book_views c.args.seat.now) (book_views c.ask.new.seat) c.in_ok-told.ensures.books
 
 pub returns-in_err-reply-clause-err : goal.returns-in_err-reply-clause-err
-returns-in_err-reply-clause-err g c = on_err c.from_residual-in_err-reply.result (c.in_ok-told.ensures.nothing, c.in_ok-told.ensures.books)
+returns-in_err-reply-clause-err g c =
+    let old = c.args.seat.now in
+    let new = c.ask.new.seat in
+    at_err c.from_residual-in_err-reply.result
+    (IsCallRefused (seat_number old) (asks c.args.asked.origin.now c.args.asked.query.now) (shard_views old) (book_views old) (shard_views new) (book_views new))
+    (λ error. (c.in_ok-told.ensures.nothing, c.in_ok-told.ensures.books))
 
 pub returns-clause-same_books : goal.returns-clause-same_books
 returns-clause-same_books g c = same_when (book_views c.args.seat.now) (book_views c.ask.new.seat) c.in_ok-told.ensures.books

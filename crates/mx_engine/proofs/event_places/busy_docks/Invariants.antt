@@ -1,6 +1,6 @@
 use Rattle.std.proofs.Common.{◌≡◌, length, take}
 use Rattle.mx_engine.proofs.ToldLemmas.{AreIdle}
-use Rattle.mx_engine.proofs.jobs.busy_docks.Given as goal
+use Rattle.mx_engine.proofs.event_places.busy_docks.Given as goal
 
 abbrev pub invariant-loop-offered : goal.invariant-loop-offered
 invariant-loop-offered l = record {

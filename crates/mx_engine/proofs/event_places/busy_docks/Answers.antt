@@ -1,8 +1,8 @@
-use Rattle.std.proofs.Common.{◌≡◌, ◌<◌, ℕ, true, length, set, refl, sym, ◌∙◌, ap, arith}
+use Rattle.std.proofs.Common.{◌<◌, true, length, refl, ◌∙◌, ap, arith}
 use Rattle.std.proofs.lemmas.List.{length-set}
 use Rattle.mx_keeper.specs.Places.{place_number}
 use Rattle.mx_engine.proofs.ToldLemmas.{idle_more, idle_all}
-use Rattle.mx_engine.proofs.jobs.busy_docks.Goals as goal
+use Rattle.mx_engine.proofs.event_places.busy_docks.Goals as goal
 
 pub loop-offered-init : goal.loop-offered-init
 loop-offered-init c = record { long = refl; idle = λ n l is. refl }
