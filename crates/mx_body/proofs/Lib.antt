@@ -13,7 +13,3 @@ pub mod TransactionLemmas
 pub mod BodyRows
 pub mod IdLemmas
 pub mod QuestionLemmas
-pub mod InOrderLemmas
-pub mod ArrayLemmas
-pub mod NumberLemmas
-pub mod InOrderRows

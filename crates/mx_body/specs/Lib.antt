@@ -4,5 +4,3 @@ pub mod Readable
 pub mod Pieces
 pub mod Transactions
 pub mod Questions
-pub mod InOrder
-pub mod Appending
