@@ -13,3 +13,6 @@ pub mod TransactionLemmas
 pub mod BodyRows
 pub mod IdLemmas
 pub mod QuestionLemmas
+pub mod InOrderLemmas
+pub mod ArrayLemmas
+pub mod NumberLemmas

@@ -4,3 +4,5 @@ pub mod Readable
 pub mod Pieces
 pub mod Transactions
 pub mod Questions
+pub mod InOrder
+pub mod Appending

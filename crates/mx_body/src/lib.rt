@@ -5,6 +5,7 @@
 mod entries;
 mod errors;
 mod event_ids;
+mod in_order;
 mod members;
 mod numbers;
 mod pieces;
@@ -15,6 +16,9 @@ mod transactions;
 mod values;
 
 pub use errors::BodyError;
+pub use in_order::{
+    AppendError, append_event_ids, append_integer, append_key, append_text, append_value, is_above,
+};
 pub use questions::{MissingQuestion, missing_question};
 pub use reading::MAX_DEPTH;
 pub use texts::event_text;

@@ -1,8 +1,10 @@
 // The numbers of JSON, as serde_json reads them.
 ghost use Rattle.std.specs.Prelude.{◌≡◌, ◌<◌, ◌==◌, IfOk, IsTrue, length, option_map, IfSome, true, false, slice_index, Some, None, MatchOption};
 ghost use Rattle.serde_json.specs.Data.{number as number_data};
+ghost use Rattle.serde_json.specs.Find.{of_integer};
 ghost use Rattle.serde_json.specs.View.{view};
 ghost use Rattle.serde_json.specs.Read.{number_of, number_from, float_of};
+ghost use Rattle.mx_canon.specs.Canonical.{is_exact};
 ghost use Rattle.mx_body.specs.Numbers.{num_of};
 ghost use Rattle.mx_body.specs.Bodies.{bytes_of};
 ghost use Rattle.mx_body.specs.Pieces.{IsPieceOf};
@@ -73,6 +75,28 @@ fn nearest(is_negative: bool, numeral: &Numeral<'_>) -> Option<Numeric>
         Some(Numeric::Float(float))
     } else {
         None
+    }
+}
+
+/// The integer that a number's text stands for, where canonical JSON has it.
+pub(crate) fn exact_integer(text: &str) -> Option<i64>
+    ensures number { IfSome result (λ integer. number_of text.now ≡ Some (of_integer integer)) }
+    ensures exact { IfSome result (λ integer. is_exact (of_integer integer) ≡ true) }
+    ensures range { IfSome result (λ integer. IsInRange (of_integer integer)) }
+{
+    let number = parse(text)?;
+    exact(number)
+}
+
+fn exact(number: Numeric) -> Option<i64>
+    requires { IsInRange (num_of number) }
+    ensures number { IfSome result (λ integer. num_of number ≡ of_integer integer) }
+    ensures exact { IfSome result (λ integer. is_exact (of_integer integer) ≡ true) }
+{
+    match number {
+        Numeric::Natural(integer) if integer <= LARGEST => Some(integer as i64),
+        Numeric::BelowZero(integer) if integer.unsigned_abs() <= LARGEST => Some(integer),
+        _ => None,
     }
 }
 
