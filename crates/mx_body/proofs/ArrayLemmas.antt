@@ -1,5 +1,5 @@
 -- The items of an array whose values are canonical, as they are read: their tokens, and those of an array of strings.
-use Rattle.std.proofs.Common.{◌≡◌, ℕ, ◌<◌, Bool, true, false, ◌&&◌, List, [], ◌∷◌, ◌++◌, length, Some, None, Option, refl, sym, ap, ◌∙◌, append_assoc, subst}
+use Rattle.std.proofs.Common.{◌≡◌, ℕ, ◌<◌, Bool, true, false, ◌&&◌, List, [], ◌∷◌, ◌++◌, length, Some, None, refl, sym, ap, ◌∙◌, append_assoc, subst}
 use Rattle.std.proofs.lemmas.List.Folds.{list_all-append}
 use Rattle.std.specs.List.{list_all}
 use Rattle.json.specs.Json as json
@@ -9,8 +9,8 @@ use Rattle.json.specs.Token.{Token}
 use Rattle.json.specs.Tree.{json_tokens, items_tokens}
 use Rattle.serde_json.specs.Data.{Data, array, string, Items, no_items, item}
 use Rattle.serde_json.specs.Read.{of_json, of_items, converted}
-use Rattle.serde_json.specs.Written.{compact_text, items_text, comma_if, outline, items_outline}
-use Rattle.mx_canon.specs.Canonical.{is_canonical, is_exact, numbers, item_numbers}
+use Rattle.serde_json.specs.Written.{items_text, comma_if, outline, items_outline}
+use Rattle.mx_canon.specs.Canonical.{is_exact, numbers, item_numbers}
 use Rattle.mx_body.specs.InOrder.{IsAppended, ReadsCanonical, strings}
 use Rattle.mx_body.proofs.BackLemmas.{canonical-compact}
 use Rattle.mx_body.proofs.ItemLemmas.{ItemsRead, items_begin, items_more, items_over_all}

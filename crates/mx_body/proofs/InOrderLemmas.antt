@@ -1,24 +1,25 @@
 -- The members of an object whose keys come in order, as they are read: their text and their tokens are those before and one
 -- member more.
-use Rattle.std.proofs.Common.{◌≡◌, ℕ, ◌<◌, Bool, true, false, ◌&&◌, List, [], ◌∷◌, ◌++◌, length, Option, Some, None, Ordering, Less, Greater, nat_cmp, refl, sym, ap, ◌∙◌, append_assoc, append-nil, is_some, IsUtf8}
+use Rattle.std.proofs.Common.{◌≡◌, ℕ, ◌-◌, ◌<◌, Bool, true, false, ◌&&◌, List, [], ◌∷◌, ◌++◌, length, Option, Some, None, Ordering, Less, Greater, nat_cmp, refl, sym, ap, ◌∙◌, append_assoc, append-nil, is_some, IsUtf8}
 use Rattle.std.proofs.lemmas.Cmp.{nat_list_cmp_total}
 use Rattle.std.proofs.lemmas.List.Folds.{list_all-append}
 use Rattle.std.specs.Cmp.Lexicographic.{slice_cmp}
 use Rattle.std.specs.List.{AllByRecursion, list_all}
 use Rattle.std.specs.Ordering.{ordering_reverse}
 use Rattle.json.specs.Json as json
-use Rattle.json.specs.Json.{Parse, parse_map, read_key, members}
+use Rattle.json.proofs.Grammar.{value-begin_object}
+use Rattle.json.specs.Json.{Parse, parse_map, read_key, members, value}
 use Rattle.json.specs.Token.{Token}
 use Rattle.json.specs.Print.{quoted}
 use Rattle.json.specs.Tree.{json_tokens, members_tokens}
 use Rattle.serde_json.specs.Data.{Data, object, Members, no_members, member, put}
 use Rattle.serde_json.specs.Read.{of_json, of_members, converted}
 use Rattle.serde_json.specs.Written.{compact_text, members_text, comma_if, outline, members_outline}
-use Rattle.mx_canon.specs.Canonical.{is_canonical, is_exact, numbers, member_numbers, canonical_text}
+use Rattle.mx_canon.specs.Canonical.{is_canonical, is_exact, numbers, member_numbers}
 use Rattle.mx_canon.specs.KeyOrder.{keys}
 use Rattle.mx_body.specs.InOrder.{IsAbove, IsAppended, ReadsCanonical, has_comma, key_text, open_text, open_tokens}
-use Rattle.mx_body.specs.Readable.{IsReadable}
 use Rattle.mx_body.proofs.BackLemmas.{canonical-compact}
+use Rattle.mx_body.proofs.GrammarLemmas.{converted-object}
 use Rattle.mx_body.proofs.MemberLemmas.{MembersRead, members_begin, members_more, members_over_all}
 
 abbrev cmp : List ℕ → List ℕ → Ordering
@@ -188,3 +189,14 @@ module _ (p : Parse json.Json) (before : List ℕ) where
               ∙ ap (λ x. before ++ 123 ∷ x) (sym (open_text-end false old))
               ∙ ap (λ x. before ++ x) (sym (canonical-compact (object old) done.readable)),
         )
+
+-- an object that was read from its opening brace on is the next value of a reader
+pub object_appended : (depth : ℕ) (ts r : List Token) (old : Members) (before after : List ℕ) → 0 < depth
+    → IsAppended (object old)
+    (parse_map object (converted (λ ms. of_members ms no_members) (members (value (depth - 1)) (length ts) ts)))
+    r before after
+    → IsAppended (object old) (converted of_json (value depth (Token.begin_object ∷ ts))) r before after
+object_appended depth ts r old before after some h =
+    let opened = ap (converted of_json) (value-begin_object depth ts some)
+    ∙ converted-object (members (value (depth - 1)) (length ts) ts) in
+    (canonical-same (object old) _ _ r opened h.0, h.1)

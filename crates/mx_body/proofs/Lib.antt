@@ -16,3 +16,4 @@ pub mod QuestionLemmas
 pub mod InOrderLemmas
 pub mod ArrayLemmas
 pub mod NumberLemmas
+pub mod InOrderRows

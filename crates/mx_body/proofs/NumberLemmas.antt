@@ -1,5 +1,5 @@
 -- Integers that canonical JSON has.
-use Rattle.std.proofs.Common.{◌≡◌, ◌<◌, ◌≤◌, ℤ, pos, negsuc, true, refl, arith, leb-true, SFits, w64}
+use Rattle.std.proofs.Common.{◌≡◌, ℤ, pos, negsuc, true, refl, arith, SFits, w64}
 use Rattle.std.specs.Fmt.{signed_decimal}
 use Rattle.serde_json.specs.Find.{of_integer}
 use Rattle.serde_json.specs.Written.{number_text}

@@ -1,12 +1,11 @@
 -- What the members of a question ask.
-use Rattle.std.proofs.Common.{◌≡◌, ℕ, Bool, true, false, List, bytes_eq, codes, refl, sym, ap, ◌∙◌, is_some}
+use Rattle.std.proofs.Common.{◌≡◌, ℕ, false, List, bytes_eq, codes, refl, sym, ap, ◌∙◌}
 use Rattle.std.proofs.lemmas.Bool.{false≢true}
 use Rattle.std.proofs.lemmas.Slice.Eq.{bytes_eq-Decides}
 use Rattle.std.specs.Prelude.{Option, Some, None, option_map, option_and_then}
 use Rattle.serde_json.specs.Data.{Data, null, boolean, number, string, array, object, Members, put}
-use Rattle.serde_json.specs.Find.{as_object, get, get_member}
+use Rattle.serde_json.specs.Find.{as_object, get_member}
 use Rattle.serde_json.proofs.Views.{get_member-put, get_member-put_other}
-use Rattle.mx_redact.specs.Fields.{is_object}
 use Rattle.mx_body.specs.Bodies.{Question, ids_or_none, natural_of, natural_or, question_of}
 use Rattle.mx_body.specs.Questions.{AreAsked, asked_question, ids_shown}
 use Rattle.mx_body.specs.declared.questions.Asked.{Asked}

@@ -1,4 +1,4 @@
-use Rattle.std.proofs.Common.{◌≡◌, ◌<◌, [], ◌∷◌, length, ap, ◌∙◌, arith}
+use Rattle.std.proofs.Common.{◌≡◌, [], ◌∷◌, length, ap, ◌∙◌, arith}
 use Rattle.json.specs.Token as spec
 use Rattle.json.specs.Json.{value}
 use Rattle.json.specs.Reads.{token_of}

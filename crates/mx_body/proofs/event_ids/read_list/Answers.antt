@@ -1,4 +1,4 @@
-use Rattle.std.proofs.Common.{◌≡◌, ◌<◌, ◌∷◌, [], length, sym, ap, ◌∙◌, arith, Some, None}
+use Rattle.std.proofs.Common.{◌≡◌, ◌<◌, length, sym, ap, ◌∙◌, arith, Some, None}
 use Rattle.json.specs.Json.{after_end_array, value}
 use Rattle.serde_json.specs.Data.{array, item, no_items}
 use Rattle.mx_redact.specs.Fields.{item_list}

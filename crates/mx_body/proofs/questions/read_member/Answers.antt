@@ -1,4 +1,4 @@
-use Rattle.std.proofs.Common.{◌≡◌, bytes_eq, codes, refl, sym, ◌∙◌}
+use Rattle.std.proofs.Common.{◌≡◌, codes, refl, sym, ◌∙◌}
 use Rattle.std.proofs.lemmas.Bool.{false≢true}
 use Rattle.std.proofs.lemmas.Slice.Eq.{bytes_eq-Decides}
 use Rattle.mx_body.specs.declared.questions.Asked.{Asked}

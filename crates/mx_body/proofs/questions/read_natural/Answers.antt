@@ -1,4 +1,4 @@
-use Rattle.std.proofs.Common.{◌≡◌, ◌<◌, [], ◌∷◌, length, sym, ap, ◌∙◌, arith, option_map, Some, None}
+use Rattle.std.proofs.Common.{◌≡◌, [], ◌∷◌, length, sym, ap, ◌∙◌, arith, option_map}
 use Rattle.std.specs.Prelude.{option_and_then}
 use Rattle.json.specs.Token as spec
 use Rattle.json.specs.Json.{value}

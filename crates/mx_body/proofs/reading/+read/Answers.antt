@@ -8,7 +8,7 @@ use Rattle.serde_json.specs.Data.{null, boolean, number, string, no_members, put
 use Rattle.serde_json.specs.Read.{of_json, converted}
 use Rattle.mx_body.specs.Bodies.{bytes_of}
 use Rattle.mx_body.specs.Numbers.{num_of}
-use Rattle.mx_body.specs.Pieces.{ReadsPiece, ArePiecesOf, IsPieceOf}
+use Rattle.mx_body.specs.Pieces.{ReadsPiece, IsPieceOf}
 use Rattle.mx_body.proofs.GrammarLemmas.{converted-array, converted-object}
 use Rattle.mx_body.proofs.PieceLemmas.{reads-same}
 use Rattle.mx_body.proofs.ItemLemmas.{AreTexts, items_begin, items_more, items_end, items_fail, texts_begin, texts_more}

@@ -5,7 +5,7 @@ use Rattle.json.specs.Json.{after_end_array, read_key, items, members, value}
 use Rattle.json.specs.Reads.{token_of}
 use Rattle.json.specs.Tree.{json_tokens, items_tokens, members_tokens}
 use Rattle.json.proofs.Grammar.{value_is, value-begin_array, value-begin_object}
-use Rattle.serde_json.specs.Data.{Items, null, boolean, number, string, array, object, no_items, item, no_members, put}
+use Rattle.serde_json.specs.Data.{null, boolean, number, string, array, object, no_items, item, no_members, put}
 use Rattle.serde_json.specs.Find.{of_integer}
 use Rattle.serde_json.specs.Read.{of_json, converted}
 use Rattle.serde_json.specs.Written.{outline, items_outline, members_outline}

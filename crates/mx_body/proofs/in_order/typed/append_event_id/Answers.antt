@@ -1,4 +1,4 @@
-use Rattle.std.proofs.Common.{◌≡◌, List, ℕ, sym, subst}
+use Rattle.std.proofs.Common.{sym, subst}
 use Rattle.json.specs.Json.{value}
 use Rattle.serde_json.specs.Data.{string}
 use Rattle.serde_json.specs.Read.{of_json, converted}

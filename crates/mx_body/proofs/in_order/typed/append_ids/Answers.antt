@@ -1,4 +1,4 @@
-use Rattle.std.proofs.Common.{◌≡◌, ℕ, ◌≤◌, ◌<◌, ◌+◌, [], ◌∷◌, ◌++◌, ◌&&◌, true, length, length-append, None, Some, refl, sym, ap, ◌∙◌, arith, subst}
+use Rattle.std.proofs.Common.{◌≡◌, ℕ, ◌<◌, [], ◌∷◌, ◌++◌, ◌&&◌, true, length, length-append, None, Some, refl, sym, ap, ◌∙◌, arith, subst}
 use Rattle.std.proofs.lemmas.List.Folds.{list_all-append}
 use Rattle.std.specs.List.{list_all}
 use Rattle.json.specs.Json.{after_end_array, value}
@@ -6,7 +6,7 @@ use Rattle.serde_json.specs.Data.{string}
 use Rattle.serde_json.specs.Read.{of_json, converted}
 use Rattle.serde_json.specs.Written.{comma_if}
 use Rattle.mx_ident.specs.Identifier.{is_event_id}
-use Rattle.mx_body.specs.InOrder.{IsAppended, strings}
+use Rattle.mx_body.specs.InOrder.{IsAppended}
 use Rattle.mx_body.proofs.ArrayLemmas.{StringsRead, strings_begin, strings_more, strings_end, strings_text}
 use Rattle.mx_body.proofs.in_order.typed.append_ids.Goals as goal
 
