@@ -37,7 +37,23 @@ unfolding key_of
 is_signed_key-of k =
     by-rows is_signed_key (λ l. is_among kept_keys l && not (is_among (words "signatures unsigned") l)) named_keys k
     (refl, (refl, (refl, (refl, (refl, (refl, (refl, (refl, (refl, (refl, (refl, (refl, (refl, (refl, (refl, (refl, (refl, tt)))))))))))))))))
-    (λ h. rw (h.1.1.1.0, h.1.1.1.1.1.1.1.1.1.1.1.1.1.1.1.0, h.1.1.1.1.1.1.1.1.1.1.1.0, h.1.1.1.1.1.1.1.1.1.1.1.1.0, h.1.1.1.1.1.1.1.1.1.1.1.1.1.1.0, h.1.0, h.1.1.1.1.0, h.1.1.1.1.1.1.1.1.1.1.1.1.1.0, h.1.1.0, h.1.1.1.1.1.1.1.1.0, h.1.1.1.1.1.1.1.1.1.0, h.0, h.1.1.1.1.1.1.0, h.1.1.1.1.1.1.1.0, h.1.1.1.1.1.0) refl)
+    (λ h. rw (
+      h.1.1.1.0,
+      h.1.1.1.1.1.1.1.1.1.1.1.1.1.1.1.0,
+      h.1.1.1.1.1.1.1.1.1.1.1.0,
+      h.1.1.1.1.1.1.1.1.1.1.1.1.0,
+      h.1.1.1.1.1.1.1.1.1.1.1.1.1.1.0,
+      h.1.0,
+      h.1.1.1.1.0,
+      h.1.1.1.1.1.1.1.1.1.1.1.1.1.0,
+      h.1.1.0,
+      h.1.1.1.1.1.1.1.1.0,
+      h.1.1.1.1.1.1.1.1.1.0,
+      h.0,
+      h.1.1.1.1.1.1.0,
+      h.1.1.1.1.1.1.1.0,
+      h.1.1.1.1.1.0,
+    ) refl)
 
 pub is_key_in-of : (part : Part) (k : List ℕ) → is_key_in part (key_of k) ≡ is_in_part (selection_of part) k
 is_key_in-of Hashed k = is_hashed_key-of k

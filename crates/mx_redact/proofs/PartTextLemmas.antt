@@ -128,7 +128,17 @@ pub left-all : (text : List ℕ) (places : List MemberPlace) (known : Option Mem
     → ArePlaces text places all → AllKnown out.part known all
     → HoldsAllBut out all all → out.later ≡ false → IsLeft text places known out all
 left-all text places known out all are known_are held first =
-    record { rest = all; at = 0; behind = false; rise = are.rise; places_are = are.places_are; here = opened-first text places all are; known_are = known_are; held = held; comma = λ h. let both : true ≡ false = sym h ∙ first in cc }
+    record {
+      rest = all;
+      at = 0;
+      behind = false;
+      rise = are.rise;
+      places_are = are.places_are;
+      here = opened-first text places all are;
+      known_are = known_are;
+      held = held;
+      comma = λ h. let both : true ≡ false = sym h ∙ first in cc;
+    }
 
 -- the first place that is left
 pub left-next : (text : List ℕ) (places : List MemberPlace) (i : ℕ)
@@ -196,7 +206,8 @@ put-at text place places known old new all (member k d ms) at behind rise are he
       place_is = head ∙ ap (λ n. place_of n k d) (sym start);
       here = ap (λ n. drop n text) start ∙ piece-here text at behind k d ms rise here;
     } in
-    let behind_comma : IsTrue old.later → IsBehindComma text place = λ h. ap (λ n. drop n text) before ∙ comma-here text at behind k d ms rise here (comma h) ∙ ap (λ n. 44 ∷ drop n text) (sym start) in
+    let behind_comma : IsTrue old.later → IsBehindComma text place = λ h. ap (λ n. drop n text) before
+    ∙ comma-here text at behind k d ms rise here (comma h) ∙ ap (λ n. 44 ∷ drop n text) (sym start) in
     let (taken, has, is) = held in
     let v = canonical_text (selected_value s k d) in
     let put_text = (taken ++ comma_if old.later) ++ member_text (k, v) in

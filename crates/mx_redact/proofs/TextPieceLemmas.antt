@@ -45,7 +45,8 @@ module _ (text : List ℕ) (at : ℕ) (later : Bool) (k : List ℕ) (d : Data) (
   comma-here e = first ∙ ap (λ b. cond b 44 123 ∷ (piece k d ++ opened true (pieces ms))) e ∙ ap (λ t. 44 ∷ t) (sym piece-here)
 
   pub piece-after : drop (at + 1 + length (piece k d)) text ≡ opened true (pieces ms)
-  piece-after = sym (drop-drop (length (piece k d)) (at + 1) text) ∙ ap (drop (length (piece k d))) piece-here ∙ drop_at (piece k d) (opened true (pieces ms)) (length (piece k d)) refl
+  piece-after = sym (drop-drop (length (piece k d)) (at + 1) text) ∙ ap (drop (length (piece k d))) piece-here
+      ∙ drop_at (piece k d) (opened true (pieces ms)) (length (piece k d)) refl
 
   pub piece-fits : at + 1 + length (piece k d) ≤ length text
   piece-fits =

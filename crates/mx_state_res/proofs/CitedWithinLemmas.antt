@@ -99,12 +99,16 @@ module _ (rows : List Row) (sound : IsSound rows) where
           by (inl e) = or_left (is_in ys x) _ (part x e)
           by (inr e) = or_right (is_in ys x) _ e
 
-  all-more : (parts sets : List (List ℕ)) → AllZip IsPart parts sets → (p : ℕ) → list_all (λ set. is_in (auth_chain rows set) p) parts ≡ true → list_all (λ set. is_in (auth_chain rows set) p) sets ≡ true
+  all-more : (parts sets : List (List ℕ)) → AllZip IsPart parts sets → (p : ℕ)
+      → list_all (λ set. is_in (auth_chain rows set) p) parts ≡ true
+      → list_all (λ set. is_in (auth_chain rows set) p) sets ≡ true
   all-more [] [] h p e = refl
   all-more [] (set ∷ sets) h p e = absurd h
   all-more (part ∷ parts) [] h p e = absurd h
   all-more (part ∷ parts) (set ∷ sets) h p e =
-      and-make (is_in (auth_chain rows set) p) _ (chain-more part set h.0 p (and-first (is_in (auth_chain rows part) p) _ e)) (all-more parts sets h.1 p (and-second (is_in (auth_chain rows part) p) _ e))
+      and-make (is_in (auth_chain rows set) p) _
+      (chain-more part set h.0 p (and-first (is_in (auth_chain rows part) p) _ e))
+      (all-more parts sets h.1 p (and-second (is_in (auth_chain rows part) p) _ e))
 
   -- what is in the chains of parts is in those of the sets
   pub within-more : (parts sets : List (List ℕ)) (events : List ℕ) → AllZip IsPart parts sets → CiteWithin rows parts events → CiteWithin rows sets events
@@ -121,10 +125,14 @@ module _ (rows : List Row) (sound : IsSound rows) where
 -- ---- where the sets have no others
 
 -- where they cite so, the difference adds nothing to them
-pub difference-adds-none : (rows : List Row) → IsSound rows → (shared : List ℕ) (sets : List (List ℕ)) (events : List ℕ) → ((p : ℕ) → is_in events p ≡ is_in (flat_map (λ xs. xs) sets) p) → CiteWithin rows sets events
+pub difference-adds-none : (rows : List Row) → IsSound rows
+    → (shared : List ℕ) (sets : List (List ℕ)) (events : List ℕ)
+    → ((p : ℕ) → is_in events p ≡ is_in (flat_map (λ xs. xs) sets) p) → CiteWithin rows sets events
     → (p : ℕ) → is_in events p ≡ (is_in (flat_map (λ xs. xs) sets) p || is_in (chain_difference rows shared sets) p)
 difference-adds-none rows sound shared sets events same cite p =
-    by (is_in events p) (is_in (chain_difference rows shared sets) p) (difference-within rows sound sets events own cite shared p) ∙ ap (λ b. b || is_in (chain_difference rows shared sets) p) (same p)
+    by (is_in events p) (is_in (chain_difference rows shared sets) p)
+    (difference-within rows sound sets events own cite shared p)
+    ∙ ap (λ b. b || is_in (chain_difference rows shared sets) p) (same p)
   where
     own : (others : List ℕ) → In others sets → (p : ℕ) → is_in others p ≡ true → is_in events p ≡ true
     own others m p e = same p ∙ is_in-from p (flat_map (λ xs. xs) sets) (in_flat_map (λ (xs : List ℕ). xs) others p sets m (is_in-to p others e))

@@ -70,7 +70,8 @@ module _ (keys s : State) (ss : List State) (ordered : Sorted keys) (sorted : (t
       lacks-at keys s ss ordered sorted differing t m p
       ∙ subst (λ z. is_in (events_of (filter (lacks (without keys s)) t)) z ≡ true) (sym r.2) (own-member (lacks (without keys s)) t r.0 k.0 (lacked keys s r.0 k.1))
 
-  parts-of : (ts : List State) → ((t : State) → In t ts → In t (s ∷ ss)) → (qs : List (List ℕ)) → HaveSameEvents qs (map (own_events s) ts) → AllZip IsPart qs (map (events_at keys) ts)
+  parts-of : (ts : List State) → ((t : State) → In t ts → In t (s ∷ ss)) → (qs : List (List ℕ))
+      → HaveSameEvents qs (map (own_events s) ts) → AllZip IsPart qs (map (events_at keys) ts)
   parts-of [] within [] h = tt
   parts-of [] within (q ∷ qs) h = absurd h
   parts-of (t ∷ ts) within [] h = absurd h
@@ -85,9 +86,11 @@ module _ (keys s : State) (ss : List State) (ordered : Sorted keys) (sorted : (t
   joined-to [] [] h p e = e
   joined-to [] (x ∷ xs) h p e = absurd h
   joined-to (q ∷ qs) [] h p e = absurd h
-  joined-to (q ∷ qs) (x ∷ xs) h p e = is_in-append x (flat_map (λ xs. xs) xs) p ∙ by (joined-to qs xs h.1 p) (or_cases (is_in q p) _ (sym (is_in-append q (flat_map (λ xs. xs) qs) p) ∙ e))
+  joined-to (q ∷ qs) (x ∷ xs) h p e = is_in-append x (flat_map (λ xs. xs) xs) p
+      ∙ by (joined-to qs xs h.1 p) (or_cases (is_in q p) _ (sym (is_in-append q (flat_map (λ xs. xs) qs) p) ∙ e))
     where
-      by : (is_in (flat_map (λ xs. xs) qs) p ≡ true → is_in (flat_map (λ xs. xs) xs) p ≡ true) → (is_in q p ≡ true) ⊎ (is_in (flat_map (λ xs. xs) qs) p ≡ true) → (is_in x p || is_in (flat_map (λ xs. xs) xs) p) ≡ true
+      by : (is_in (flat_map (λ xs. xs) qs) p ≡ true → is_in (flat_map (λ xs. xs) xs) p ≡ true) → (is_in q p ≡ true)
+          ⊎ (is_in (flat_map (λ xs. xs) qs) p ≡ true) → (is_in x p || is_in (flat_map (λ xs. xs) xs) p) ≡ true
       by rest (inl k) = or_left (is_in x p) _ (h.0 p k)
       by rest (inr k) = or_right (is_in x p) _ (rest k)
 
@@ -96,28 +99,35 @@ module _ (keys s : State) (ss : List State) (ordered : Sorted keys) (sorted : (t
   joined-from [] [] h p e = absurd (cc e)
   joined-from [] (q ∷ qs) h p e = absurd h
   joined-from (t ∷ ts) [] h p e = absurd h
-  joined-from (t ∷ ts) (q ∷ qs) h p e = by (joined-from ts qs h.1 p) (or_cases (is_in (events_at keys t) p) _ (sym (is_in-append (events_at keys t) (flat_map (λ xs. xs) (map (events_at keys) ts)) p) ∙ e))
+  joined-from (t ∷ ts) (q ∷ qs) h p e = by (joined-from ts qs h.1 p)
+      (or_cases (is_in (events_at keys t) p) _
+      (sym (is_in-append (events_at keys t) (flat_map (λ xs. xs) (map (events_at keys) ts)) p) ∙ e))
     where
       own : (is_in (events_at keys s) p ≡ true) ⊎ (is_in (own_events s t) p ≡ true) → (is_in (events_at keys s) p ≡ true) ⊎ (is_in (flat_map (λ xs. xs) (q ∷ qs)) p ≡ true)
       own (inl k) = inl k
       own (inr k) = inr (is_in-append q (flat_map (λ xs. xs) qs) p ∙ or_left (is_in q p) _ (h.0 p ∙ k))
 
-      later : (is_in (events_at keys s) p ≡ true) ⊎ (is_in (flat_map (λ xs. xs) qs) p ≡ true) → (is_in (events_at keys s) p ≡ true) ⊎ (is_in (flat_map (λ xs. xs) (q ∷ qs)) p ≡ true)
+      later : (is_in (events_at keys s) p ≡ true) ⊎ (is_in (flat_map (λ xs. xs) qs) p ≡ true)
+          → (is_in (events_at keys s) p ≡ true) ⊎ (is_in (flat_map (λ xs. xs) (q ∷ qs)) p ≡ true)
       later (inl k) = inl k
       later (inr k) = inr (is_in-append q (flat_map (λ xs. xs) qs) p ∙ or_right (is_in q p) _ k)
 
       by : (is_in (flat_map (λ xs. xs) (map (events_at keys) ts)) p ≡ true → (is_in (events_at keys s) p ≡ true) ⊎ (is_in (flat_map (λ xs. xs) qs) p ≡ true))
-          → (is_in (events_at keys t) p ≡ true) ⊎ (is_in (flat_map (λ xs. xs) (map (events_at keys) ts)) p ≡ true) → (is_in (events_at keys s) p ≡ true) ⊎ (is_in (flat_map (λ xs. xs) (q ∷ qs)) p ≡ true)
+          → (is_in (events_at keys t) p ≡ true) ⊎ (is_in (flat_map (λ xs. xs) (map (events_at keys) ts)) p ≡ true)
+          → (is_in (events_at keys s) p ≡ true) ⊎ (is_in (flat_map (λ xs. xs) (q ∷ qs)) p ≡ true)
       by rest (inl k) = own (covered keys s t p k)
       by rest (inr k) = later (rest k)
 
   -- together they have what all states have at the keys
-  pub joined-same : (qs : List (List ℕ)) → HaveSameEvents qs (event_parts keys s ss) → (p : ℕ) → is_in (flat_map (λ xs. xs) qs) p ≡ is_in (flat_map (λ xs. xs) (map (events_at keys) (s ∷ ss))) p
+  pub joined-same : (qs : List (List ℕ)) → HaveSameEvents qs (event_parts keys s ss) → (p : ℕ)
+      → is_in (flat_map (λ xs. xs) qs) p ≡ is_in (flat_map (λ xs. xs) (map (events_at keys) (s ∷ ss))) p
   joined-same [] h p = absurd h
   joined-same (q ∷ qs) h p =
       one-answer (is_in (flat_map (λ xs. xs) (q ∷ qs)) p) (is_in (flat_map (λ xs. xs) (map (events_at keys) (s ∷ ss))) p)
       (joined-to (q ∷ qs) (map (events_at keys) (s ∷ ss)) (are-parts (q ∷ qs) h) p)
-      (λ e. is_in-append q (flat_map (λ xs. xs) qs) p ∙ by (or_cases (is_in (events_at keys s) p) _ (sym (is_in-append (events_at keys s) (flat_map (λ xs. xs) (map (events_at keys) ss)) p) ∙ e)))
+      (λ e. is_in-append q (flat_map (λ xs. xs) qs) p
+      ∙ by (or_cases (is_in (events_at keys s) p) _
+      (sym (is_in-append (events_at keys s) (flat_map (λ xs. xs) (map (events_at keys) ss)) p) ∙ e)))
     where
       first : (is_in (events_at keys s) p ≡ true) ⊎ (is_in (flat_map (λ xs. xs) qs) p ≡ true) → (is_in q p || is_in (flat_map (λ xs. xs) qs) p) ≡ true
       first (inl k) = or_left (is_in q p) _ (h.0 p ∙ k)
@@ -128,7 +138,9 @@ module _ (keys s : State) (ss : List State) (ordered : Sorted keys) (sorted : (t
       by (inr k) = first (joined-from ss qs h.1 p k)
 
 -- the parts of one state more
-pub parts-more : (keys s : State) (ts : List State) (t : State) (qs : List (List ℕ)) (part : List ℕ) → HaveSameEvents qs (event_parts keys s ts) → ((p : ℕ) → is_in part p ≡ is_in (own_events s t) p) → HaveSameEvents (qs ++ part ∷ []) (event_parts keys s (ts ++ t ∷ []))
+pub parts-more : (keys s : State) (ts : List State) (t : State) (qs : List (List ℕ)) (part : List ℕ)
+    → HaveSameEvents qs (event_parts keys s ts) → ((p : ℕ) → is_in part p ≡ is_in (own_events s t) p)
+    → HaveSameEvents (qs ++ part ∷ []) (event_parts keys s (ts ++ t ∷ []))
 parts-more keys s ts t qs part h e =
     subst (λ ys. HaveSameEvents (qs ++ part ∷ []) (events_at keys s ∷ ys)) (sym (map-append (own_events s) ts (t ∷ [])))
     (AllZip-push (λ xs ys. (p : ℕ) → is_in xs p ≡ is_in ys p) qs (event_parts keys s ts) part (own_events s t) h e)
@@ -137,7 +149,8 @@ parts-more keys s ts t qs part h e =
 pub own-at : (keys s t : State) → Sorted keys → Sorted s → Sorted t → IsDiffering keys (s ∷ t ∷ []) → (p : ℕ) → is_in (events_at keys t) p ≡ is_in (own_events s t) p
 own-at keys s t ordered ss ts differing p =
     one-answer (is_in (events_at keys t) p) (is_in (own_events s t) p)
-    (λ h. let r = in_flat_map-from (λ (e : Key × ℕ). option_list (entry t e.0)) p keys (is_in-to p (events_at keys t) h) in by r.0 r.1 (listed (entry t r.0.0) p r.2) (has_entry (r.0.0, p) s) refl)
+    (λ h. let r = in_flat_map-from (λ (e : Key × ℕ). option_list (entry t e.0)) p keys
+    (is_in-to p (events_at keys t) h) in by r.0 r.1 (listed (entry t r.0.0) p r.2) (has_entry (r.0.0, p) s) refl)
     (own-part keys s (t ∷ []) ordered both differing t (inr (inl refl)) p)
   where
     both : (u : State) → In u (s ∷ t ∷ []) → Sorted u
@@ -162,11 +175,14 @@ pub others-are : (base : ℕ) (others numbers : List ℕ) → numbers ≡ base �
 others-are base others numbers q = ap (λ ns. take (length ns - 1) (drop 1 ns)) q ∙ take_all (length (base ∷ others) - 1) others (omega arith)
 
 -- the events of all parts, one part after another
-pub parts-joined : (vs ws : List (Vec ℕ Global)) (found : List ℕ) → found ≡ flat_map (λ (v : Vec ℕ Global). v.items) ws → ws ≡ vs → found ≡ flat_map (λ xs. xs) (map (λ (v : Vec ℕ Global). v.items) vs)
+pub parts-joined : (vs ws : List (Vec ℕ Global)) (found : List ℕ)
+    → found ≡ flat_map (λ (v : Vec ℕ Global). v.items) ws → ws ≡ vs
+    → found ≡ flat_map (λ xs. xs) (map (λ (v : Vec ℕ Global). v.items) vs)
 parts-joined vs ws found e q = e ∙ ap (flat_map (λ (v : Vec ℕ Global). v.items)) q ∙ flat_map-map (λ (v : Vec ℕ Global). v.items) (λ xs. xs) vs
 
 -- all events of each state at the keys
-pub whole-own : (keys : State) (at : ℕ → State) (numbers : List ℕ) (qs : List (List ℕ)) → qs ≡ map (λ n. events_at keys (at n)) numbers → AllZip IsPart qs (map (events_at keys) (map at numbers))
+pub whole-own : (keys : State) (at : ℕ → State) (numbers : List ℕ) (qs : List (List ℕ))
+    → qs ≡ map (λ n. events_at keys (at n)) numbers → AllZip IsPart qs (map (events_at keys) (map at numbers))
 whole-own keys at numbers qs e =
     subst (λ xs. AllZip IsPart xs (map (events_at keys) (map at numbers))) (sym (e ∙ map-map at (events_at keys) numbers)) (itself (map (events_at keys) (map at numbers)))
   where
@@ -174,12 +190,15 @@ whole-own keys at numbers qs e =
     itself [] = tt
     itself (x ∷ xs) = (λ p k. k, itself xs)
 
-pub whole-all : (keys : State) (at : ℕ → State) (numbers : List ℕ) (qs : List (List ℕ)) → qs ≡ map (λ n. events_at keys (at n)) numbers → (p : ℕ) → is_in (flat_map (λ xs. xs) qs) p ≡ is_in (flat_map (λ xs. xs) (map (events_at keys) (map at numbers))) p
+pub whole-all : (keys : State) (at : ℕ → State) (numbers : List ℕ) (qs : List (List ℕ))
+    → qs ≡ map (λ n. events_at keys (at n)) numbers → (p : ℕ)
+    → is_in (flat_map (λ xs. xs) qs) p ≡ is_in (flat_map (λ xs. xs) (map (events_at keys) (map at numbers))) p
 whole-all keys at numbers qs e p = ap (λ xs. is_in (flat_map (λ ys. ys) xs) p) (e ∙ map-map at (events_at keys) numbers)
 
 -- of each state but the first those that the first hasn't
 module _ (at : ℕ → State) (keys : State) (ordered : Sorted keys) (base : ℕ) (others numbers : List ℕ) (q : numbers ≡ base ∷ others)
-    (sorted : All (λ n. Sorted (at n)) numbers) (differing : IsDiffering keys (map at numbers)) (qs : List (List ℕ)) (parts : HaveSameEvents qs (event_parts keys (at base) (map at others))) where
+    (sorted : All (λ n. Sorted (at n)) numbers) (differing : IsDiffering keys (map at numbers)) (qs : List (List ℕ))
+    (parts : HaveSameEvents qs (event_parts keys (at base) (map at others))) where
   each-sorted : (t : State) → In t (map at (base ∷ others)) → Sorted t
   each-sorted = at-sorted at (base ∷ others) (subst (All (λ n. Sorted (at n))) q sorted)
 
@@ -211,14 +230,18 @@ module _ (rows : List Row) (sound : IsSound rows) (at : ℕ → State) (keys : S
   abbrev shared : List ℕ
   shared = events_of (without keys (at base))
 
-  from-members : (events : List ℕ) → Rises events → ((p : ℕ) → is_in events p ≡ (is_in (flat_map (λ xs. xs) sets) p || is_in (chain_difference rows shared sets) p)) → events ≡ full_conflicted rows (map at numbers)
+  from-members : (events : List ℕ) → Rises events
+      → ((p : ℕ) → is_in events p ≡ (is_in (flat_map (λ xs. xs) sets) p
+      || is_in (chain_difference rows shared sets) p)) → events ≡ full_conflicted rows (map at numbers)
   from-members events rises same =
       full-from keys (at base) (map at others) ordered states-sorted states-differ rows sound states-known events rises
       (λ p. same p ∙ ap (λ xs. is_in xs p || is_in (chain_difference rows shared sets) p) (sym (flat_map-map (events_at keys) (λ xs. xs) (map at (base ∷ others)))))
       ∙ ap (λ ns. full_conflicted rows (map at ns)) (sym q)
 
   module _ (qs : List (List ℕ)) (own : AllZip IsPart qs (map (events_at keys) (map at numbers)))
-      (all : (p : ℕ) → is_in (flat_map (λ xs. xs) qs) p ≡ is_in (flat_map (λ xs. xs) (map (events_at keys) (map at numbers))) p) (found : List ℕ) (joined : found ≡ flat_map (λ xs. xs) qs) where
+      (all : (p : ℕ) → is_in (flat_map (λ xs. xs) qs) p ≡ is_in
+      (flat_map (λ xs. xs) (map (events_at keys) (map at numbers))) p) (found : List ℕ)
+      (joined : found ≡ flat_map (λ xs. xs) qs) where
     found-same : (p : ℕ) → is_in found p ≡ is_in (flat_map (λ xs. xs) sets) p
     found-same p = ap (λ xs. is_in xs p) joined ∙ all p ∙ ap (λ ns. is_in (flat_map (λ xs. xs) (map (events_at keys) (map at ns))) p) q
 
@@ -238,8 +261,13 @@ module _ (rows : List Row) (sound : IsSound rows) (at : ℕ → State) (keys : S
         (within-more rows sound qs sets events (subst (λ ns. AllZip IsPart qs (map (events_at keys) (map at ns))) q own) cite))
 
     -- else with the difference of the chains
-    pub full-joined : (difference events : List ℕ) → difference ≡ chain_difference rows shared (map (λ n. events_at keys (at n)) numbers) → Rises events → ((p : ℕ) → is_in events p ≡ is_in (found ++ difference) p) → events ≡ full_conflicted rows (map at numbers)
+    pub full-joined : (difference events : List ℕ)
+        → difference ≡ chain_difference rows shared (map (λ n. events_at keys (at n)) numbers) → Rises events
+        → ((p : ℕ) → is_in events p ≡ is_in (found ++ difference) p) → events ≡ full_conflicted rows (map at numbers)
     full-joined difference events is rises same =
         from-members events rises
         (λ p. same p ∙ is_in-append found difference p
-        ∙ ap₂ (λ a b. a || b) (found-same p) (ap (λ xs. is_in xs p) (is ∙ ap (λ ns. chain_difference rows shared (map (λ n. events_at keys (at n)) ns)) q ∙ ap (chain_difference rows shared) (map-map at (events_at keys) (base ∷ others)))))
+        ∙ ap₂ (λ a b. a || b) (found-same p)
+        (ap (λ xs. is_in xs p) (is ∙ ap
+        (λ ns. chain_difference rows shared (map (λ n. events_at keys (at n)) ns)) q
+        ∙ ap (chain_difference rows shared) (map-map at (events_at keys) (base ∷ others)))))

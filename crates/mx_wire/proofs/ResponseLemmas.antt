@@ -19,7 +19,9 @@ call_answered judges server now caller shards books shards' books' r call respon
     subst (λ read. IsReadAnswered server now caller read shards books shards' books' response) (sym is) told
 
 -- and it leaves what the call leaves
-pub call_refused : (judges : Judge) (server : List ℕ) (caller : ℕ) (shards : ShardViews) (books : BookViews) (shards' : ShardViews) (books' : BookViews) (r : Request) (call : Call) (error : CallError) → call_of judges server r ≡ Ok call
+pub call_refused : (judges : Judge) (server : List ℕ) (caller : ℕ) (shards : ShardViews) (books : BookViews)
+    (shards' : ShardViews) (books' : BookViews) (r : Request) (call : Call) (error : CallError)
+    → call_of judges server r ≡ Ok call
     → IsCallRefused caller call shards books shards' books' error → IsUnanswered judges server caller shards books shards' books' r error
 call_refused judges server caller shards books shards' books' r call error is left =
     subst (λ read. IsReadRefused caller read shards books shards' books' error) (sym is) left

@@ -82,7 +82,8 @@ IsResponse judges server now caller shards books shards' books' r response =
     IsReadAnswered server now caller (call_of judges server r) shards books shards' books' response
 
 -- what a request to this server leaves that was refused for memory or storage, as the error says
-abbrev pub IsUnanswered : Judge → (server : List ℕ) → (caller : ℕ) → (shards : ShardViews) → (books : BookViews) → (shards' : ShardViews) → (books' : BookViews) → Request → CallError → Type 0
+abbrev pub IsUnanswered : Judge → (server : List ℕ) → (caller : ℕ) → (shards : ShardViews) → (books : BookViews)
+    → (shards' : ShardViews) → (books' : BookViews) → Request → CallError → Type 0
 IsUnanswered judges server caller shards books shards' books' r error =
     IsReadRefused caller (call_of judges server r) shards books shards' books' error
 

@@ -17,8 +17,12 @@ returns-in_err-reply-in-Sends-clause-err g c =
     (IsCallRefused (seat_number old) (call_shown c.args.call) (shard_views old) (book_views old) (shard_views new) (book_views new))
     c.from_residual.ensures.1
     (subst (λ call. IsCallRefused (seat_number old) (call_shown call) (shard_views old) (book_views old) (shard_views new) (book_views new) error) (sym c.in-Sends.is)
-    (subst (λ events. IsCallRefused (seat_number old) (sends c.in-Sends.origin (string_bytes c.in-Sends.transaction) events) (shard_views old) (book_views old) (shard_views new) (book_views new) error) c.deref.ensures.value
-    (subst (λ txn. IsCallRefused (seat_number old) (sends c.in-Sends.origin txn c.deref.result.now) (shard_views old) (book_views old) (shard_views new) (book_views new) error) c.new-txn.ensures c.in_err-reply-in-Sends.ensures.err)))
+    (subst (λ events. IsCallRefused (seat_number old)
+    (sends c.in-Sends.origin (string_bytes c.in-Sends.transaction) events) (shard_views old) (book_views old)
+    (shard_views new) (book_views new) error) c.deref.ensures.value
+    (subst (λ txn. IsCallRefused (seat_number old) (sends c.in-Sends.origin txn c.deref.result.now) (shard_views old)
+    (book_views old) (shard_views new)
+    (book_views new) error) c.new-txn.ensures c.in_err-reply-in-Sends.ensures.err)))
 
 pub returns-in_err-reply-in-Joins-clause-err : goal.returns-in_err-reply-in-Joins-clause-err
 returns-in_err-reply-in-Joins-clause-err g c =

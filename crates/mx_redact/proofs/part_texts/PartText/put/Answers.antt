@@ -29,16 +29,23 @@ returns-clause-text c = λ k d after taken stands comma is held.
           let kept = w.in-Some-Some.kept in
           let ms = members_view w.in-Some-Some.members.now.entries in
           let content = object (selected (Content kept) ms) in
-          let value = known-object part place.key k d kept known ms named (sym c.inner.ensures ∙ w.in-Some-Some.is-0) (ap (option_map (λ members. members_view members.now.entries)) w.in-Some-Some.is-1) is in
+          let value = known-object part place.key k d kept known ms named (sym c.inner.ensures ∙ w.in-Some-Some.is-0)
+          (ap (option_map (λ members. members_view members.now.entries)) w.in-Some-Some.is-1) is in
           let key = ap (λ f. take (place.value - f) (drop f text)) from ∙ key-taken text place k d after later stands comma c.requires.0 in
-          let whole = ap (λ t. (taken ++ t) ++ canonical_text content) key ∙ put-text taken (comma_if later) (string_text k) (canonical_text content) ∙ ap (λ v. here ++ member_text (k, canonical_text v)) (sym value) in
+          let whole = ap (λ t. (taken ++ t) ++ canonical_text content) key
+          ∙ put-text taken (comma_if later) (string_text k) (canonical_text content)
+          ∙ ap (λ v. here ++ member_text (k, canonical_text v)) (sym value) in
           subst (λ s. HoldsText s.buffer put) (sym w.self-is) (subst (HoldsText w.write_selected.new.sink) whole (w.write_selected.ensures _ (w.put.ensures taken held)))
       | in_default w ↦
           let value : selected_value (selection_of part) k d ≡ d = elim w.in_default.branch [
-            | in_default-via-in-Some+in_default v ↦ none-known part place.key k d v.in_default.field-0-0 known named (sym c.inner.ensures ∙ v.in_default.is-0) (ap (option_map (λ members. members_view members.now.entries)) v.in_default.is-1) is
+            | in_default-via-in-Some+in_default v ↦ none-known part place.key k d v.in_default.field-0-0 known named
+                (sym c.inner.ensures ∙ v.in_default.is-0)
+                (ap (option_map (λ members. members_view members.now.entries)) v.in_default.is-1) is
             | in_default-via-in_default v ↦ none-inner part place.key k d named (sym c.inner.ensures ∙ v.in_default.is-0)
           ] in
           let piece = ap (λ f. take (place.end - f) (drop f text)) from ∙ whole-taken text place k d after later stands comma c.requires.0 in
-          let whole = ap (λ t. taken ++ t) piece ∙ sym (append_assoc taken (comma_if later) (member_text (k, canonical_text d))) ∙ ap (λ v. here ++ member_text (k, canonical_text v)) (sym value) in
+          let whole = ap (λ t. taken ++ t) piece
+          ∙ sym (append_assoc taken (comma_if later) (member_text (k, canonical_text d)))
+          ∙ ap (λ v. here ++ member_text (k, canonical_text v)) (sym value) in
           subst (λ s. HoldsText s.buffer put) (sym w.self-is) (subst (HoldsText w.put-in_default.new.self) whole (w.put-in_default.ensures taken held))
     ]

@@ -28,7 +28,8 @@ pub returns : goal.returns
 returns c =
     λ p.
     sym (nothing (is_in c.loop-event.cited.items p))
-    ∙ ap (λ xs. is_found (cites c.args.graph.now) c.loop-event.cited.items xs p) (sym (drop_all c.loop-event.event-index c.args.events.now (omega arith))) ∙ c.loop-event.invariant.all p
+    ∙ ap (λ xs. is_found (cites c.args.graph.now) c.loop-event.cited.items xs p)
+    (sym (drop_all c.loop-event.event-index c.args.events.now (omega arith))) ∙ c.loop-event.invariant.all p
   where
     nothing : (b : Bool) → (b || false) ≡ b
     nothing true = refl

@@ -27,5 +27,7 @@ returns c =
     let rows = c.args.graph.now in
     let shared = events_of (without c.args.keys.now (state_at c.args.states.now c.args.base)) in
     c.in_ok-found.ensures
-    ∙ difference-same rows c.graph_is_sound.ensures c.deref.result.now shared (λ p. ap (λ xs. is_in xs p) c.deref.ensures.value ∙ c.in_ok-shared.ensures p) (map (λ (others : Vec ℕ Global). others.items) c.deref-2.result.now)
+    ∙ difference-same rows c.graph_is_sound.ensures c.deref.result.now shared
+    (λ p. ap (λ xs. is_in xs p) c.deref.ensures.value ∙ c.in_ok-shared.ensures p)
+    (map (λ (others : Vec ℕ Global). others.items) c.deref-2.result.now)
     ∙ ap (chain_difference rows shared) (ap (map (λ (v : Vec ℕ Global). v.items)) c.deref-2.ensures.value ∙ c.in_ok-apart.ensures)

@@ -30,7 +30,9 @@ returns-then-is_told-clause-set c =
     full-told rows c.graph_is_sound.ensures at keys c.entries.ensures.sorted c.args.base c.requires.base.0 c.args.numbers.now c.requires.base.1 c.all_are_sorted.ensures c.requires.differing
     (known-at _ _ _ c.requires.known c.requires.numbers) qs c.in_ok-parts.ensures.own c.in_ok-parts.ensures.all c.in_ok-found.found.items (parts-joined c.in_ok-parts.parts.items c.deref.result.now c.in_ok-found.found.items c.in_ok-found.ensures c.deref.ensures.value)
     c.in_ok-events.events.items c.in_ok-events.ensures.rises (λ p. c.in_ok-events.ensures.same p ∙ ap (λ xs. is_in xs p) c.deref-2.ensures.value)
-    (subst₂ (λ vs events. CiteWithin rows (map (λ (v : Vec ℕ Global). v.items) vs) events) c.deref-3.ensures.value c.deref-4.ensures.value (c.in_ok-is_told.ensures c.if-is_told.true))
+    (subst₂ (λ vs events. CiteWithin rows
+    (map (λ (v : Vec ℕ Global). v.items) vs) events) c.deref-3.ensures.value c.deref-4.ensures.value
+    (c.in_ok-is_told.ensures c.if-is_told.true))
 
 pub returns-then-is_told-clause-known : goal.returns-then-is_told-clause-known
 returns-then-is_told-clause-known c =

@@ -21,4 +21,5 @@ loop-number-preserved c =
     ap (map at) (take_more numbers i n (omega arith) ∙ ap (λ m. take i numbers ++ m ∷ []) (sym c.number-item.is)) ∙ map-append at (take i numbers) (n ∷ []) in
     subst₂ (λ qs ts. HaveSameEvents qs (event_parts c.args.keys.now (at c.args.base) ts))
     (sym (ap (map (λ (v : Vec ℕ Global). v.items)) pushed ∙ map-append (λ (v : Vec ℕ Global). v.items) c.loop-number.parts.items (c.in_ok-part.part ∷ []))) (sym next)
-    (parts-more c.args.keys.now (at c.args.base) (map at (take i numbers)) (at n) (map (λ (v : Vec ℕ Global). v.items) c.loop-number.parts.items) c.in_ok-part.part.items c.loop-number.invariant c.in_ok-part.ensures)
+    (parts-more c.args.keys.now (at c.args.base) (map at (take i numbers)) (at n)
+    (map (λ (v : Vec ℕ Global). v.items) c.loop-number.parts.items) c.in_ok-part.part.items c.loop-number.invariant c.in_ok-part.ensures)

@@ -15,4 +15,5 @@ returns c =
     ∙ c.loop-entry.invariant ∙ ap (λ s. events_at s (at c.args.number)) c.entries-entry-items.ensures.entries in
     λ p.
     ap (λ xs. is_in xs p) all
-    ∙ own-at c.in_ok-differing.differing (at c.args.other) (at c.args.number) c.entries-entry-items.ensures.sorted c.state_is_sorted.ensures c.state_is_sorted-2.ensures c.in_ok-differing.ensures p
+    ∙ own-at c.in_ok-differing.differing (at c.args.other)
+    (at c.args.number) c.entries-entry-items.ensures.sorted c.state_is_sorted.ensures c.state_is_sorted-2.ensures c.in_ok-differing.ensures p

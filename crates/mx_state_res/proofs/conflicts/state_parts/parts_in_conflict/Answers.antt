@@ -18,7 +18,8 @@ returns-clause-own c =
     let at = state_at c.args.states.now in
     let keys = c.args.keys.now in
     let qs = map (λ (v : Vec ℕ Global). v.items) c.in_ok-parts.parts.items in
-    let parts = subst (λ ns. HaveSameEvents qs (event_parts keys (at c.args.base) (map at ns))) (others-are c.args.base c.requires.base.0 c.args.numbers.now c.requires.base.1) c.in_ok-parts.ensures in
+    let parts = subst (λ ns. HaveSameEvents qs (event_parts keys (at c.args.base) (map at ns)))
+    (others-are c.args.base c.requires.base.0 c.args.numbers.now c.requires.base.1) c.in_ok-parts.ensures in
     numbered-own at keys c.entries.ensures.sorted c.args.base c.requires.base.0 c.args.numbers.now c.requires.base.1 c.all_are_sorted.ensures c.requires.differing qs parts
 
 pub returns-clause-all : goal.returns-clause-all
@@ -26,5 +27,6 @@ returns-clause-all c =
     let at = state_at c.args.states.now in
     let keys = c.args.keys.now in
     let qs = map (λ (v : Vec ℕ Global). v.items) c.in_ok-parts.parts.items in
-    let parts = subst (λ ns. HaveSameEvents qs (event_parts keys (at c.args.base) (map at ns))) (others-are c.args.base c.requires.base.0 c.args.numbers.now c.requires.base.1) c.in_ok-parts.ensures in
+    let parts = subst (λ ns. HaveSameEvents qs (event_parts keys (at c.args.base) (map at ns)))
+    (others-are c.args.base c.requires.base.0 c.args.numbers.now c.requires.base.1) c.in_ok-parts.ensures in
     numbered-all at keys c.entries.ensures.sorted c.args.base c.requires.base.0 c.args.numbers.now c.requires.base.1 c.all_are_sorted.ensures c.requires.differing qs parts
