@@ -180,7 +180,8 @@ skipped-step x k d ms here whole below other = found-step x k d ms here here who
 module _ {A : Type 0} (f : A → Data) (values : List (Option A)) (v : A) (x own : EventKey) (k : List ℕ) (is : own ≡ key_of k) (fits : index_of own < length values) where
   noted-same : x ≡ key_of k → option_map f (get_or (set values (index_of own) (Some v)) (index_of x) None) ≡ Some (f v)
   noted-same e =
-      ap (λ y. option_map f (get_or (set values (index_of own) (Some v)) (index_of y) None)) (e ∙ sym is) ∙ ap (option_map f) (get_or-set_same values (index_of own) (Some v) None fits)
+      ap (λ y. option_map f (get_or (set values (index_of own) (Some v)) (index_of y) None)) (e ∙ sym is)
+      ∙ ap (option_map f) (get_or-set_same values (index_of own) (Some v) None fits)
 
   noted-other : x ≢ own
       → option_map f (get_or (set values (index_of own) (Some v)) (index_of x) None) ≡ option_map f (get_or values (index_of x) None)

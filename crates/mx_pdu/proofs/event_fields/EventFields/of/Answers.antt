@@ -34,7 +34,9 @@ loop-key-preserved-in-Other c =
       λ key.
           let whole = field_at key (object (members_view c.args.members.now.entries)) in
           let here = option_map (λ value. view value.now) (get_or l.values (index_of key) None) in
-          skipped-step key k (view e.1) (members_view more) here whole rise.0 other (subst (λ es. IsFound here (field_at key (object (members_view es))) whole) c.in-Some.ensures.steps (l.invariant.2 key)),
+          skipped-step key k (view e.1) (members_view more) here whole rise.0 other
+          (subst (λ es. IsFound here (field_at key (object (members_view es))) whole) c.in-Some.ensures.steps
+          (l.invariant.2 key)),
     )
 
 pub loop-key-preserved : goal.loop-key-preserved
