@@ -36,7 +36,8 @@ overflow_add-end c =
     let (later, here) = l.invariant.2 in
     let small : length c.args.text.now < 2 ^ 64 = omega arith in
     let long = c.key_length.ensures ∙ ap (λ k. counted (length (string_text k ++ 58 ∷ []))) c.deref.ensures in
-    let fits = next-fits c.args.text.now l.end c.key_length.result later l.key-iterator e c.next.new.self c.in-Some.ensures.steps l.invariant.0 here long small c.text_length.result c.text_length.ensures in
+    let fits = next-fits c.args.text.now l.end c.key_length.result later l.key-iterator e c.next.new.self
+    c.in-Some.ensures.steps l.invariant.0 here long small c.text_length.result c.text_length.ensures in
     omega (arith, fits, small)
 
 pub loop-key-preserved : goal.loop-key-preserved
@@ -50,8 +51,14 @@ loop-key-preserved c =
     let key = c.of.ensures ∙ ap key_of c.deref-in-loop-key.ensures in (
       next-sorted c.args.text.now l.end c.key_length.result later l.key-iterator e more c.in-Some.ensures.steps l.invariant.0 here long small,
       ap (λ places. places ++ places_from (l.end + 1 + c.key_length.result + c.text_length.result + 1) (members_view more)) c.in_ok-push.ensures.items
-          ∙ next-place c.args.text.now l.end c.key_length.result later l.key-iterator e more c.in-Some.ensures.steps l.invariant.0 here long small c.text_length.result c.text_length.ensures c.of.result l.places.items (places_from 1 (members_view c.args.event.now.entries)) key l.invariant.1,
-      (true, next-after c.args.text.now l.end c.key_length.result later l.key-iterator e more c.in-Some.ensures.steps l.invariant.0 here long small c.text_length.result c.text_length.ensures),
+          ∙ next-place c.args.text.now l.end c.key_length.result later l.key-iterator e more c.in-Some.ensures.steps
+          l.invariant.0 here long small c.text_length.result c.text_length.ensures c.of.result l.places.items
+          (places_from 1 (members_view c.args.event.now.entries)) key l.invariant.1,
+      (
+        true,
+        next-after c.args.text.now l.end c.key_length.result later l.key-iterator e more c.in-Some.ensures.steps
+            l.invariant.0 here long small c.text_length.result c.text_length.ensures,
+      ),
     )
 
 pub returns : goal.returns

@@ -19,7 +19,8 @@ loop-event-preserved c =
     let left : drop c.loop-event.event-index c.args.events.now ≡ c.event-item.result ∷ drop (c.loop-event.event-index + 1) c.args.events.now =
     drop_more c.args.events.now i event (omega arith) ∙ ap (λ y. y ∷ drop (c.loop-event.event-index + 1) c.args.events.now) (sym c.event-item.is) in
     record {
-      all = λ p. found-next c.loop-event.cited.items c.loop-event.last.now c.auth_events-next.result.now c.loop-event.invariant.had (cites c.args.graph.now) event _ _ _ more c.auth_events-next.ensures.cited left p
+      all = λ p. found-next c.loop-event.cited.items c.loop-event.last.now c.auth_events-next.result.now
+          c.loop-event.invariant.had (cites c.args.graph.now) event _ _ _ more c.auth_events-next.ensures.cited left p
           ∙ c.loop-event.invariant.all p;
       had = next-had c.loop-event.cited.items c.loop-event.last.now c.auth_events-next.result.now c.loop-event.invariant.had _ more;
     }

@@ -18,8 +18,11 @@ cite_within-requires-clause-known c =
     let qs = map (λ (v : Vec ℕ Global). v.items) c.in_ok-parts.parts.items in
     all-within (λ p. p < length rows) c.deref-4.result.now c.in_ok-found.found.items
     (λ p. ap (λ xs. is_in xs p) c.deref-4.ensures.value ∙ c.in_ok-events.ensures.same p ∙ ap (λ xs. is_in xs p) c.deref-2.ensures.value)
-    (found-known rows c.graph_is_sound.ensures at keys c.entries.ensures.sorted c.args.base c.requires.base.0 c.args.numbers.now c.requires.base.1 c.all_are_sorted.ensures c.requires.differing
-    (known-at _ _ _ c.requires.known c.requires.numbers) qs c.in_ok-parts.ensures.own c.in_ok-parts.ensures.all c.in_ok-found.found.items (parts-joined c.in_ok-parts.parts.items c.deref.result.now c.in_ok-found.found.items c.in_ok-found.ensures c.deref.ensures.value))
+    (found-known rows c.graph_is_sound.ensures at keys c.entries.ensures.sorted c.args.base c.requires.base.0
+    c.args.numbers.now c.requires.base.1 c.all_are_sorted.ensures c.requires.differing
+    (known-at _ _ _ c.requires.known c.requires.numbers) qs c.in_ok-parts.ensures.own c.in_ok-parts.ensures.all
+    c.in_ok-found.found.items (parts-joined c.in_ok-parts.parts.items c.deref.result.now c.in_ok-found.found.items
+    c.in_ok-found.ensures c.deref.ensures.value))
 
 pub returns-then-is_told-clause-set : goal.returns-then-is_told-clause-set
 returns-then-is_told-clause-set c =
@@ -27,8 +30,11 @@ returns-then-is_told-clause-set c =
     let at = state_at c.args.states.now in
     let keys = c.args.differing.now in
     let qs = map (λ (v : Vec ℕ Global). v.items) c.in_ok-parts.parts.items in
-    full-told rows c.graph_is_sound.ensures at keys c.entries.ensures.sorted c.args.base c.requires.base.0 c.args.numbers.now c.requires.base.1 c.all_are_sorted.ensures c.requires.differing
-    (known-at _ _ _ c.requires.known c.requires.numbers) qs c.in_ok-parts.ensures.own c.in_ok-parts.ensures.all c.in_ok-found.found.items (parts-joined c.in_ok-parts.parts.items c.deref.result.now c.in_ok-found.found.items c.in_ok-found.ensures c.deref.ensures.value)
+    full-told rows c.graph_is_sound.ensures at keys c.entries.ensures.sorted c.args.base c.requires.base.0
+    c.args.numbers.now c.requires.base.1 c.all_are_sorted.ensures c.requires.differing
+    (known-at _ _ _ c.requires.known c.requires.numbers) qs c.in_ok-parts.ensures.own c.in_ok-parts.ensures.all
+    c.in_ok-found.found.items (parts-joined c.in_ok-parts.parts.items c.deref.result.now c.in_ok-found.found.items
+    c.in_ok-found.ensures c.deref.ensures.value)
     c.in_ok-events.events.items c.in_ok-events.ensures.rises (λ p. c.in_ok-events.ensures.same p ∙ ap (λ xs. is_in xs p) c.deref-2.ensures.value)
     (subst₂ (λ vs events. CiteWithin rows
     (map (λ (v : Vec ℕ Global). v.items) vs) events) c.deref-3.ensures.value c.deref-4.ensures.value
@@ -45,8 +51,11 @@ returns-clause-set c =
     let keys = c.args.differing.now in
     let qs = map (λ (v : Vec ℕ Global). v.items) c.in_ok-parts.parts.items in
     let longer : c.extend_from_slice.new.self.items ≡ c.in_ok-found.found.items ++ c.in_ok-difference.difference.items = search rules in
-    full-joined rows c.graph_is_sound.ensures at keys c.entries.ensures.sorted c.args.base c.requires.base.0 c.args.numbers.now c.requires.base.1 c.all_are_sorted.ensures c.requires.differing
-    (known-at _ _ _ c.requires.known c.requires.numbers) qs c.in_ok-parts.ensures.own c.in_ok-parts.ensures.all c.in_ok-found.found.items (parts-joined c.in_ok-parts.parts.items c.deref.result.now c.in_ok-found.found.items c.in_ok-found.ensures c.deref.ensures.value)
+    full-joined rows c.graph_is_sound.ensures at keys c.entries.ensures.sorted c.args.base c.requires.base.0
+    c.args.numbers.now c.requires.base.1 c.all_are_sorted.ensures c.requires.differing
+    (known-at _ _ _ c.requires.known c.requires.numbers) qs c.in_ok-parts.ensures.own c.in_ok-parts.ensures.all
+    c.in_ok-found.found.items (parts-joined c.in_ok-parts.parts.items c.deref.result.now c.in_ok-found.found.items
+    c.in_ok-found.ensures c.deref.ensures.value)
     c.in_ok-difference.difference.items c.in_ok-full.full.items c.in_ok-difference.ensures c.in_ok-full.ensures.rises
     (λ p. c.in_ok-full.ensures.same p ∙ ap (λ xs. is_in xs p) (c.deref-6.ensures.value ∙ longer))
 
