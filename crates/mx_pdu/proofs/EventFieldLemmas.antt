@@ -80,7 +80,8 @@ name-of k other =
 -- ---- keys and their places
 
 abbrev listed : List EventKey
-listed = AuthEvents ∷ Content ∷ Depth ∷ EventId ∷ Hashes ∷ Membership ∷ Origin ∷ OriginServerTs ∷ PrevEvents ∷ PrevState ∷ Redacts ∷ RoomId ∷ Sender ∷ Signatures ∷ StateKey ∷ Kind ∷ Unsigned ∷ Other ∷ []
+listed = AuthEvents ∷ Content ∷ Depth ∷ EventId ∷ Hashes ∷ Membership ∷ Origin ∷ OriginServerTs ∷ PrevEvents
+    ∷ PrevState ∷ Redacts ∷ RoomId ∷ Sender ∷ Signatures ∷ StateKey ∷ Kind ∷ Unsigned ∷ Other ∷ []
 
 listed-at : (x : EventKey) → get_or listed (index_of x) Other ≡ x
 listed-at AuthEvents = refl
