@@ -1,4 +1,9 @@
+pub mod Answering
+pub mod Bodies
 pub mod Claims
 pub mod Figures
 pub mod Memory
 pub mod Places
+pub mod Requests
+pub mod Responses
+pub mod WholeBodies

@@ -1,24 +1,28 @@
 // The replies to the requests of a connection of HTTP/1.1.
-ghost use Rattle.std.specs.Prelude.{◌≡◌, IfNone, IsSomeAnd, MatchOption};
+ghost use Rattle.std.specs.Prelude.{◌≡◌, [], IfNone, IfOk, IfSome, IsSomeAnd, MatchOption, codes, false};
+ghost use Rattle.http.specs.Request.{body_of, head_of};
 ghost use Rattle.futures.specs.Task.{Covers, Keeps};
 ghost use Rattle.futures.specs.Poll.{OnPending};
 ghost use Rattle.tokio.specs.Channels.{sent_source};
+ghost use Rattle.mx_http.specs.Answering.{IfReplied, IsAnswer};
+ghost use Rattle.mx_http.specs.Requests.{IsRequest, field_of, is_other_coding, with_body};
+ghost use Rattle.mx_http.specs.Responses.{IsSent};
 
 use crate::bodies::{BodyError, CountedBody, WholeBody};
-use crate::heads::{head_fault, target_of};
+use crate::heads::{has_other_coding, head_fault, request_of};
 use crate::memory::{ClientMemory, CountedReply, ReplyBody, Room};
 use crate::messages::{HttpReply, HttpRequest, Responder};
 use crate::pool::loops::{Begun, LoopResponder};
 use crate::pool::tickets::Ticket;
+use crate::responses::response;
 use crate::runtimes::ConnectionRuntime;
 use crate::stages::{SharedProgress, Stage};
 use bytes::Bytes;
 use futures::task::{Context, Poll};
 use futures::{Future, ready};
 use hyper::body::{Body, Incoming};
-use hyper::header::{self, HeaderValue};
 use hyper::service::Service;
-use hyper::{Request, Response, StatusCode};
+use hyper::{Request, Response};
 use std::alloc::{AllocError, Global};
 use std::rc::Rc;
 use std::sync::{Arc, Wait};
@@ -53,19 +57,11 @@ fn response_by<A: Responder>(
     alloc: Global,
     responder: &LoopResponder<A>,
     reply: CountedReply,
-) -> Response<ReplyBody<Bytes>> {
-    let response = response(alloc, reply);
-    if responder.is_ending() {
-        return closing(response);
-    }
-    response
-}
-
-// A response behind which the connection is closed.
-fn closing(mut response: Response<ReplyBody<Bytes>>) -> Response<ReplyBody<Bytes>> {
-    let close = HeaderValue::from_static("close");
-    let _ = response.headers_mut().insert(header::CONNECTION, close);
-    response
+) -> Result<Response<ReplyBody<Bytes>>, AllocError>
+    ensures { IfOk result (IsSent reply.reply) }
+{
+    let response = response(alloc, reply, responder.is_ending())?;
+    Ok(response)
 }
 
 // A request whose body has not come yet, and who answers it.
@@ -83,33 +79,17 @@ fn call_of<I, A: Responder>(
     responder: &Arc<LoopResponder<A>>,
     progress: &SharedProgress,
     request: &Request<Incoming<I>>,
-) -> Result<Call<A>, AllocError> {
-    let method = String::from_str(alloc, request.method().as_str())?;
-    let target = target_of(alloc, request.uri())?;
-    let authorization = match request.headers().get(header::AUTHORIZATION) {
-        Some(value) => Some(value.as_bytes().to_vec(alloc)?),
-        None => None,
-    };
-    let asked = HttpRequest {
-        method,
-        target,
-        authorization,
-        body: Vec::new(alloc),
-    };
+) -> Result<Call<A>, AllocError>
+    ensures request { IfOk result (λ call. IsRequest (head_of request.now) [] call.request) }
+    ensures coding { IfOk result (λ call. call.has_other_coding
+        ≡ is_other_coding (field_of (head_of request.now).headers (codes "transfer-encoding"))) }
+{
     Ok(Call {
         responder: Arc::try_clone(responder)?,
         progress: Rc::clone(progress)?,
-        request: asked,
-        has_other_coding: has_other_coding(request),
+        request: request_of(alloc, request)?,
+        has_other_coding: has_other_coding(request.headers()),
     })
-}
-
-// Whether the body comes in a transfer coding other than `chunked`.
-fn has_other_coding<I>(request: &Request<Incoming<I>>) -> bool {
-    match request.headers().get(header::TRANSFER_ENCODING) {
-        Some(coding) => !coding.as_bytes().eq_ignore_ascii_case(b"chunked"),
-        None => false,
-    }
 }
 
 impl<A: Responder> Call<A> {
@@ -126,6 +106,8 @@ impl<A: Responder> Call<A> {
         body: CountedBody,
     ) -> Result<Handled<R, A>, Unanswered>
         requires { A.can_respond }
+        ensures { IfOk result (λ handled. self.has_other_coding ≡ false
+            → IfReplied handled (IsAnswer A.answers (with_body self.request body.bytes))) }
     {
         let Call {
             responder,
@@ -135,18 +117,18 @@ impl<A: Responder> Call<A> {
         } = self;
         if has_other_coding {
             let reply = CountedReply::small(responder.refuse_coding(rt, alloc));
-            return Ok(Handled::Replied(response_by(alloc, &responder, reply)));
+            return Ok(Begun::Replied(response_by(alloc, &responder, reply)?));
         }
         let CountedBody { bytes, memory } = body;
         request.body = bytes;
         match responder.begin(rt, alloc, request)? {
             Begun::Replied(reply) => {
-                let reply = CountedReply::count(rt, reply, memory)?;
-                Ok(Handled::Replied(response_by(alloc, &responder, reply)))
+                let response = sent(rt, &responder, reply, memory)?;
+                Ok(Begun::Replied(response))
             }
             Begun::Waits(ticket) => {
                 progress.enter(Stage::Turn);
-                Ok(Handled::Waits(WaitingCall {
+                Ok(Begun::Waits(WaitingCall {
                     responder,
                     progress,
                     ticket,
@@ -157,18 +139,26 @@ impl<A: Responder> Call<A> {
     }
 
     // The response to a request whose body is too long. The connection is closed behind it.
-    fn refuse_body<R: Wait>(self, rt: &R, alloc: Global) -> Response<ReplyBody<Bytes>> {
+    fn refuse_body<R: Wait>(
+        self,
+        rt: &R,
+        alloc: Global,
+    ) -> Result<Response<ReplyBody<Bytes>>, AllocError> {
         self.progress.note_left_body();
         let reply = CountedReply::small(self.responder.refuse_body(rt, alloc));
-        closing(response(alloc, reply))
+        response(alloc, reply, true)
     }
 
     // The response to a request whose body does not come in its coding, or whose `Host` is no host and port. The
     // connection is closed behind it.
-    fn refuse_framing<R: Wait>(self, rt: &R, alloc: Global) -> Response<ReplyBody<Bytes>> {
+    fn refuse_framing<R: Wait>(
+        self,
+        rt: &R,
+        alloc: Global,
+    ) -> Result<Response<ReplyBody<Bytes>>, AllocError> {
         self.progress.note_left_body();
         let reply = CountedReply::small(self.responder.refuse_framing(rt, alloc));
-        closing(response(alloc, reply))
+        response(alloc, reply, true)
     }
 }
 
@@ -182,12 +172,8 @@ struct WaitingCall<R: ConnectionRuntime, A: Responder> {
     memory: Option<ClientMemory>,
 }
 
-// What became of a request whose body has come.
-#[derive(Drop)]
-enum Handled<R: ConnectionRuntime, A: Responder> {
-    Replied(Response<ReplyBody<Bytes>>),
-    Waits(WaitingCall<R, A>),
-}
+// What becomes of a request whose body has come.
+type Handled<R, A> = Begun<Response<ReplyBody<Bytes>>, WaitingCall<R, A>>;
 
 // What becomes of a request, once its body has come or not.
 fn answered<R: ConnectionRuntime, A: Responder>(
@@ -197,6 +183,8 @@ fn answered<R: ConnectionRuntime, A: Responder>(
     body: Result<CountedBody, BodyError>,
 ) -> Result<Handled<R, A>, Unanswered>
     requires { A.can_respond }
+    ensures { IfOk result (λ handled. IfOk call (λ call. IfOk body (λ body. call.has_other_coding ≡ false
+        → IfReplied handled (IsAnswer A.answers (with_body call.request body.bytes))))) }
 {
     let call = call?;
     if !call.progress.end_wait() {
@@ -206,8 +194,8 @@ fn answered<R: ConnectionRuntime, A: Responder>(
     call.progress.note_answer();
     match body {
         Ok(body) => call.begin(rt, alloc, body),
-        Err(BodyError::TooLong) => Ok(Handled::Replied(call.refuse_body(rt, alloc))),
-        Err(BodyError::Malformed) => Ok(Handled::Replied(call.refuse_framing(rt, alloc))),
+        Err(BodyError::TooLong) => Ok(Begun::Replied(call.refuse_body(rt, alloc)?)),
+        Err(BodyError::Malformed) => Ok(Begun::Replied(call.refuse_framing(rt, alloc)?)),
         Err(BodyError::Memory) => Err(Unanswered::Memory),
         Err(BodyError::Cut) => Err(Unanswered::Cut),
         Err(BodyError::Closed) => Err(Unanswered::GivenUp),
@@ -238,6 +226,9 @@ where
     type Future = Answer<R, A, WholeBody<Incoming<I>, R>>;
 
     ghost can_call = { λ _. A.can_respond };
+
+    ghost calls = { λ _ request answer. (answer.body.body ≡ body_of request) × IfSome answer.call
+        (λ call. IfOk call (λ call. IsRequest (head_of request) [] call.request)) };
 
     fn call(&self, request: Request<Incoming<I>>) -> Self::Future {
         let alloc = self.rt.alloc();
@@ -305,8 +296,8 @@ where
                 return Poll::Ready(Err(Unanswered::Memory));
             };
             match answered(&self.rt, self.rt.alloc(), call, body) {
-                Ok(Handled::Replied(response)) => return Poll::Ready(Ok(response)),
-                Ok(Handled::Waits(waiting)) => self.waiting = Some(waiting),
+                Ok(Begun::Replied(response)) => return Poll::Ready(Ok(response)),
+                Ok(Begun::Waits(waiting)) => self.waiting = Some(waiting),
                 Err(error) => return Poll::Ready(Err(error)),
             }
         }
@@ -332,25 +323,22 @@ fn poll_reply<R: ConnectionRuntime, A: Responder>(
     };
     waiting.progress.enter(Stage::Reply);
     waiting.progress.note_answer();
-    match CountedReply::count(rt, reply, waiting.memory.take()) {
-        Ok(reply) => Poll::Ready(Ok(response_by(rt.alloc(), &waiting.responder, reply))),
+    match sent(rt, &waiting.responder, reply, waiting.memory.take()) {
+        Ok(response) => Poll::Ready(Ok(response)),
         Err(_refused) => Poll::Ready(Err(Unanswered::Memory)),
     }
 }
 
-// Where no memory is left for a header, the reply goes without it.
-fn response(alloc: Global, reply: CountedReply) -> Response<ReplyBody<Bytes>> {
-    let CountedReply { reply, memory } = reply;
-    let mut response = Response::new(alloc, ReplyBody::new(reply.body, memory));
-    *response.status_mut() = StatusCode::from_u16(reply.status).unwrap_or(
-        StatusCode::INTERNAL_SERVER_ERROR,
-    );
-    let kind = HeaderValue::from_static("application/json");
-    let _ = response.headers_mut().insert(header::CONTENT_TYPE, kind);
-    if let Some(method) = reply.allowed {
-        if let Ok(allowed) = HeaderValue::from_string(method) {
-            let _ = response.headers_mut().insert(header::ALLOW, allowed);
-        }
-    }
-    response
+// The response with a reply that was made, in whose place this was held for its client.
+fn sent<R: ConnectionRuntime, A: Responder>(
+    rt: &R,
+    responder: &LoopResponder<A>,
+    reply: HttpReply,
+    memory: Option<ClientMemory>,
+) -> Result<Response<ReplyBody<Bytes>>, AllocError>
+    ensures { IfOk result (IsSent reply) }
+{
+    let counted = CountedReply::count(rt, reply, memory)?;
+    let response = response_by(rt.alloc(), responder, counted)?;
+    Ok(response)
 }

@@ -1,13 +1,16 @@
 // The bodies of requests.
-ghost use Rattle.std.specs.Prelude.{◌≡◌, Err, IfSome, false};
+ghost use Rattle.std.specs.Prelude.{◌≡◌, ◌++◌, [], Err, IfOk, IsOk, IsTrue, MatchOption, None, OnOk, false, length, true};
 ghost use Rattle.futures.specs.Task.{Covers, Keeps};
-ghost use Rattle.futures.specs.Poll.{OnPending};
+ghost use Rattle.futures.specs.Poll.{IfReady, OnPending};
+ghost use Rattle.http_body.specs.Frame.{data_of};
+ghost use Rattle.mx_http.specs.Bodies.{OnOkOrPending, is_kept};
+ghost use Rattle.mx_http.specs.WholeBodies.{GivesBody, StillGives};
 
 use crate::memory::{ClientMemory, RoomWait};
 use bytes::Bytes;
 use futures::task::{Context, Poll};
 use futures::{Future, ready};
-use hyper::body::Body;
+use hyper::body::{Body, Frame};
 use std::alloc::{AllocError, AllocGlobal, Global};
 use std::mem;
 use std::time::Clock;
@@ -65,41 +68,56 @@ struct Gathered {
     bytes: Vec<u8>,
     // How many bytes a body may have.
     largest: usize,
-    // How many came once there were more.
-    past: usize,
+    // How many came once there were more. None of these is kept, nor what came before.
+    past: Option<usize>,
 }
 
 impl Gathered {
     // Whether so many bytes more are kept.
-    fn keeps(&self, more: usize) -> bool {
-        self.past == 0 && self.bytes.len().saturating_add(more) <= self.largest
+    fn keeps(&self, more: usize) -> bool
+        ensures { result ≡ is_kept self.now.past self.now.largest (length self.now.bytes.items) more }
+    {
+        self.past.is_none() && self.bytes.len().saturating_add(more) <= self.largest
     }
 
     // A body that is counted gets addresses enough at once. The system gives memory for those that are written, and takes it
     // back as soon as they are dropped: it does so with allocations of that size, and may keep what smaller ones leave.
-    fn reserve(&mut self) {
+    fn reserve(&mut self)
+        ensures past { self.new.past ≡ self.old.past }
+        ensures largest { self.new.largest ≡ self.old.largest }
+        ensures bytes { self.new.bytes.items ≡ self.old.bytes.items }
+    {
         if self.bytes.capacity() < ADDRESSES {
             let _ = self.bytes.reserve_exact(ADDRESSES);
         }
     }
 
     // Of a body that is too long nothing is kept. `TooLong` where it has gone on for long enough.
-    fn add(&mut self, piece: &[u8]) -> Result<(), BodyError> {
+    fn add(&mut self, piece: &[u8]) -> Result<(), BodyError>
+        ensures bytes { OnOk result (self.new.past ≡ None → (self.old.past ≡ None)
+            × (self.new.bytes.items ≡ self.old.bytes.items ++ piece.now)) }
+        ensures kept { IsTrue (is_kept self.old.past self.old.largest (length self.old.bytes.items) (length piece.now))
+            → OnOk result (self.new.past ≡ None) }
+    {
         if self.keeps(piece.len()) {
             self.bytes.extend_from_slice(piece)?;
             return Ok(());
         }
         self.bytes = Vec::new(self.alloc);
-        self.past = self.past.saturating_add(piece.len());
-        if self.past > self.largest.saturating_mul(READ_ON) {
+        let past = self.past.unwrap_or(0).saturating_add(piece.len());
+        self.past = Some(past);
+        if past > self.largest.saturating_mul(READ_ON) {
             return Err(BodyError::TooLong);
         }
         Ok(())
     }
 
     // A body that has come to its end.
-    fn take(&mut self) -> Result<Vec<u8>, BodyError> {
-        if self.past > 0 {
+    fn take(&mut self) -> Result<Vec<u8>, BodyError>
+        ensures bytes { IfOk result (λ bytes. (self.old.past ≡ None) × (bytes.items ≡ self.old.bytes.items)) }
+        ensures whole { self.old.past ≡ None → IsOk result }
+    {
+        if self.past.is_some() {
             return Err(BodyError::TooLong);
         }
         Ok(mem::replace(&mut self.bytes, Vec::new(self.alloc)))
@@ -142,12 +160,14 @@ impl<B, R> WholeBody<B, R> {
         ensures body { result.body ≡ body }
         ensures fault { result.fault ≡ fault }
         ensures begins { result.has_ended ≡ false }
+        ensures none_past { result.gathered.past ≡ None }
+        ensures none_held { (result.gathered.bytes.items ≡ []) × (result.piece ≡ None) }
     {
         let gathered = Gathered {
             alloc,
             bytes: Vec::new(alloc),
             largest,
-            past: 0,
+            past: None,
         };
         WholeBody {
             body,
@@ -161,12 +181,18 @@ impl<B, R> WholeBody<B, R> {
     }
 }
 
-impl<B: Drop, R: Clock + AllocGlobal + Copy + Drop> WholeBody<B, R> {
+impl<B, R> WholeBody<B, R>
+where
+    B: Body<Data = Bytes, Error = hyper::Error>,
+    R: Clock + AllocGlobal + Copy + Drop,
+{
     // Ready once the piece that came is kept.
     fn poll_piece(&mut self, cx: &mut Context<'_>) -> Poll<Result<(), BodyError>>
         ensures body { self.new.body ≡ self.old.body }
         ensures fault { self.new.fault ≡ self.old.fault }
         ensures ended { self.new.has_ended ≡ self.old.has_ended }
+        ensures taken { IfReady result (λ r. OnOk r (self.new.piece ≡ None)) }
+        ensures rest { OnOkOrPending result (StillGives B.yields self.old self.new) }
         ensures registered { OnPending result (Covers cx.new (λ _. ⊥)) }
         ensures kept { Keeps cx.old cx.new }
     {
@@ -187,23 +213,48 @@ impl<B: Drop, R: Clock + AllocGlobal + Copy + Drop> WholeBody<B, R> {
         } else {
             room.clear();
         }
-        let added = self.gathered.add(piece.as_slice());
+        if let Err(error) = self.gathered.add(piece.as_slice()) {
+            return Poll::Ready(Err(error));
+        }
         self.piece = None;
-        Poll::Ready(added)
+        Poll::Ready(Ok(()))
+    }
+
+    // Ready once the next frame has come, or the end.
+    fn poll_frame(&mut self, cx: &mut Context<'_>) -> Poll<Result<(), BodyError>>
+        requires can_poll { B.can_poll self.old.body }
+        requires goes_on { self.old.has_ended ≡ false }
+        requires taken { self.old.piece ≡ None }
+        ensures fault { self.new.fault ≡ self.old.fault }
+        ensures goes { OnOkOrPending result (self.new.has_ended ≡ false → B.can_poll self.new.body) }
+        ensures rest { OnOkOrPending result (StillGives B.yields self.old self.new) }
+        ensures registered { OnPending result (Covers cx.new (B.needs self.new.body)) }
+        ensures kept { Keeps cx.old cx.new }
+    {
+        match ready!(self.body.poll_frame(cx)) {
+            Some(Ok(frame)) => self.piece = data_of(frame),
+            Some(Err(error)) => return Poll::Ready(Err(BodyError::of(&error))),
+            None => self.has_ended = true,
+        }
+        Poll::Ready(Ok(()))
     }
 
     // Ready once all has come, and there is room for a long reply where its request may have one.
     fn poll_end(&mut self, cx: &mut Context<'_>) -> Poll<Result<CountedBody, BodyError>>
+        requires ended { self.old.has_ended ≡ true }
+        requires taken { self.old.piece ≡ None }
         ensures body { self.new.body ≡ self.old.body }
         ensures fault { self.new.fault ≡ self.old.fault }
         ensures ended { self.new.has_ended ≡ self.old.has_ended }
+        ensures whole { IfReady result (λ r. IfOk r (λ counted. GivesBody B.yields self.old counted.bytes.items)) }
+        ensures rest { OnPending result (StillGives B.yields self.old self.new) }
         ensures registered { OnPending result (Covers cx.new (λ _. ⊥)) }
         ensures kept { Keeps cx.old cx.new }
     {
         let Some(room) = &mut self.room else {
             return Poll::Ready(Err(BodyError::Memory));
         };
-        if self.has_long_reply && self.gathered.past == 0 {
+        if self.has_long_reply && self.gathered.past.is_none() {
             if let Err(error) = ready!(room.poll_reply(cx)) {
                 return Poll::Ready(Err(error));
             }
@@ -217,6 +268,16 @@ impl<B: Drop, R: Clock + AllocGlobal + Copy + Drop> WholeBody<B, R> {
     }
 }
 
+// The data of a frame; none of trailers.
+fn data_of(frame: Frame<Bytes>) -> Option<Bytes>
+    ensures { result ≡ data_of frame }
+{
+    match frame.into_data() {
+        Ok(data) => Some(data),
+        Err(_trailers) => None,
+    }
+}
+
 impl<B, R> Future for WholeBody<B, R>
 where
     B: Body<Data = Bytes, Error = hyper::Error>,
@@ -226,7 +287,9 @@ where
 
     ghost can_poll = { λ whole. whole.has_ended ≡ false → B.can_poll whole.body };
 
-    ghost gives = { λ whole r. IfSome whole.fault (λ fault. r ≡ Err fault) };
+    ghost gives = { λ whole r. MatchOption whole.fault
+        (IfOk r (λ counted. GivesBody B.yields whole counted.bytes.items))
+        (λ fault. r ≡ Err fault) };
 
     fn poll(&mut self, cx: &mut Context<'_>) -> Poll<Result<CountedBody, BodyError>> {
         if let Some(fault) = self.fault {
@@ -239,10 +302,8 @@ where
             if self.has_ended {
                 return self.poll_end(cx);
             }
-            match ready!(self.body.poll_frame(cx)) {
-                Some(Ok(frame)) => self.piece = frame.into_data().ok(),
-                Some(Err(error)) => return Poll::Ready(Err(BodyError::of(&error))),
-                None => self.has_ended = true,
+            if let Err(error) = ready!(self.poll_frame(cx)) {
+                return Poll::Ready(Err(error));
             }
         }
         cx.yield_now()

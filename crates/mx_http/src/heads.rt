@@ -1,12 +1,15 @@
 // What the head of a request tells before its body has come.
-ghost use Rattle.std.specs.Prelude.{◌≡◌, ◌<◌, ◌≤◌, ◌↔◌, IsSomeAnd, IsTrue, length};
+ghost use Rattle.std.specs.Prelude.{◌≡◌, ◌<◌, ◌≤◌, ◌↔◌, [], IfOk, IsSomeAnd, IsTrue, bytes_eq, codes, length, map, option_map};
 ghost use Rattle.std.specs.List.{prefix_len};
-ghost use Rattle.std.specs.Char.{is_ascii_digit};
+ghost use Rattle.std.specs.Char.{is_ascii_digit, to_ascii_lowercase};
 ghost use Rattle.http_server.specs.Host.{is_name_byte, is_port, literal_len, is_bracketed, IsLiteral, IsHostText};
+ghost use Rattle.http.specs.Request.{head_of};
+ghost use Rattle.mx_http.specs.Requests.{IsRequest, field_of, is_other_coding, target_of};
 
 use crate::bodies::BodyError;
+use crate::messages::HttpRequest;
 use hyper::body::{Body, Incoming};
-use hyper::{Request, Uri, header};
+use hyper::{HeaderMap, Request, Uri, header};
 use std::alloc::{AllocError, Global};
 use std::net::Ipv6Addr;
 
@@ -36,11 +39,52 @@ fn is_longer(length: Option<u64>, largest: usize) -> bool
     }
 }
 
-/// The target: the path and the query, also where it was sent with a scheme and a host; of a target without a path, the
-/// host and the port. hyper gives no fragment.
-///
-/// Source: RFC 9112, section 3.2.
-pub fn target_of(alloc: Global, uri: &Uri) -> Result<Vec<u8>, AllocError> {
+/// The request with this head, whose body has not come yet.
+pub fn request_of<B>(alloc: Global, request: &Request<B>) -> Result<HttpRequest, AllocError>
+    ensures { IfOk result (IsRequest (head_of request.now) []) }
+{
+    Ok(HttpRequest {
+        method: String::from_str(alloc, request.method().as_str())?,
+        target: target_of(alloc, request.uri())?,
+        authorization: authorization_of(alloc, request.headers())?,
+        body: Vec::new(alloc),
+    })
+}
+
+// The value of the first `Authorization` header.
+fn authorization_of(alloc: Global, headers: &HeaderMap) -> Result<Option<Vec<u8>>, AllocError>
+    ensures { IfOk result (λ found. option_map (λ value. value.items) found
+        ≡ field_of headers.now (codes "authorization")) }
+{
+    match headers.get(header::AUTHORIZATION) {
+        Some(value) => Ok(Some(value.as_bytes().to_vec(alloc)?)),
+        None => Ok(None),
+    }
+}
+
+/// Whether the body comes in a transfer coding other than `chunked`.
+pub fn has_other_coding(headers: &HeaderMap) -> bool
+    ensures { result ≡ is_other_coding (field_of headers.now (codes "transfer-encoding")) }
+{
+    match headers.get(header::TRANSFER_ENCODING) {
+        Some(coding) => !is_chunked(coding.as_bytes()),
+        None => false,
+    }
+}
+
+fn is_chunked(coding: &[u8]) -> bool
+    ensures { result ≡ bytes_eq (map to_ascii_lowercase coding.now) (codes "chunked") }
+{
+    coding.eq_ignore_ascii_case(b"chunked")
+}
+
+// The target: the path and the query, also where it was sent with a scheme and a host; of a target without a path, the
+// host and the port. hyper gives no fragment.
+//
+// Source: RFC 9112, section 3.2.
+fn target_of(alloc: Global, uri: &Uri) -> Result<Vec<u8>, AllocError>
+    ensures { IfOk result (λ target. target.items ≡ target_of uri.now) }
+{
     if let Some(path) = uri.path_and_query() {
         return path.as_str().as_bytes().to_vec(alloc);
     }

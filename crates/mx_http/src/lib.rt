@@ -15,6 +15,7 @@ mod messages;
 mod places;
 mod pool;
 mod quiet;
+mod responses;
 mod runtimes;
 mod stages;
 mod turns;

@@ -1,4 +1,8 @@
 // The bodies of replies, which are counted until they have gone.
+ghost use Rattle.std.specs.Prelude.{◌≡◌, ◌++◌, IfOk, MatchOption, Some, length};
+ghost use Rattle.http_body.specs.SizeHint.{exact};
+ghost use Rattle.mx_http.specs.Responses.{GivesBytes, bytes_left};
+
 use crate::memory::budget::{ClientMemory, SMALL};
 use crate::messages::HttpReply;
 use bytes::{Buf, Bytes};
@@ -22,7 +26,9 @@ impl CountedReply {
         clock: &C,
         reply: HttpReply,
         memory: Option<ClientMemory>,
-    ) -> Result<CountedReply, AllocError> {
+    ) -> Result<CountedReply, AllocError>
+        ensures { IfOk result (λ counted. counted.reply ≡ reply) }
+    {
         let Some(mut memory) = memory else {
             return Ok(CountedReply::small(reply));
         };
@@ -38,7 +44,9 @@ impl CountedReply {
     }
 
     /// A reply that is not counted, as one that says why a request is refused.
-    pub fn small(reply: HttpReply) -> CountedReply {
+    pub fn small(reply: HttpReply) -> CountedReply
+        ensures { result.reply ≡ reply }
+    {
         CountedReply {
             reply,
             memory: None,
@@ -49,7 +57,9 @@ impl CountedReply {
 /// What goes in pieces, where it is long.
 pub trait Pieces: Buf + Drop {
     /// Its first piece, behind which this is the rest. None where it is short, or no memory is left.
-    fn take_piece(&mut self) -> Option<Self>;
+    fn take_piece(&mut self) -> Option<Self>
+        ensures { MatchOption result (Self.unread self.new ≡ Self.unread self.old)
+            (λ piece. Self.unread self.old ≡ Self.unread piece ++ Self.unread self.new) };
 }
 
 impl Pieces for Bytes {
@@ -57,7 +67,10 @@ impl Pieces for Bytes {
         if self.len() <= SMALL {
             return None;
         }
-        self.split_to(SMALL).ok()
+        match self.split_to(SMALL) {
+            Ok(piece) => Some(piece),
+            Err(_refused) => None,
+        }
     }
 }
 
@@ -70,7 +83,10 @@ pub struct ReplyBody<D> {
 }
 
 impl<D: Pieces> ReplyBody<D> {
-    pub fn new(body: D, memory: Option<ClientMemory>) -> ReplyBody<D> {
+    #[tactic(auto, using(std::proofs::lemmas::List::nil_from_length))]
+    pub fn new(body: D, memory: Option<ClientMemory>) -> ReplyBody<D>
+        ensures { bytes_left D.unread result.rest ≡ D.unread body }
+    {
         let rest = if body.remaining() == 0 {
             None
         } else {
@@ -84,6 +100,8 @@ impl<D: Pieces> Body for ReplyBody<D> {
     type Data = D;
 
     type Error = Infallible;
+
+    ghost yields = { λ body. GivesBytes D.unread (bytes_left D.unread body.rest) };
 
     fn poll_frame(&mut self, _cx: &mut Context<'_>) -> Poll<Option<Result<Frame<D>, Infallible>>> {
         let Some(mut rest) = self.rest.take() else {
@@ -102,7 +120,9 @@ impl<D: Pieces> Body for ReplyBody<D> {
         self.rest.is_none()
     }
 
-    fn size_hint(&self) -> SizeHint {
+    fn size_hint(&self) -> SizeHint
+        ensures { exact result ≡ Some (length (bytes_left D.unread self.now.rest)) }
+    {
         match &self.rest {
             Some(rest) => SizeHint::with_exact(rest.remaining() as u64),
             None => SizeHint::with_exact(0),

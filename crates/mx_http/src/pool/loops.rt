@@ -1,4 +1,7 @@
 // Requests at an event loop, which answers those itself that need not wait.
+ghost use Rattle.std.specs.Prelude.{IfOk};
+ghost use Rattle.mx_http.specs.Answering.{IfReplied, IsLeft, MatchBegun};
+
 use crate::endings::Ending;
 use crate::messages::{HttpReply, HttpRequest, ReadRequest, Responder};
 use crate::pool::claims::Claim;
@@ -25,9 +28,9 @@ impl<C: Drop> LoopSide<C> {
         &self,
         rt: &R,
         alloc: Global,
-        claim: Claim,
-        work: Work<C>,
+        left: LeftWork<C>,
     ) -> Result<Ticket<R, C>, AllocError> {
+        let LeftWork { claim, work } = left;
         let (tell, told) = oneshot::channel(alloc)?;
         let pool = Arc::try_clone(&self.pool)?;
         let number = pool.add(rt, claim, work, tell)?;
@@ -45,20 +48,18 @@ pub struct LoopResponder<A: Responder> {
     ending: Option<Ending>,
 }
 
-/// What becomes of a request.
+/// What becomes of a request: it has its reply, or waits.
 #[derive(Drop)]
-pub enum Begun<R: ConnectionRuntime, C: Drop> {
-    // It has its reply.
-    Replied(HttpReply),
-    // It waits for an answering thread.
-    Waits(Ticket<R, C>),
+pub enum Begun<T, W> {
+    Replied(T),
+    Waits(W),
 }
 
-// What becomes of a request at an event loop.
+// What is done for a request that waits, and what it claims.
 #[derive(Drop)]
-enum Sorted<C> {
-    Replied(HttpReply),
-    IsLeft(Claim, Work<C>),
+struct LeftWork<C> {
+    claim: Claim,
+    work: Work<C>,
 }
 
 impl<A: Responder> LoopResponder<A> {
@@ -117,8 +118,9 @@ impl<A: Responder> LoopResponder<A> {
         rt: &R,
         alloc: Global,
         request: HttpRequest,
-    ) -> Result<Begun<R, A::Call>, AllocError>
+    ) -> Result<Begun<HttpReply, Ticket<R, A::Call>>, AllocError>
         requires { A.can_respond }
+        ensures { IfOk result (λ begun. IfReplied begun (A.answers request)) }
     {
         let Some(side) = &self.side else {
             return Ok(Begun::Replied(self.answer(rt, alloc, request)));
@@ -127,11 +129,8 @@ impl<A: Responder> LoopResponder<A> {
         let sorted = self.sort(rt, alloc, side, request);
         side.turn.end();
         match sorted {
-            Sorted::Replied(reply) => Ok(Begun::Replied(reply)),
-            Sorted::IsLeft(claim, work) => {
-                let ticket = side.leave(rt, alloc, claim, work)?;
-                Ok(Begun::Waits(ticket))
-            }
+            Begun::Replied(reply) => Ok(Begun::Replied(reply)),
+            Begun::Waits(left) => Ok(Begun::Waits(side.leave(rt, alloc, left)?)),
         }
     }
 
@@ -142,29 +141,37 @@ impl<A: Responder> LoopResponder<A> {
         alloc: Global,
         side: &LoopSide<A::Call>,
         request: HttpRequest,
-    ) -> Sorted<A::Call>
+    ) -> Begun<HttpReply, LeftWork<A::Call>>
         requires { A.can_respond }
+        ensures { MatchBegun result (A.answers request) (λ left. IsLeft A.asks request left.work) }
     {
         let mut responder = self.responder.lock(rt);
         if !responder.is_short(&request) {
-            return Sorted::IsLeft(Claim::Nothing, Work::Read(request));
+            return Begun::Waits(LeftWork {
+                claim: Claim::Nothing,
+                work: Work::Read(request),
+            });
         }
         match responder.read(alloc, request) {
-            ReadRequest::Refused(reply) => Sorted::Replied(reply),
+            ReadRequest::Refused(reply) => Begun::Replied(reply),
             ReadRequest::Asking(asked) if asked.is_quick && side.pool.is_free(asked.claim) => {
                 let reply = responder.respond(rt, alloc, asked.call);
                 if responder.is_done() {
                     self.end(rt);
                 }
-                Sorted::Replied(reply)
+                Begun::Replied(reply)
             }
-            ReadRequest::Asking(asked) => Sorted::IsLeft(asked.claim, Work::Answer(asked.call)),
+            ReadRequest::Asking(asked) => Begun::Waits(LeftWork {
+                claim: asked.claim,
+                work: Work::Answer(asked.call),
+            }),
         }
     }
 
     // The reply to a request.
     fn answer<R: ConnectionRuntime>(&self, rt: &R, alloc: Global, request: HttpRequest) -> HttpReply
         requires { A.can_respond }
+        ensures { A.answers request result }
     {
         let mut responder = self.responder.lock(rt);
         match responder.read(alloc, request) {
