@@ -3,11 +3,10 @@ use Rattle.std.proofs.Common.{◌≡◌, ◌<◌, ◌==◌, ◌||◌, ◌++◌, 
 use Rattle.std.proofs.lemmas.List.Elements.{All-get_or, All-map}
 use Rattle.std.proofs.lemmas.Bool.Decides.{Decides-eqb}
 use Rattle.std.proofs.lemmas.Slice.Eq.{slice_eq-Decides}
-use Rattle.std.specs.Prelude.{get_or, OnErr, OnOk, Result, Ok, Err, Vec}
+use Rattle.std.specs.Prelude.{get_or, OnErr, OnOk, Result, Ok, Err}
 use Rattle.std.specs.Cmp.Lexicographic.{pointwise}
 use Rattle.std.specs.Map.{lookup}
 use Rattle.std.specs.List.{All, dedup, dedup_from}
-use Rattle.std.specs.declared.alloc.Global.{Global}
 use Rattle.lru.specs.LruCache.{LruCache, lru_cache, put_entries}
 use Rattle.lru.proofs.CallerLemmas.{Contains-lookup, Contains-put_entries}
 use Rattle.lru.proofs.Splits.{Contains-nil}
@@ -31,6 +30,7 @@ use Rattle.mx_state_res.proofs.KeptGrowthLemmas.{kept-longer, option-grown}
 use Rattle.mx_receipt.specs.Receipt.{created_version, resolve_in, version_in}
 use Rattle.mx_receipt.specs.Resolutions.{AreResolutions, AreRight, IsResolution}
 use Rattle.mx_receipt.specs.declared.resolution_cache.ResolutionCache.{ResolutionCache}
+use Rattle.mx_receipt.specs.declared.resolution_cache.StateList.{StateList}
 use Rattle.mx_receipt.proofs.HeldLemmas.{grown-length, grown-state, known-longer, one-longer}
 
 -- ---- resolutions
@@ -105,7 +105,7 @@ right-empty rows states cache empty none =
     (λ e m. absurd (Contains-nil e (subst (λ es. Contains es e) empty m)), subst (λ o. IfSome o (IsKept (version_in rows) rows states)) (sym none) tt)
 
 pub right-grown : (rows : List Row) (old more new : List State) (cache : ResolutionCache) → new ≡ old ++ more → AreRight rows old cache → AreRight rows new cache
-right-grown rows old more new cache are h = (λ e m. resolution-grown rows old more new are e.0.items e.1 (h.0 e m), option-grown (version_in rows) rows old more new are cache.last h.1)
+right-grown rows old more new cache are h = (λ e m. resolution-grown rows old more new are e.0.numbers.items e.1 (h.0 e m), option-grown (version_in rows) rows old more new are cache.last h.1)
 
 -- of a record without events nothing is kept
 alike-empty : (k : Key) (ss : List State) → AreKnown [] ss → AllAlike k ss
@@ -118,17 +118,17 @@ last-longer [] r states sound after (Some kept) h = absurd (h.at_keys.apart h.at
 last-longer (q ∷ rows) r states sound after (Some kept) h = kept-longer (created_version q.event) (q ∷ rows) (q ∷ rows ++ r ∷ []) (longer-push (q ∷ rows) r sound after) states kept h
 
 pub right-longer : (rows : List Row) (r : Row) (states : List State) (cache : ResolutionCache) → IsSound rows → IsSound (rows ++ r ∷ []) → AreRight rows states cache → AreRight (rows ++ r ∷ []) states cache
-right-longer rows r states cache sound after h = (λ e m. resolution-longer rows r states e.0.items e.1 sound after (h.0 e m), last-longer rows r states sound after cache.last h.1)
+right-longer rows r states cache sound after h = (λ e m. resolution-longer rows r states e.0.numbers.items e.1 sound after (h.0 e m), last-longer rows r states sound after cache.last h.1)
 
 -- with the entries of another one, and one that was found
 pub right-put : (rows : List Row) (old new : List State) (cache after : ResolutionCache) (ns : List ℕ) (s : ℕ) → AreAdded rows old new → AreKnown rows old → AreResolutions rows old cache
     → All (λ n. n < length old) ns → s < length new → state_at new s ≡ resolve_in rows (map (state_at old) ns)
-    → ((e : Vec ℕ Global × ℕ) → Contains after.resolutions.entries e → Contains cache.resolutions.entries e ⊎ ((e.0.items ≡ ns) × (e.1 ≡ s)))
+    → ((e : StateList × ℕ) → Contains after.resolutions.entries e → Contains cache.resolutions.entries e ⊎ ((e.0.numbers.items ≡ ns) × (e.1 ≡ s)))
     → AreResolutions rows new after
 right-put rows old new cache after ns s added known h below l is put = λ e m. by e (put e m)
   where
-    by : (e : Vec ℕ Global × ℕ) → Contains cache.resolutions.entries e ⊎ ((e.0.items ≡ ns) × (e.1 ≡ s)) → IsResolution rows new e.0.items e.1
-    by e (inl m) = resolution-grown rows old added.more new added.are e.0.items e.1 (h e m)
+    by : (e : StateList × ℕ) → Contains cache.resolutions.entries e ⊎ ((e.0.numbers.items ≡ ns) × (e.1 ≡ s)) → IsResolution rows new e.0.numbers.items e.1
+    by e (inl m) = resolution-grown rows old added.more new added.are e.0.numbers.items e.1 (h e m)
     by e (inr k) = subst (λ (p : List ℕ × ℕ). IsResolution rows new p.0 p.1) (λ i. (sym k.0 i, sym k.1 i)) (resolution-found rows old added.more new added.are ns s known below l is)
 
 -- ---- keys
@@ -157,26 +157,26 @@ dedup-members (x ∷ xs) n = dedup_from-members x xs n
 
 -- ---- entries
 
-abbrev same_numbers : Vec ℕ Global → Vec ℕ Global → Bool
-same_numbers x y = pointwise nat_eq x.items y.items
+abbrev same_numbers : StateList → StateList → Bool
+same_numbers x y = pointwise nat_eq x.numbers.items y.numbers.items
 
-is_put : (old : LruCache (Vec ℕ Global) ℕ) (k : Vec ℕ Global) (s : ℕ) (e : Vec ℕ Global × ℕ) → Contains (put_entries same_numbers old k s) e → Contains old.entries e ⊎ ((e.0.items ≡ k.items) × (e.1 ≡ s))
+is_put : (old : LruCache StateList ℕ) (k : StateList) (s : ℕ) (e : StateList × ℕ) → Contains (put_entries same_numbers old k s) e → Contains old.entries e ⊎ ((e.0.numbers.items ≡ k.numbers.items) × (e.1 ≡ s))
 is_put old k s e m = elim (Contains-put_entries same_numbers old k s e m) [
   | inl n ↦ inl n
   | inr p ↦ elim p.1 [
-    | inl same ↦ inr (ap (λ (v : Vec ℕ Global). v.items) same, p.0)
-    | inr was ↦ inr (sym (same-key k.items e.0.items was.2), p.0)
+    | inl same ↦ inr (ap (λ (v : StateList). v.numbers.items) same, p.0)
+    | inr was ↦ inr (sym (same-key k.numbers.items e.0.numbers.items was.2), p.0)
   ]
 ]
 
-pub put-entry : {X Y : Type 0} (r : Result X Y) (old new : LruCache (Vec ℕ Global) ℕ) (k : Vec ℕ Global) (ns : List ℕ) (s : ℕ) → k.items ≡ ns → OnOk r (new ≡ lru_cache (put_entries same_numbers old k s) old.cap) → OnErr r (new ≡ old)
-    → (e : Vec ℕ Global × ℕ) → Contains new.entries e → Contains old.entries e ⊎ ((e.0.items ≡ ns) × (e.1 ≡ s))
+pub put-entry : {X Y : Type 0} (r : Result X Y) (old new : LruCache StateList ℕ) (k : StateList) (ns : List ℕ) (s : ℕ) → k.numbers.items ≡ ns → OnOk r (new ≡ lru_cache (put_entries same_numbers old k s) old.cap) → OnErr r (new ≡ old)
+    → (e : StateList × ℕ) → Contains new.entries e → Contains old.entries e ⊎ ((e.0.numbers.items ≡ ns) × (e.1 ≡ s))
 put-entry (Ok x) old new k ns s are ok err e m =
-    subst (λ ms. Contains old.entries e ⊎ ((e.0.items ≡ ms) × (e.1 ≡ s))) are (is_put old k s e (subst (λ (c : LruCache (Vec ℕ Global) ℕ). Contains c.entries e) ok m))
-put-entry (Err y) old new k ns s are ok err e m = inl (subst (λ (c : LruCache (Vec ℕ Global) ℕ). Contains c.entries e) err m)
+    subst (λ ms. Contains old.entries e ⊎ ((e.0.numbers.items ≡ ms) × (e.1 ≡ s))) are (is_put old k s e (subst (λ (c : LruCache StateList ℕ). Contains c.entries e) ok m))
+put-entry (Err y) old new k ns s are ok err e m = inl (subst (λ (c : LruCache StateList ℕ). Contains c.entries e) err m)
 
-pub get-entry : (ns : List ℕ) (cache : LruCache (Vec ℕ Global) ℕ) (o : Option ℕ) → o ≡ lookup (λ k. pointwise nat_eq ns k.items) cache.entries
-    → IfSome o (λ s. (key : Vec ℕ Global) × Contains cache.entries (key, s) × (key.items ≡ ns))
+pub get-entry : (ns : List ℕ) (cache : LruCache StateList ℕ) (o : Option ℕ) → o ≡ lookup (λ k. pointwise nat_eq ns k.numbers.items) cache.entries
+    → IfSome o (λ s. (key : StateList) × Contains cache.entries (key, s) × (key.numbers.items ≡ ns))
 get-entry ns cache None is = tt
 get-entry ns cache (Some s) is =
-    let found = Contains-lookup (λ (k : Vec ℕ Global). pointwise nat_eq ns k.items) cache.entries s (sym is) in (found.0, found.1, sym (same-key ns found.0.items found.2))
+    let found = Contains-lookup (λ (k : StateList). pointwise nat_eq ns k.numbers.items) cache.entries s (sym is) in (found.0, found.1, sym (same-key ns found.0.numbers.items found.2))

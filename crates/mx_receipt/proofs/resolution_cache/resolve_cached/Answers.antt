@@ -22,7 +22,7 @@ returns-clause-right c =
     let rows = c.args.graph.now in
     let new = c.resolve_keeping.new.states in (
       right-put rows c.args.states.now new c.get.new.self c.put.new.self c.args.numbers.items c.in_ok-state-2.state c.in_ok-state-2.ensures.added c.requires.known
-          (λ e m. c.requires.right.0 e (c.get.ensures.stay e m)) c.requires.numbers c.in_ok-state-2.ensures.number (rw (← c.deref-3.ensures.value, ← c.version_in-2.ensures) c.in_ok-state-2.ensures.resolved) c.put.ensures.entries,
+          (λ e m. c.requires.right.0 e (c.get.ensures.stay e m)) c.requires.numbers c.in_ok-state-2.ensures.number (rw (← c.deref-2.ensures.value, ← c.version_in-2.ensures) c.in_ok-state-2.ensures.resolved) c.put.ensures.entries,
       subst (λ o. IfSome o (IsKept (version_in rows) rows new)) (sym c.put.ensures.last)
           (subst (λ v. IfSome c.resolve_keeping.new.kept (IsKept v rows new)) c.version_in-2.ensures c.in_ok-state-2.ensures.kept),
     )

@@ -3,7 +3,7 @@ use Rattle.std.proofs.lemmas.List.Filters.{dedup_is}
 use Rattle.std.proofs.lemmas.List.Sorted.{list_any-IsPermutation}
 use Rattle.mx_graph.specs.Record.{is_in}
 use Rattle.mx_receipt.proofs.ResolutionLemmas.{dedup-members}
-use Rattle.mx_receipt.proofs.resolution_cache.each_once.Goals as goal
+use Rattle.mx_receipt.proofs.resolution_cache.sorted_once.Goals as goal
 
 pub returns : goal.returns
 returns c = λ n.
