@@ -1,5 +1,5 @@
 -- Laws of each kind of rows, with their proofs: a row that reads at a place has its number, and a file of its layout is none of an earlier one (our own).
-use Rattle.std.specs.Prelude.{◌≡◌, ℕ, true, pos, negsuc, ◌==◌, if◌then◌else◌, List, Option, Some, None, option_and_then, option_map}
+use Rattle.std.specs.Prelude.{◌≡◌, ◌⊎◌, ℕ, true, pos, negsuc, ◌==◌, if◌then◌else◌, List, Option, Some, None, option_and_then, option_map}
 use Rattle.std.proofs.Common.{ap, arith, inl, inr}
 use Rattle.std.proofs.lemmas.Bool.{cases_Bool}
 use Rattle.std.proofs.lemmas.Bool.Decides.{nat_tests}
@@ -10,7 +10,8 @@ use Rattle.sqlite.specs.Schema.{Schema}
 use Rattle.sqlite_trees.specs.Tree.{Trees, rowid}
 use Rattle.mx_keeper.specs.BookTable.{BeforeReplies, book_row, replies_schema, reply_shown}
 use Rattle.mx_keeper.specs.Cells.{caller_in, event_of_text, number_in, room_of_text, server_of_text, text_in, version_of_text}
-use Rattle.mx_keeper.specs.FirstLayout.{first_row, first_shown}
+use Rattle.mx_keeper.specs.FirstLayout.{first_row, first_shown, kept_schema}
+use Rattle.mx_keeper.specs.Schemas.{no_schema}
 use Rattle.mx_keeper.specs.ShardTable.{BeforeShard, shard_schema, layout_shown, read_shown, row_of_cells}
 use Rattle.mx_keeper.specs.declared.rows.BookRow.{BookRow}
 use Rattle.mx_keeper.specs.declared.tables.first_rows.FirstRow.{FirstRow}
@@ -48,3 +49,13 @@ shard_is_new db rows (inr h) = absurd (let tables = ap (λ (s : Schema). s.table
 
 pub replies_are_new : (db : Trees) (rows : List BookRow) → ¬ (BeforeReplies replies_schema db rows)
 replies_are_new db rows h = absurd (let tables = ap (λ (s : Schema). s.tables) h.0 in cc)
+
+-- a file that has rows is of the first layout, or has nothing
+pub first_or_empty : (schema : Schema) (db : Trees) (rows : List ShardRow) → BeforeShard schema db rows
+    → (schema ≡ kept_schema) ⊎ (schema ≡ no_schema)
+first_or_empty schema db rows (inl h) = inl h.0
+first_or_empty schema db rows (inr h) = inr h.0
+
+pub none_or_empty : (schema : Schema) (db : Trees) (rows : List BookRow) → BeforeReplies schema db rows
+    → ⊥ ⊎ (schema ≡ no_schema)
+none_or_empty schema db rows h = inr h.0

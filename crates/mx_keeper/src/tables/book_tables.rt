@@ -24,13 +24,15 @@ use std::alloc::Global;
 
 impl TableRow for BookRow {
     ghost use Rattle.mx_keeper.specs.BookTable.{BeforeReplies, RefusesReplies, RefusesReply, read_replies, replies_schema};
-    ghost use Rattle.mx_keeper.specs.Placed.{replies_are_new};
+    ghost use Rattle.mx_keeper.specs.Placed.{none_or_empty, replies_are_new};
 
     ghost schema = { replies_schema };
 
     ghost read = { read_replies };
 
     ghost before = { BeforeReplies };
+
+    ghost earlier = { λ _. ⊥ };
 
     ghost refuses_tables = { RefusesReplies };
 
@@ -89,6 +91,8 @@ impl TableRow for BookRow {
     }
 
     ghost is_new = { replies_are_new };
+
+    ghost is_earlier_or_empty = { none_or_empty };
 }
 
 impl SelectedRow for BookRow {

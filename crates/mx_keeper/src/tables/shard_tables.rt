@@ -25,7 +25,9 @@ use sqlite_schema::schema::Schema;
 use std::alloc::Global;
 
 impl TableRow for ShardRow {
-    ghost use Rattle.mx_keeper.specs.Placed.{shard_is_new};
+    ghost use Rattle.std.specs.Prelude.{◌≡◌};
+    ghost use Rattle.mx_keeper.specs.FirstLayout.{kept_schema};
+    ghost use Rattle.mx_keeper.specs.Placed.{first_or_empty, shard_is_new};
     ghost use Rattle.mx_keeper.specs.ShardTable.{BeforeShard, RefusesKept, RefusesMove, read_shard, shard_schema};
 
     ghost schema = { shard_schema };
@@ -33,6 +35,8 @@ impl TableRow for ShardRow {
     ghost read = { read_shard };
 
     ghost before = { BeforeShard };
+
+    ghost earlier = { λ schema. schema ≡ kept_schema };
 
     ghost refuses_tables = { RefusesMove };
 
@@ -98,6 +102,8 @@ impl TableRow for ShardRow {
     }
 
     ghost is_new = { shard_is_new };
+
+    ghost is_earlier_or_empty = { first_or_empty };
 }
 
 impl SelectedRow for ShardRow {

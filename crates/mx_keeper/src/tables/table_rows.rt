@@ -7,6 +7,7 @@ ghost use Rattle.sqlite.specs.Tree.{Trees};
 ghost use Rattle.mx_keeper.specs.Connections.{HasRows, HasSchema, IsIdle, IsMoved, MayRefuse, Puts, Stays};
 ghost use Rattle.mx_keeper.specs.Keeping.{with_row};
 ghost use Rattle.mx_keeper.specs.Refusals.{RefusesRow};
+ghost use Rattle.mx_keeper.specs.Schemas.{no_schema};
 
 use crate::faults::KeeperFault;
 use crate::storing::Storable;
@@ -25,6 +26,9 @@ pub trait TableRow: Storable {
     /// A file with another schema is one of an earlier layout, or one that has nothing, and these are its rows.
     ghost before: { TheSchema → Trees → List Self → Type 0 };
 
+    /// The schema of a file of an earlier layout.
+    ghost earlier: { TheSchema → Type 0 };
+
     /// SQLite refuses to make the tables in such a file, by what a statement that makes them means in this state.
     ghost refuses_tables: { State → Type 0 };
 
@@ -37,7 +41,8 @@ pub trait TableRow: Storable {
 
     /// Whether the tables are those of an earlier layout.
     fn is_earlier(found: &Schema) -> bool
-        ensures { IsTrue result → ¬ (found.now ≡ schema) };
+        ensures earlier { IsTrue result ↔ earlier found.now }
+        ensures other { IsTrue result → ¬ (found.now ≡ schema) };
 
     /// Makes the tables in a file with another schema, puts the rows into them that it has, and gives these out. `Table`
     /// where it is none of an earlier layout and has something, or its rows do not read. After another error the
@@ -101,4 +106,8 @@ pub trait TableRow: Storable {
 
     /// A file with this schema is none of an earlier layout, and has something.
     ghost is_new: { (db : Trees) (rows : List Self) → ¬ before schema db rows };
+
+    /// A file with another schema that has rows is one of an earlier layout, or has nothing.
+    ghost is_earlier_or_empty: { (found : TheSchema) (db : Trees) (rows : List Self) → before found db rows
+        → earlier found ⊎ (found ≡ no_schema) };
 }
