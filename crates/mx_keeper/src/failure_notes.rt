@@ -1,4 +1,6 @@
 // What is noted of a keeper that failed, for who runs the program.
+ghost use Rattle.std.specs.Prelude.{◌≡◌, ◌↔◌, IsTrue};
+
 use crate::faults::KeeperFault;
 use once_cell::race::{OnceBool, OnceBox};
 use sqlite::Error;
@@ -43,6 +45,13 @@ impl FailureNote {
     }
 }
 
+// Whether a failure is noted: where what holds the rows refused a statement, and never for want of memory.
+fn is_noted(fault: KeeperFault) -> bool
+    ensures { IsTrue result ↔ (fault ≡ KeeperFault.Store) }
+{
+    matches!(fault, KeeperFault::Store)
+}
+
 // Notes a failure of what holds the rows, where somebody asks for it.
 pub(crate) fn note_failure(
     note: &Option<Arc<FailureNote>>,
@@ -50,7 +59,9 @@ pub(crate) fn note_failure(
     fault: KeeperFault,
     words: Option<Error>,
 ) {
-    if let (Some(note), KeeperFault::Store) = (note, fault) {
-        note.note(alloc, words);
+    if let Some(note) = note {
+        if is_noted(fault) {
+            note.note(alloc, words);
+        }
     }
 }
