@@ -5,6 +5,7 @@ pub mod TableRows
 pub mod Cells
 pub mod Connections
 pub mod Refusals
+pub mod Probing
 pub mod Selecting
 pub mod FirstLayout
 pub mod ShardTable

@@ -1,10 +1,11 @@
 // What SQLite's answers are to a keeper.
-ghost use Rattle.std.specs.Prelude.{◌≡◌, ◌⊎◌, ◌↔◌, ◌≤◌, ◌+◌, ◌-◌, ◌<◌, ◌^◌, [], Err, FitsSigned, IfOk, IfSome, IsTrue, None, OnOk, pos};
+ghost use Rattle.std.specs.Prelude.{◌≡◌, ◌≢◌, ◌⊎◌, ◌↔◌, ◌≤◌, ◌+◌, ◌-◌, ◌<◌, ◌^◌, [], Err, FitsSigned, IfOk, IfSome, IsTrue, None, OnOk, pos};
 ghost use Rattle.std.specs.Int.{w64};
 ghost use Rattle.sqlite.specs.Held.{state};
 ghost use Rattle.sqlite.specs.State.{HasCleanDisk, IsUnchanged, Survives};
 ghost use Rattle.mx_keeper.specs.Keeping.{Rose};
 ghost use Rattle.mx_keeper.specs.Connections.{IsIdle, MayRefuse, Stays};
+ghost use Rattle.mx_keeper.specs.Probing.{LacksMemory};
 
 use crate::faults::KeeperFault;
 use sqlite::{Alter, Connection, Error, ErrorCode, Statement};
@@ -51,6 +52,8 @@ pub fn find_open<S: Alter>(
     ensures open { HasCleanDisk (state S.Store connection.new) → OnOk result (IsTrue (state S.Store connection.new).is_open) }
     ensures stays { HasCleanDisk (state S.Store connection.new) → IsTrue (state S.Store connection.new).is_open → Stays (state S.Store connection.old) (state S.Store connection.new) }
     ensures store { HasCleanDisk (state S.Store connection.new) → result ≡ Err KeeperFault.Store → MayRefuse (state S.Store connection.old) (state S.Store connection.new) }
+    ensures memory { HasCleanDisk (state S.Store connection.new) → result ≡ Err KeeperFault.Memory
+        → LacksMemory (state S.Store connection.old) (state S.Store connection.new) }
     ensures no_table { ¬ (result ≡ Err KeeperFault.Table) }
     ensures survives { Survives (state S.Store connection.old) (state S.Store connection.new) (λ _. ⊥) }
 {
@@ -100,6 +103,9 @@ pub fn told<S: Alter>(
     ensures store { HasCleanDisk (state S.Store connection.new) → fault ≡ KeeperFault.Memory → result ≡ KeeperFault.Store
         → MayRefuse (state S.Store connection.old) (state S.Store connection.new) ⊎ Rose doubts.old doubts.new }
     ensures sure { ¬ (result ≡ KeeperFault.Store) → doubts.new ≡ doubts.old }
+    // It is in doubt only where no memory was left for the probe either.
+    ensures doubted { HasCleanDisk (state S.Store connection.new) → doubts.new ≢ doubts.old
+        → (fault ≡ KeeperFault.Memory) × LacksMemory (state S.Store connection.old) (state S.Store connection.new) }
     ensures stays { HasCleanDisk (state S.Store connection.new) → IsTrue (state S.Store connection.new).is_open → Stays (state S.Store connection.old) (state S.Store connection.new) }
     ensures survives { Survives (state S.Store connection.old) (state S.Store connection.new) (λ _. ⊥) }
 {
