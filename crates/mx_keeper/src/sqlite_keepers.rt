@@ -1,5 +1,5 @@
 // Rows in a table of SQLite.
-ghost use Rattle.std.specs.Prelude.{◌≡◌, ◌⊎◌, [], Err, IfErr, IfOk, IsErrAnd, List, OnOk, IsTrue, Some, length};
+ghost use Rattle.std.specs.Prelude.{◌≡◌, ◌⊎◌, [], Err, IfErr, IfOk, IsErrAnd, List, OnOk, IsTrue, Some, length, true};
 ghost use Rattle.sqlite.specs.Held.{state};
 ghost use Rattle.sqlite.specs.State.{HasCleanDisk, Survives};
 ghost use Rattle.sqlite.specs.Tree.{Trees};
@@ -47,7 +47,13 @@ impl<S: Alter + Drop, R: TableRow> Model for SqliteKeeper<S, R> {
 
     ghost coded = { keeper_code S.code };
 
-    ghost view = { λ keeper. record { connection = keeper.connection; failures = keeper.failures; unsure = keeper.unsure; is_ready = is_some keeper.found } };
+    ghost view = { λ keeper. record {
+      connection = keeper.connection;
+      failures = keeper.failures;
+      unsure = keeper.unsure;
+      is_ready = is_some keeper.found;
+      is_noted = is_some keeper.note;
+    } };
 
     ghost invariant = { λ keeper. record {
       kept : IsTrue (state S.Store keeper.connection).is_open → HasRows R.schema R.read keeper.count (state S.Store keeper.connection);
@@ -117,7 +123,7 @@ impl<S: Alter + Drop, R: TableRow> SqliteKeeper<S, R> {
 
     /// From now on it notes here that it failed, for who runs the program. Nothing else changes.
     pub fn note_failures_in(&mut self, note: Arc<FailureNote>)
-        ensures { self.new ≡ self.old }
+        ensures { self.new ≡ record self.old { is_noted = true } }
     {
         self.note = Some(note);
     }
