@@ -148,7 +148,7 @@ pub drop_is : command_of (understood kept_schema drop_text) ≡ DropTable 0
 unfolding understood everything
 drop_is = refl
 
-drop_plain : IsPlain (understood kept_schema drop_text) × IsWhole drop_text 0 (understood kept_schema drop_text)
+pub drop_plain : IsPlain (understood kept_schema drop_text) × IsWhole drop_text 0 (understood kept_schema drop_text)
 unfolding understood everything
 drop_plain = ((refl, refl), (refl, refl, refl))
 

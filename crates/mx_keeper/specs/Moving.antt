@@ -1,6 +1,7 @@
 -- How a file is brought to the second layout, for private clauses (our own).
-use Rattle.std.specs.Prelude.{◌≡◌, ◌≢◌, ◌⊎◌, ℕ, List, [], length, Some, Result, Ok, Err, IsTrue, false}
+use Rattle.std.specs.Prelude.{◌≡◌, ◌≢◌, ◌⊎◌, ℕ, Bool, List, [], ◌∷◌, length, Some, Result, Ok, Err, OnOk, IsTrue, false, if◌then◌else◌}
 use Rattle.sqlite.specs.Order.{Row}
+use Rattle.sqlite.specs.Effect.{Database}
 use Rattle.sqlite.specs.Schema.{Schema}
 use Rattle.sqlite.specs.State.{State, Executes, ExecutesInside, HasCleanDisk}
 use Rattle.sqlite.specs.Tree.{Trees}
@@ -9,7 +10,8 @@ use Rattle.sqlite.specs.declared.error.Error.TheVariants.{SqliteFailure}
 use Rattle.sqlite.specs.declared.error.ErrorCode.TheVariants.{OutOfMemory}
 use Rattle.mx_keeper.specs.Connections.{MayRefuse}
 use Rattle.mx_keeper.specs.Keeping.{with_row}
-use Rattle.mx_keeper.specs.ShardTable.{RefusesMove, read_table}
+use Rattle.mx_keeper.specs.Refusals.{IsDone}
+use Rattle.mx_keeper.specs.ShardTable.{IsGiven, MoveStep, RefusesOne, drop_text, plain_step, read_table}
 use Rattle.mx_keeper.specs.declared.faults.KeeperFault.{KeeperFault}
 use Rattle.mx_keeper.specs.declared.faults.KeeperFault.TheVariants.{Store}
 use Rattle.mx_keeper.specs.declared.rows.ShardRow.{ShardRow}
@@ -40,9 +42,23 @@ pub record HasRun (text : List ℕ) (given : Row) (old new : State) : Type 0 whe
 abbrev pub IsStopped : List ℕ → Row → State → State → Type 0
 IsStopped text given old new = (old.is_open ≡ false) ⊎ ((e : Error) × (e ≢ SqliteFailure OutOfMemory) × ExecutesInside 0 text given old new (Err e))
 
--- where a step of the move answers `Store`, SQLite refuses a statement of the move, or any statement
-abbrev pub TellsMove : {A : Type 0} → State → State → Result A KeeperFault → Type 0
-TellsMove old new result = HasCleanDisk new → result ≡ Err Store → MayRefuse old new ⊎ RefusesMove old
+-- these statements, one after the other, make this database of that of the state
+abbrev pub AreDone : List MoveStep → State → Database → Type 0
+AreDone [] s db = db ≡ s.now
+AreDone (step ∷ more) s db = (given : Row) × IsGiven step.adds given × (after : Database) × IsDone step.text given s after
+    × AreDone more (record s { now = after }) db
+
+-- the statement that drops the table of the first layout, where it is there
+abbrev pub drop_steps : Bool → List MoveStep
+drop_steps had_first = if had_first then plain_step drop_text ∷ [] else []
+
+-- where these statements of the move answer `Store`, SQLite refuses one of them, or any statement
+abbrev pub TellsMove : {A : Type 0} → List MoveStep → State → State → Result A KeeperFault → Type 0
+TellsMove steps old new result = HasCleanDisk new → result ≡ Err Store → MayRefuse old new ⊎ RefusesOne steps old
+
+-- where these statements are run, they are done
+abbrev pub DoesMove : {A : Type 0} → List MoveStep → State → State → Result A KeeperFault → Type 0
+DoesMove steps old new result = HasCleanDisk new → OnOk result (IsTrue new.is_open → AreDone steps old new.now)
 
 -- the three tables have no row
 pub record AreEmpty (db : Trees) : Type 0 where

@@ -1,5 +1,5 @@
 -- The tables of a shard's file, and what its rows read as (our own).
-use Rattle.std.specs.Prelude.{◌≡◌, ◌⊎◌, ℕ, ◌+◌, ℤ, pos, Bool, true, false, [], ◌∷◌, ◌==◌, if◌then◌else◌, codes, length, List, Option, None, Some, option_and_then, option_map}
+use Rattle.std.specs.Prelude.{◌≡◌, ◌⊎◌, ℕ, ◌+◌, ℤ, pos, Bool, true, false, [], ◌∷◌, ◌++◌, ◌==◌, if◌then◌else◌, codes, List, Option, None, Some, option_and_then, option_map}
 use Rattle.serde_json.specs.Data.{Data}
 use Rattle.sqlite.specs.declared.types.Value.TheVariants.{Null, Int, Text as Words}
 use Rattle.sqlite.specs.Kind.TheVariants.{Integer, Text}
@@ -13,7 +13,7 @@ use Rattle.mx_auth.specs.Versions.{version_text}
 use Rattle.mx_auth.specs.declared.versions.RoomVersion.{RoomVersion}
 use Rattle.mx_keeper.specs.Cells.{at_place, number_in, caller_in, text_in, room_of_text, event_of_text, version_of_text}
 use Rattle.mx_keeper.specs.FirstLayout.{kept, kept_schema, read_first, read_versioned}
-use Rattle.mx_keeper.specs.Refusals.{IsRefused}
+use Rattle.mx_keeper.specs.Refusals.{IsDone, IsRefused}
 use Rattle.mx_keeper.specs.Schemas.{no_schema, plain_column, plain_table}
 use Rattle.mx_keeper.specs.TableRows.{read_rows}
 use Rattle.mx_keeper.specs.declared.tables.first_rows.FirstRow.{FirstRow}
@@ -132,26 +132,51 @@ read_shard db = if laid db then read_table db else None
 abbrev pub BeforeShard : Schema → Trees → List ShardRow → Type 0
 BeforeShard schema db rows = ((schema ≡ kept_schema) × (read_versioned db ≡ Some rows)) ⊎ ((schema ≡ no_schema) × (rows ≡ []))
 
--- a statement of the move to the second layout that drops or makes a table, at the schema at which it runs
-abbrev pub MakesTables : Schema → List ℕ → Type 0
-MakesTables schema text =
-    ((schema ≡ kept_schema) × (text ≡ drop_text))
-    ⊎ (((schema ≡ no_schema) × (text ≡ create_first_text)) ⊎ (((schema ≡ kept_schema) × (text ≡ create_text)) ⊎ ((schema ≡ pair_schema) × (text ≡ create_layout_text))))
+-- a statement of the move to the second layout: its text, and the row that it adds with its place, where it adds one
+pub record MoveStep : Type 0 where
+  pub text : List ℕ
+  pub adds : Option (ℕ × ShardRow)
 
--- the statement that adds the next row
-abbrev pub AddsRow : Trees → List ℕ → Row → Type 0
-AddsRow db text given =
-    (text ≡ insert_text) × (rows : List ShardRow) × (read_table db ≡ Some rows) × (row : ShardRow) × (event : List ℕ) × (event_of_text event ≡ Some row.event)
-    × (given ≡ given_row (pos (length rows + 1)) row.room row.version event row.caller)
+-- the values that it is given
+abbrev pub IsGiven : Option (ℕ × ShardRow) → Row → Type 0
+IsGiven None given = given ≡ []
+IsGiven (Some (place, row)) given = (event : List ℕ) × (event_of_text event ≡ Some row.event)
+    × (given ≡ given_row (pos place) row.room row.version event row.caller)
+
+abbrev pub plain_step : List ℕ → MoveStep
+plain_step text = record { text = text; adds = None }
+
+-- the statements that make the tables where there is none
+abbrev pub table_steps : List MoveStep
+table_steps = plain_step create_first_text ∷ plain_step create_text ∷ plain_step create_layout_text ∷ []
+
+-- the statements that add these rows, from this place on
+abbrev pub row_steps : ℕ → List ShardRow → List MoveStep
+row_steps place [] = []
+row_steps place (row ∷ rows) = record { text = insert_text; adds = Some (place, row) } ∷ row_steps (place + 1) rows
 
 -- the statement that states the number
-abbrev pub AddsNumber : Trees → List ℕ → Row → Type 0
-AddsNumber db text given = (text ≡ insert_layout_text) × (given ≡ []) × (db 2 ≡ [])
+abbrev pub number_steps : List MoveStep
+number_steps = plain_step insert_layout_text ∷ []
 
--- a statement of the move, with the values that it is given, over a database in which it runs
-abbrev pub IsMoveStep : Database → List ℕ → Row → Type 0
-IsMoveStep db text given = (MakesTables db.schema text × (given ≡ [])) ⊎ ((db.schema ≡ shard_schema) × (AddsRow db.trees text given ⊎ AddsNumber db.trees text given))
+-- all statements that make a file of the second layout with these rows, where there is no table
+abbrev pub fill_steps : List ShardRow → List MoveStep
+fill_steps rows = table_steps ++ (row_steps 1 rows ++ number_steps)
 
--- SQLite refuses a statement of the move, in a transaction that is begun in this state
+-- SQLite refuses one of these statements, over what those before it made of the database
+abbrev pub RefusesOne : List MoveStep → State → Type 0
+RefusesOne [] s = ⊥
+RefusesOne (step ∷ more) s =
+    (given : Row) × IsGiven step.adds given
+    × (IsRefused step.text given s
+    ⊎ ((after : Database) × IsDone step.text given s after × RefusesOne more (record s { now = after })))
+
+-- SQLite refuses to lay a file out with these rows: to drop the first layout's table, where it is there, or what follows
+abbrev pub RefusesLayout : List ShardRow → State → Type 0
+RefusesLayout rows s = ((s.now.schema ≡ kept_schema) × RefusesOne (plain_step drop_text ∷ fill_steps rows) s)
+    ⊎ ((s.now.schema ≡ no_schema) × RefusesOne (fill_steps rows) s)
+
+-- SQLite refuses to bring the file to the second layout, with the rows that it has, in a transaction
 abbrev pub RefusesMove : State → Type 0
-RefusesMove s = (db : Database) × (text : List ℕ) × (given : Row) × IsMoveStep db text given × IsRefused text given (record s { now = db; in_transaction = true })
+RefusesMove s = (rows : List ShardRow) × BeforeShard s.now.schema s.committed.trees rows
+    × RefusesLayout rows (record s { in_transaction = true })

@@ -1,14 +1,14 @@
 // Files of shards that are brought to the second layout.
-ghost use Rattle.std.specs.Prelude.{◌≡◌, ◌⊎◌, ◌+◌, ◌<◌, ◌^◌, [], ⊤, Err, OnOk, Some, IsTrue, if◌then◌else◌};
+ghost use Rattle.std.specs.Prelude.{◌≡◌, ◌⊎◌, ◌+◌, ◌++◌, ◌<◌, ◌^◌, [], ◌∷◌, ⊤, true, Err, OnOk, Some, IsTrue, if◌then◌else◌};
 ghost use Rattle.sqlite.specs.Effect.{IsDatabase};
 ghost use Rattle.sqlite.specs.Held.{state};
 ghost use Rattle.sqlite.specs.State.{HasCleanDisk, Survives};
 ghost use Rattle.sqlite.specs.Values.{bound};
-ghost use Rattle.mx_keeper.specs.Connections.{HasSchema, IsIdle, IsPut, Puts};
+ghost use Rattle.mx_keeper.specs.Connections.{HasSchema, IsIdle, IsPut, MayRefuse, Puts};
 ghost use Rattle.mx_keeper.specs.FirstLayout.{kept_schema};
-ghost use Rattle.mx_keeper.specs.Moving.{AreEmpty, Changes, HasOneMore, HasRun, HasTheseRows, IsInside, IsStopped, ReadsSoMany, TellsMove};
+ghost use Rattle.mx_keeper.specs.Moving.{AreEmpty, Changes, DoesMove, HasOneMore, HasRun, HasTheseRows, IsInside, IsStopped, ReadsSoMany, TellsMove, drop_steps};
 ghost use Rattle.mx_keeper.specs.Schemas.{no_schema};
-ghost use Rattle.mx_keeper.specs.ShardTable.{layout_row, read_shard, read_table, shard_schema};
+ghost use Rattle.mx_keeper.specs.ShardTable.{RefusesLayout, fill_steps, layout_row, number_steps, read_shard, read_table, row_steps, shard_schema, table_steps};
 
 use crate::faults::KeeperFault;
 use crate::rows::ShardRow;
@@ -30,7 +30,9 @@ pub fn lay_out<S: Alter>(
     requires known { IsTrue (state S.Store connection.old).is_open → ((state S.Store connection.old).now.schema ≡ kept_schema) ⊎ ((state S.Store connection.old).now.schema ≡ no_schema) }
     ensures ok { HasCleanDisk (state S.Store connection.new) → OnOk result (Puts shard_schema (λ db. read_shard db ≡ Some rows.now) (state S.Store connection.old) (state S.Store connection.new)) }
     ensures no_table { ¬ (result ≡ Err KeeperFault.Table) }
-    ensures refused { TellsMove (state S.Store connection.old) (state S.Store connection.new) result }
+    ensures refused { HasCleanDisk (state S.Store connection.new) → result ≡ Err KeeperFault.Store
+        → MayRefuse (state S.Store connection.old) (state S.Store connection.new)
+        ⊎ RefusesLayout rows.now (record (state S.Store connection.old) { in_transaction = true }) }
     ensures survives { Survives (state S.Store connection.old) (state S.Store connection.new) (λ db. HasSchema shard_schema db × (read_shard db ≡ Some rows.now)) }
 {
     if !connection.is_autocommit() {
@@ -56,7 +58,8 @@ fn fill<S: Alter>(
     ensures ok { HasCleanDisk (state S.Store transaction.new.conn.now) → OnOk result (Changes shard_schema (λ db. read_shard db ≡ Some rows.now) (state S.Store transaction.old.conn.now) (state S.Store transaction.new.conn.now)) }
     ensures sound { HasCleanDisk (state S.Store transaction.new.conn.now) → OnOk result (IsDatabase (state S.Store transaction.new.conn.now).now) }
     ensures no_table { ¬ (result ≡ Err KeeperFault.Table) }
-    ensures refused { TellsMove (state S.Store transaction.old.conn.now) (state S.Store transaction.new.conn.now) result }
+    ensures refused { TellsMove (drop_steps had_first ++ fill_steps rows.now) (state S.Store transaction.old.conn.now)
+        (state S.Store transaction.new.conn.now) result }
     ensures survives { Survives (state S.Store transaction.old.conn.now) (state S.Store transaction.new.conn.now) (λ _. ⊥) }
 {
     drop_first(transaction, had_first)?;
@@ -74,7 +77,10 @@ fn drop_first<S: Alter>(
     ensures same_reference { transaction.new.conn.ghost_name ≡ transaction.old.conn.ghost_name }
     ensures ok { HasCleanDisk (state S.Store transaction.new.conn.now) → OnOk result (IsTrue (state S.Store transaction.new.conn.now).is_open → Changes no_schema (λ _. ⊤) (state S.Store transaction.old.conn.now) (state S.Store transaction.new.conn.now)) }
     ensures no_table { ¬ (result ≡ Err KeeperFault.Table) }
-    ensures refused { TellsMove (state S.Store transaction.old.conn.now) (state S.Store transaction.new.conn.now) result }
+    ensures done { DoesMove (drop_steps had_first) (state S.Store transaction.old.conn.now)
+        (state S.Store transaction.new.conn.now) result }
+    ensures refused { TellsMove (drop_steps had_first) (state S.Store transaction.old.conn.now)
+        (state S.Store transaction.new.conn.now) result }
     ensures survives { Survives (state S.Store transaction.old.conn.now) (state S.Store transaction.new.conn.now) (λ _. ⊥) }
 {
     if !had_first {
@@ -89,7 +95,10 @@ fn create_tables<S: Alter>(transaction: &mut Transaction<'_, S>) -> Result<(), K
     ensures same_reference { transaction.new.conn.ghost_name ≡ transaction.old.conn.ghost_name }
     ensures ok { HasCleanDisk (state S.Store transaction.new.conn.now) → OnOk result (Changes shard_schema AreEmpty (state S.Store transaction.old.conn.now) (state S.Store transaction.new.conn.now)) }
     ensures no_table { ¬ (result ≡ Err KeeperFault.Table) }
-    ensures refused { TellsMove (state S.Store transaction.old.conn.now) (state S.Store transaction.new.conn.now) result }
+    ensures done { DoesMove table_steps (state S.Store transaction.old.conn.now)
+        (state S.Store transaction.new.conn.now) result }
+    ensures refused { TellsMove table_steps (state S.Store transaction.old.conn.now)
+        (state S.Store transaction.new.conn.now) result }
     ensures survives { Survives (state S.Store transaction.old.conn.now) (state S.Store transaction.new.conn.now) (λ _. ⊥) }
 {
     run(
@@ -119,7 +128,10 @@ fn add_rows<S: Alter>(
     ensures same_reference { transaction.new.conn.ghost_name ≡ transaction.old.conn.ghost_name }
     ensures ok { HasCleanDisk (state S.Store transaction.new.conn.now) → OnOk result (IsTrue (state S.Store transaction.new.conn.now).is_open → Changes shard_schema (HasTheseRows rows.now (state S.Store transaction.old.conn.now).now.trees) (state S.Store transaction.old.conn.now) (state S.Store transaction.new.conn.now)) }
     ensures no_table { ¬ (result ≡ Err KeeperFault.Table) }
-    ensures refused { TellsMove (state S.Store transaction.old.conn.now) (state S.Store transaction.new.conn.now) result }
+    ensures done { DoesMove (row_steps 1 rows.now) (state S.Store transaction.old.conn.now)
+        (state S.Store transaction.new.conn.now) result }
+    ensures refused { TellsMove (row_steps 1 rows.now) (state S.Store transaction.old.conn.now)
+        (state S.Store transaction.new.conn.now) result }
     ensures survives { Survives (state S.Store transaction.old.conn.now) (state S.Store transaction.new.conn.now) (λ _. ⊥) }
 {
     let mut count = 0;
@@ -142,7 +154,10 @@ fn add_row<S: Alter>(
     ensures same_reference { transaction.new.conn.ghost_name ≡ transaction.old.conn.ghost_name }
     ensures ok { HasCleanDisk (state S.Store transaction.new.conn.now) → OnOk result (Changes shard_schema (HasOneMore row.now (state S.Store transaction.old.conn.now).now.trees) (state S.Store transaction.old.conn.now) (state S.Store transaction.new.conn.now)) }
     ensures no_table { ¬ (result ≡ Err KeeperFault.Table) }
-    ensures refused { TellsMove (state S.Store transaction.old.conn.now) (state S.Store transaction.new.conn.now) result }
+    ensures done { DoesMove (row_steps (count + 1) (row.now ∷ [])) (state S.Store transaction.old.conn.now)
+        (state S.Store transaction.new.conn.now) result }
+    ensures refused { TellsMove (row_steps (count + 1) (row.now ∷ [])) (state S.Store transaction.old.conn.now)
+        (state S.Store transaction.new.conn.now) result }
     ensures survives { Survives (state S.Store transaction.old.conn.now) (state S.Store transaction.new.conn.now) (λ _. ⊥) }
 {
     let cells = cells_of(row, count)?;
@@ -168,7 +183,8 @@ fn add_number<S: Alter>(transaction: &mut Transaction<'_, S>) -> Result<(), Keep
     ensures ok { HasCleanDisk (state S.Store transaction.new.conn.now) → OnOk result (Changes shard_schema (IsPut shard_schema 2 layout_row (state S.Store transaction.old.conn.now).now.trees) (state S.Store transaction.old.conn.now) (state S.Store transaction.new.conn.now)) }
     ensures sound { HasCleanDisk (state S.Store transaction.new.conn.now) → OnOk result (IsDatabase (state S.Store transaction.new.conn.now).now) }
     ensures no_table { ¬ (result ≡ Err KeeperFault.Table) }
-    ensures refused { TellsMove (state S.Store transaction.old.conn.now) (state S.Store transaction.new.conn.now) result }
+    ensures refused { TellsMove number_steps (state S.Store transaction.old.conn.now)
+        (state S.Store transaction.new.conn.now) result }
     ensures survives { Survives (state S.Store transaction.old.conn.now) (state S.Store transaction.new.conn.now) (λ _. ⊥) }
 {
     run(

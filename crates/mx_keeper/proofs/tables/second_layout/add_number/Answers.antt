@@ -10,4 +10,4 @@ pub returns-clause-sound : goal.returns-clause-sound
 returns-clause-sound g c clean = on_ok_weaker c.run.result (λ run. (adds inserted_number _ _ c.requires.inside run).0) (c.run.ensures.ok clean)
 
 pub returns-clause-refused : goal.returns-clause-refused
-returns-clause-refused g c clean is = stops_number _ _ c.requires.inside c.requires.empty (c.run.ensures.refused clean is)
+returns-clause-refused g c clean is = stops_number _ _ c.requires.inside (c.run.ensures.refused clean is)
