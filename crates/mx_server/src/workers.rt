@@ -8,6 +8,7 @@ ghost use Rattle.mx_wire.specs.Responses.{IsCallAnswered, IsCallRefused, unavail
 
 use crate::reading::RequestReader;
 use bytes::Bytes;
+use json::Scratch;
 use mx_admin::DeskThread;
 use mx_answer_records::{Answered, CallAbout, RequestAbout, note_answer};
 use mx_directory::RowFiles;
@@ -189,6 +190,8 @@ pub struct NotedCall {
 #[derive(Drop)]
 pub struct Handler<F: Drop, C: Drop> {
     reader: Arc<RequestReader>,
+    // What bodies are read over.
+    scratch: Scratch,
     desk: DeskThread,
     // The clock of what is noted.
     clock: C,
@@ -198,11 +201,18 @@ pub struct Handler<F: Drop, C: Drop> {
 }
 
 impl<F: Drop, C: Wait + Clock + Drop> Handler<F, C> {
-    pub fn new(reader: Arc<RequestReader>, desk: DeskThread, clock: C, answer: F) -> Handler<F, C>
+    pub fn new(
+        alloc: Global,
+        reader: Arc<RequestReader>,
+        desk: DeskThread,
+        clock: C,
+        answer: F,
+    ) -> Handler<F, C>
         ensures { result.answer ≡ answer }
     {
         Handler {
             reader,
+            scratch: Scratch::new(alloc),
             desk,
             clock,
             answer,
@@ -262,9 +272,9 @@ impl<F: FnMut(Global, Moment, WireCall) -> AnsweredRequest + Drop, C: Wait + Clo
         self.reader.is_short(request)
     }
 
-    fn read(&self, alloc: Global, request: HttpRequest) -> ReadRequest<NotedCall> {
+    fn read(&mut self, alloc: Global, request: HttpRequest) -> ReadRequest<NotedCall> {
         let about = RequestAbout::of(&self.clock, request.method.as_str(), &request.target);
-        match self.reader.read(alloc, request) {
+        match self.reader.read(alloc, &mut self.scratch, request) {
             ReadRequest::Refused(reply) => {
                 ReadRequest::Refused(self.noted(alloc, about, None, reply))
             }
