@@ -159,7 +159,7 @@ def hub_that_is_down(world: World) -> None:
     port = world.hub.port
     world.hub.stop()
     assert world.send("t1", [made]) == NO_REPLY
-    assert any("server behind" in it for it in world.front.said), world.front.said
+    wait_for(lambda: any("server behind" in it for it in world.front.said))
     world.hub = Server(world.folder / "hub", port=port, hosts=[host_line(world.base.create)])
     assert world.send("t1", [made]) == (200, accepted([made]))
 
