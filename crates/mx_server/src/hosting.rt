@@ -1,9 +1,5 @@
 // The rooms that a server hosts from its start.
-ghost use Rattle.std.specs.Prelude.{◌≡◌, ◌↔◌, false, true, OnErr, OnOk};
-ghost use Rattle.mx_pdu.specs.Offers.{offer_by};
-ghost use Rattle.mx_log.specs.HostLines.{HostsRoom};
-ghost use Rattle.mx_server.specs.Hosting.{AreHosted, HostsNot, StopsAt, is_blank, lines_to_host};
-ghost use Rattle.mx_server.specs.Judging.{judges_presence};
+ghost use Rattle.std.specs.Prelude.{◌≡◌, ◌↔◌};
 
 use mx_directory::{ServerError, StartError};
 use mx_keeper::{BookRow, Keeper, ShardRow};
@@ -62,18 +58,14 @@ pub(crate) fn file_of_rooms(options: &ServeOptions) -> &str {
     }
 }
 
-/// Hosts the room of each line that is not blank, one after the other. `NotHosted` where one is not hosted: then `err` is
-/// told what the line is answered, and of those behind it nothing is done. `Memory` where no memory is left to say so.
+/// Hosts the room of each line that is not blank. `NotHosted` where one is not hosted: then `err` is told what the line is answered.
 pub(crate) fn host_rooms<K: Keeper<Row = ShardRow>, L: Keeper<Row = BookRow>, E: Write>(
     alloc: Global,
     server: &mut World<K, L>,
     lines: &[u8],
     path: &str,
     err: &mut E,
-) -> Result<(), StartError>
-    ensures ok { OnOk result (AreHosted (offer_by judges_presence) (lines_to_host lines.now) server.old server.new) }
-    ensures err { OnErr result (StopsAt (offer_by judges_presence) (lines_to_host lines.now) server.old server.new) }
-{
+) -> Result<(), StartError> {
     let mut rest = lines;
     let mut number = 1u64;
     while !rest.is_empty() {
@@ -89,9 +81,7 @@ pub(crate) fn host_rooms<K: Keeper<Row = ShardRow>, L: Keeper<Row = BookRow>, E:
 }
 
 // Whether a line has nothing but white space.
-fn is_blank(line: &[u8]) -> bool
-    ensures { result ≡ is_blank line.now }
-{
+fn is_blank(line: &[u8]) -> bool {
     line.iter().all(|byte| byte.is_ascii_whitespace())
 }
 
@@ -101,10 +91,7 @@ fn is_hosted_by<K: Keeper<Row = ShardRow>, L: Keeper<Row = BookRow>, E: Write>(
     server: &mut World<K, L>,
     line: &[u8],
     err: &mut E,
-) -> bool
-    ensures hosted { result ≡ true → HostsRoom (offer_by judges_presence) line.now server.old server.new }
-    ensures not_hosted { result ≡ false → HostsNot (offer_by judges_presence) line.now server.old server.new }
-{
+) -> bool {
     match host_by_line(alloc, &PresenceVerifier, server, line, err) {
         Ok(HostLineOutcome::Hosted) => true,
         Ok(HostLineOutcome::NotHosted | HostLineOutcome::Refused(_)) => false,

@@ -1,79 +1,48 @@
 // Whether a server's files have all that its replies say.
-ghost use Rattle.std.specs.Prelude.{◌≡◌, ◌⊎◌, false, [], IfErr, IfOk, IsSome, map, option_map, slice_get, string_bytes};
-ghost use Rattle.mx_server.specs.Losses as definition;
 
 use mx_directory::{ServerError, StartError};
 use mx_keeper::{BookRow, Keeper, ShardRow};
 use mx_world::World;
 use std::alloc::{AllocError, Global};
+use std::io::Write;
 
-/// Looks in the shards for each event that the replies of the books call kept. It gives a line for each book of which some
-/// are in no shard, in the order of the books, where that loss is accepted.
+/// Looks in the shards for each event that the replies of the books call kept.
 ///
-/// Where it is not, a loss is `Storage`, about the first such book. `Memory` where no memory is left.
-pub(crate) fn check_losses<K: Keeper<Row = ShardRow>, L: Keeper<Row = BookRow>>(
+/// Where a book's replies call events kept that are in no shard, that is `Storage`, about the first such book, unless the
+/// loss is accepted: then `err` is told of each such book. `Memory` where no memory is left.
+pub(crate) fn check_losses<K: Keeper<Row = ShardRow>, L: Keeper<Row = BookRow>, E: Write>(
     alloc: Global,
     server: &World<K, L>,
     books: usize,
-    directory: &str,
+    data: &str,
     is_accepted: bool,
-) -> Result<Vec<String>, StartError>
-    ensures lines { IfOk result (λ lines.
-        map string_bytes lines.items ≡ definition.loss_lines directory.now (definition.lost_count server.now) books) }
-    ensures none { IfOk result (λ _. is_accepted ≡ false
-        → definition.loss_lines directory.now (definition.lost_count server.now) books ≡ []) }
-    ensures lost { IfErr result (λ refused. refused.error ≡ ServerError.Storage → (is_accepted ≡ false)
-        × IsSome refused.cause
-        × (option_map string_bytes refused.cause
-        ≡ slice_get (definition.loss_lines directory.now (definition.lost_count server.now) books) 0)) }
-    ensures err { IfErr result (λ refused. (refused.error ≡ ServerError.Memory) ⊎ (refused.error ≡ ServerError.Storage)) }
-{
-    let losses = loss_lines(alloc, server, books, directory)?;
-    if is_accepted || losses.is_empty() {
-        return Ok(losses);
-    }
-    Err(StartError {
-        error: ServerError::Storage,
-        cause: losses.into_iter().next(),
-    })
-}
-
-// The lines of so many books, those of which events are lost.
-fn loss_lines<K: Keeper<Row = ShardRow>, L: Keeper<Row = BookRow>>(
-    alloc: Global,
-    server: &World<K, L>,
-    books: usize,
-    directory: &str,
-) -> Result<Vec<String>, AllocError>
-    ensures { IfOk result (λ lines.
-        map string_bytes lines.items ≡ definition.loss_lines directory.now (definition.lost_count server.now) books) }
-{
-    let mut lines = Vec::new(alloc);
+    err: &mut E,
+) -> Result<(), StartError> {
     for number in 0..books {
         let lost = server.lost_events(alloc, number)?;
-        if !lost.is_empty() {
-            let line = loss_line(alloc, directory, number, lost.len())?;
-            lines.push(line)?;
+        if lost.is_empty() {
+            continue;
         }
+        let loss = loss_text(alloc, data, number, lost.len())?;
+        if !is_accepted {
+            return Err(StartError {
+                error: ServerError::Storage,
+                cause: Some(loss),
+            });
+        }
+        let _ = writeln!(err, "{loss}");
     }
-    Ok(lines)
+    Ok(())
 }
 
 // Which book's replies are of lost events, and of how many.
-fn loss_line(
-    alloc: Global,
-    directory: &str,
-    number: usize,
-    lost: usize,
-) -> Result<String, AllocError>
-    ensures { IfOk result (λ line. string_bytes line ≡ definition.loss_line directory.now number lost) }
-{
+fn loss_text(alloc: Global, data: &str, number: usize, lost: usize) -> Result<String, AllocError> {
     if lost == 1 {
         return format!(in alloc;
-            "{directory}/book-{number}.db: 1 event that its replies call kept is in no shard"
+            "{data}/book-{number}.db: 1 event that its replies call kept is in no shard"
         );
     }
     format!(in alloc;
-        "{directory}/book-{number}.db: {lost} events that its replies call kept are in no shard"
+        "{data}/book-{number}.db: {lost} events that its replies call kept are in no shard"
     )
 }

@@ -1,11 +1,4 @@
 // What requests ask for, and which shards they go to.
-ghost use Rattle.std.specs.Prelude.{◌≡◌, ◌⊎◌, Err, IfErr, IfOk, Ok};
-ghost use Rattle.mx_http_requests.specs.Carried.{http_reply_shown};
-ghost use Rattle.mx_requests.specs.Calls.{call_of};
-ghost use Rattle.mx_requests.specs.CallsShown.{call_shown, request_shown};
-ghost use Rattle.mx_server.specs.Judging.{judges_presence};
-ghost use Rattle.mx_server.specs.Requests.{IsRead, claim_on};
-
 use json::Scratch;
 use mx_http::{AskedCall, Claim, HttpReply, HttpRequest, ReadRequest};
 use mx_http_requests::{http_reply, wire_request};
@@ -51,9 +44,7 @@ impl RequestReader {
         alloc: Global,
         scratch: &mut Scratch,
         request: HttpRequest,
-    ) -> ReadRequest<WireCall>
-        ensures { IsRead self.now.server.name self.now.shards request result }
-    {
+    ) -> ReadRequest<WireCall> {
         let request = wire_request(request);
         match self.call_of(alloc, scratch, &request) {
             Ok(call) => ReadRequest::Asking(AskedCall {
@@ -77,12 +68,7 @@ impl RequestReader {
         alloc: Global,
         kept: &mut Scratch,
         request: &WireRequest,
-    ) -> Result<WireCall, Fault>
-        ensures ok { IfOk result (λ call.
-            call_of judges_presence self.now.server.name (request_shown request.now) ≡ Ok (call_shown call)) }
-        ensures err { IfErr result (λ fault. (fault ≡ Fault.Memory)
-            ⊎ (call_of judges_presence self.now.server.name (request_shown request.now) ≡ Err fault)) }
-    {
+    ) -> Result<WireCall, Fault> {
         if request.body.len() <= LONGEST_OVER_KEPT {
             return read_call(alloc, kept, &self.server, &PresenceVerifier, request);
         }
@@ -97,9 +83,7 @@ impl RequestReader {
     }
 
     // Where the target of a request has another method, that is told. Where no memory is left for it, it is not.
-    fn tell_method(&self, alloc: Global, request: &WireRequest, refusal: &mut HttpReply)
-        ensures { http_reply_shown refusal.new ≡ http_reply_shown refusal.old }
-    {
+    fn tell_method(&self, alloc: Global, request: &WireRequest, refusal: &mut HttpReply) {
         if refusal.status == METHOD_NOT_ALLOWED {
             if let Some(method) = self.server.method_at(&request.target) {
                 refusal.allowed = String::from_str(alloc, method).ok();
@@ -109,9 +93,7 @@ impl RequestReader {
 }
 
 // What a call claims that goes to these shards.
-fn claim_of(shards: CallShards) -> Claim
-    ensures { result ≡ claim_on shards }
-{
+fn claim_of(shards: CallShards) -> Claim {
     match shards {
         CallShards::Nowhere => Claim::Nothing,
         CallShards::Asks(shard) => Claim::Asks(shard),

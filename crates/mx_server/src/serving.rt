@@ -1,14 +1,12 @@
 // `serve`: a server on loopback, over files.
 ghost use Rattle.std.specs.Prelude.{◌≡◌, ◌≤◌, IfOk, length};
-ghost use Rattle.mx_requests.specs.CallsShown.{call_shown};
-ghost use Rattle.mx_server.specs.Replies.{IsWorkersReply, answer_shown};
 
 use crate::crews::Crew;
 use crate::hosting::{file_of_rooms, host_rooms, rooms_to_host};
 use crate::losses::check_losses;
 use crate::ports::{limits_of, listener_at, port_of, unserved};
 use crate::reading::RequestReader;
-use crate::workers::{AnsweredRequest, Handler, ServerEngine, Shared, Worker, workers_of};
+use crate::workers::{Handler, ServerEngine, Shared, Worker, workers_of};
 use mx_admin::{Desk, DeskThread, Failures, RoomDesk};
 use mx_directory::{
     RowFile, RowFiles, ServerError, ServerFiles, StartError, WatchedKeeper, open_directory,
@@ -193,8 +191,7 @@ where
         Err(error) => return Err(not_reopened(alloc, &options.data, error)),
     };
     let is_accepted = options.accept_loss;
-    let losses = check_losses(alloc, &server, count, &options.data, is_accepted)?;
-    tell_losses(&losses, err);
+    check_losses(alloc, &server, count, &options.data, is_accepted, err)?;
     oversight.watch.check_counts(rt, is_accepted, err)?;
     host_rooms(alloc, &mut server, rooms, file_of_rooms(&options), err)?;
     listen(rt, server, oversight, options, out, err)
@@ -379,9 +376,9 @@ where
     let mut threads = Vec::new(rt.alloc());
     for (worker, desk) in workers.into_iter().zip(desks) {
         let mut worker = worker;
-        let answer = move |alloc: Global, now: Moment, call: WireCall| -> AnsweredRequest
-            ensures { IsWorkersReply now (call_shown call) worker.entry worker.exit (answer_shown result) }
-        { worker.answer(&runtime, alloc, now, call) };
+        let answer = move |alloc: Global, now: Moment, call: WireCall| {
+            worker.answer(&runtime, alloc, now, call)
+        };
         let reader = Arc::try_clone(&reader)?;
         let handler = Handler::new(rt.alloc(), reader, desk, runtime, answer);
         if loops.len() < crew.loops() {

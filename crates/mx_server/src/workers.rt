@@ -4,8 +4,6 @@ ghost use Rattle.mx_engine.specs.Seats.{IsSeatOf, book_views, seat_number, shard
 ghost use Rattle.mx_http_requests.specs.Carried.{IsCarried, http_reply_shown};
 ghost use Rattle.mx_requests.specs.CallsShown.{call_shown};
 ghost use Rattle.mx_requests.specs.RepliesShown.{reply_shown};
-ghost use Rattle.mx_server.specs.Moments.{moment_shown};
-ghost use Rattle.mx_server.specs.Replies.{AsksSome, IsReplyTo, IsWorkersReply, answer_shown};
 ghost use Rattle.mx_wire.specs.Responses.{IsCallAnswered, IsCallRefused, unavailable};
 
 use crate::reading::RequestReader;
@@ -27,7 +25,7 @@ use std::alloc::{AllocError, Global};
 use std::marker::Model;
 use std::sync::{Arc, Wait};
 use std::thread::Threads;
-use std::time::{Clock, Duration};
+use std::time::Clock;
 
 // The status where a body does not come in its coding.
 const BAD_REQUEST: u16 = 400;
@@ -63,19 +61,13 @@ pub struct Worker<K: Keeper<Row = ShardRow>, L: Keeper<Row = BookRow>> {
 }
 
 impl<K: Keeper<Row = ShardRow>, L: Keeper<Row = BookRow>> Model for Worker<K, L> {
-    ghost use Rattle.mx_engine.specs.Seats.{IsSeatOf, book_views, seat_number, shard_views};
-    ghost use Rattle.mx_server.specs.WorkerViews.{WorkerView, worker_code};
+    ghost use Rattle.std.specs.Prelude.{ℕ};
+    ghost use Rattle.mx_engine.specs.Seats.{IsSeatOf, seat_number};
 
-    ghost Value = { WorkerView };
+    // The number of its seat.
+    ghost Value = { ℕ };
 
-    ghost coded = { worker_code };
-
-    ghost view = { λ worker. record {
-      name = worker.shared.value.name;
-      number = seat_number worker.seat;
-      shards = shard_views worker.seat;
-      books = book_views worker.seat;
-    } };
+    ghost view = { λ worker. seat_number worker.seat };
 
     ghost invariant = { λ worker. IsSeatOf worker.shared.value.engine worker.seat };
 }
@@ -96,11 +88,7 @@ impl<K: Keeper<Row = ShardRow> + Send, L: Keeper<Row = BookRow>> Worker<K, L> {
         alloc: Global,
         now: Moment,
         call: WireCall,
-    ) -> AnsweredRequest
-        ensures name { self.new.name ≡ self.old.name }
-        ensures number { self.new.number ≡ self.old.number }
-        ensures reply { IsWorkersReply now (call_shown call) self.old self.new (answer_shown result) }
-    {
+    ) -> AnsweredRequest {
         let answered = answer_in(rt, alloc, &self.shared, &mut self.seat, now, call);
         answered_request(rt, alloc, &self.shared, answered)
     }
@@ -239,9 +227,7 @@ impl<F: Drop, C: Wait + Clock + Drop> Handler<F, C> {
         about: RequestAbout,
         call: Option<CallAbout>,
         reply: HttpReply,
-    ) -> HttpReply
-        ensures { result ≡ reply }
-    {
+    ) -> HttpReply {
         let answered = Answered {
             request: about,
             call,
@@ -253,9 +239,7 @@ impl<F: Drop, C: Wait + Clock + Drop> Handler<F, C> {
     }
 
     // Notes the reply to a request whose body was not read.
-    fn noted_unread(&self, alloc: Global, reply: HttpReply) -> HttpReply
-        ensures { result ≡ reply }
-    {
+    fn noted_unread(&self, alloc: Global, reply: HttpReply) -> HttpReply {
         self.noted(alloc, RequestAbout::unknown(&self.clock), None, reply)
     }
 
@@ -279,10 +263,6 @@ impl<F: FnMut(Global, Moment, WireCall) -> AnsweredRequest + Drop, C: Wait + Clo
     type Call = NotedCall;
 
     ghost can_respond = { (answer : F) → F.IsAlwaysCallable answer };
-
-    ghost asks = { λ request noted. AsksSome request noted.call };
-
-    ghost answers = { λ request reply. IsReplyTo F.step request reply };
 
     fn has_long_reply(_method: &str, target: &[u8]) -> bool {
         LONG_REPLIES.iter().any(|path| target.starts_with(*path))
@@ -380,20 +360,17 @@ fn answer_in<K: Keeper<Row = ShardRow> + Send, L: Keeper<Row = BookRow>, R: Thre
     answer_call(rt, alloc, &shared.name, &shared.engine, seat, now, call)
 }
 
-// The moment of the clock.
+// The moment of the clock: the first one where it can't be read, the latest one where it shows more.
 fn moment<C: Clock>(clock: &C) -> Moment {
-    moment_of(clock.since_1970().ok())
-}
-
-// The moment that a clock shows: the first one where it can't be read, the latest one where it shows more.
-fn moment_of(time: Option<Duration>) -> Moment
-    ensures { result ≡ moment_shown time }
-{
-    let milliseconds = match time {
-        Some(time) => u64::try_from(time.as_millis()).unwrap_or(u64::MAX),
-        None => 0,
+    let milliseconds = match clock.since_1970() {
+        Ok(time) => u64::try_from(time.as_millis()).unwrap_or(u64::MAX),
+        Err(_error) => 0,
     };
-    Moment::at(milliseconds.min(LATEST_MILLISECONDS)).unwrap()
+    if milliseconds < LATEST_MILLISECONDS {
+        Moment::at(milliseconds).unwrap()
+    } else {
+        Moment::at(LATEST_MILLISECONDS).unwrap()
+    }
 }
 
 /// A worker at each seat of an engine.
