@@ -132,7 +132,8 @@ fn server_of(alloc: Global, count: usize) -> Result<Server, CallError>
     requires few { count ≤ 64 }
     ensures { IfOk result (λ server. IsTrue (none_open server)) }
 {
-    World::new(alloc, keepers(alloc, count)?, keepers(alloc, count)?)
+    let server = World::new(alloc, keepers(alloc, count)?, keepers(alloc, count)?)?;
+    Ok(server)
 }
 
 fn all_steps(alloc: Global, written: &[&str]) -> Result<Vec<Step>, AllocError> {
