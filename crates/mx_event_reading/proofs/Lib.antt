@@ -1,0 +1,10 @@
+pub mod NumberLemmas
+pub mod ArrayLemmas
+pub mod InOrderLemmas
+pub mod NestingLemmas
+pub mod OpenTextLemmas
+pub mod ContentLemmas
+pub mod MessageLemmas
+pub mod FormLemmas
+pub mod ChainLemmas
+pub mod ReadLemmas

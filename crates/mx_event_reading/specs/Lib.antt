@@ -1,0 +1,5 @@
+pub mod InOrder
+pub mod Appending
+pub mod Contents
+pub mod OpenTexts
+pub mod Messages

@@ -1,0 +1,9 @@
+//! Events in the bodies of requests and in lines of logs, read token by token with no JSON value of them, where they are
+//! messages whose members come in canonical order (Matrix specification, Server-Server API, "Transactions").
+#![tactic(auto)]
+
+mod contents;
+mod in_order;
+mod messages;
+mod numbers;
+mod open_texts;
