@@ -15,11 +15,12 @@ mod step_forms;
 mod texts;
 
 use crate::lines::call_forms::{CallLine, call_line};
-use crate::lines::step_forms::{close_line, host_line, next_line, open_line};
+use crate::lines::step_forms::{close_line, host_line, next_line, open_line, open_read};
 use crate::lines::texts::text_line;
 use crate::watching::LineForm;
 use json::Scratch;
-use mx_body::{BodyError, body_value};
+use mx_body::BodyError;
+use mx_event_reading::{BodyRead, EventsRead, read_body};
 use mx_pdu::Verifier;
 use mx_redact::text_field;
 use mx_world::Step;
@@ -88,8 +89,9 @@ fn value_line<V: Verifier>(
     ensures { IfOk result (λ read. line_shown read
         ≡ definition.read_line (offer_by (V.judges verifier.now)) line.now) }
 {
-    match body_value(alloc, scratch, line) {
-        Ok(value) => line_of(alloc, verifier, value),
+    match read_body(alloc, scratch, verifier, line) {
+        Ok(BodyRead::Value(value)) => line_of(alloc, verifier, value),
+        Ok(BodyRead::Events(read)) => line_with_events(alloc, read),
         Err(BodyError::Memory) => Err(AllocError),
         Err(BodyError::NotJson) => Ok(Line::Bad),
     }
@@ -119,6 +121,15 @@ fn line_in<V: Verifier>(
         Some("next") => next_line(alloc, &members),
         Some("close") => close_line(alloc, &members),
         Some("call") => call_line(alloc, members),
+        _ => Ok(Line::Bad),
+    }
+}
+
+// What a line asks for whose events were read.
+fn line_with_events(alloc: Global, read: EventsRead) -> Result<Line, AllocError>
+{
+    match text_field(&read.others, "step") {
+        Some("open") => open_read(alloc, read),
         _ => Ok(Line::Bad),
     }
 }

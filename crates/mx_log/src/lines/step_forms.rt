@@ -8,6 +8,8 @@ ghost use Rattle.mx_pdu.specs.Offers.{offer_by};
 
 use crate::lines::Line;
 use crate::lines::keys::{TRANSACTION_KEYS, has_only, key_in};
+use mx_body::MOST_EVENTS;
+use mx_event_reading::EventsRead;
 use mx_pdu::Verifier;
 use mx_requests::{events_in, well_formed};
 use mx_world::{Step, TransactionKey};
@@ -78,6 +80,18 @@ fn opening<V: Verifier>(
 {
     match events_in(alloc, events, verifier)? {
         Some(events) => Ok(Line::Step(Step::Open(key, events))),
+        None => Ok(Line::Bad),
+    }
+}
+
+/// The line that opens the transaction that it names, with these events.
+pub(crate) fn open_read(alloc: Global, read: EventsRead) -> Result<Line, AllocError>
+{
+    if !has_only(&read.others, &OPEN_KEYS) || read.events.len() > MOST_EVENTS {
+        return Ok(Line::Bad);
+    }
+    match key_in(alloc, &read.others)? {
+        Some(key) => Ok(Line::Step(Step::Open(key, read.events))),
         None => Ok(Line::Bad),
     }
 }

@@ -15,6 +15,7 @@ use mx_body::{
     BodyError, MOST_EPHEMERAL_EVENTS, MOST_EVENTS, body_value, event_text, transaction_texts,
 };
 use mx_canon::check;
+use mx_event_reading::{BodyRead, EventsRead, read_body};
 use mx_pdu::{Offered, PduError, TextError, Verifier};
 use mx_redact::field;
 use serde_json::{Map, Value};
@@ -52,9 +53,15 @@ pub(crate) fn transaction_events<V: Verifier>(
     if body.len() > LONGEST_VALUE {
         return events_by_texts(alloc, scratch, body, verifier);
     }
-    let value = value_of_body(alloc, scratch, body)?;
-    let events = events_of_value(alloc, value, verifier)?;
-    Ok(events)
+    match read_body(alloc, scratch, verifier, body) {
+        Ok(BodyRead::Events(read)) => Ok(events_read(read)),
+        Ok(BodyRead::Value(value)) => {
+            let events = events_of_value(alloc, value, verifier)?;
+            Ok(events)
+        }
+        Err(BodyError::Memory) => Err(Fault::Memory),
+        Err(BodyError::NotJson) => Err(Fault::NotJson),
+    }
 }
 
 /// The event that a body is JSON for, as it is offered; none where it is malformed.
@@ -122,6 +129,16 @@ fn events_of_members<V: Verifier>(
     match members.remove("pdus") {
         Some(events) => events_in(alloc, events, verifier),
         None => Ok(None),
+    }
+}
+
+// The events of a transaction that were read; none where it is no transaction.
+fn events_read(read: EventsRead) -> Option<Vec<Offered>>
+{
+    if has_few_ephemeral_events(&read.others) && read.events.len() <= MOST_EVENTS {
+        Some(read.events)
+    } else {
+        None
     }
 }
 
