@@ -8,3 +8,5 @@ pub mod MessageLemmas
 pub mod FormLemmas
 pub mod ChainLemmas
 pub mod ReadLemmas
+pub mod PutLemmas
+pub mod EventsLemmas

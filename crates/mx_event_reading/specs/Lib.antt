@@ -3,3 +3,4 @@ pub mod Appending
 pub mod Contents
 pub mod OpenTexts
 pub mod Messages
+pub mod BodiesRead

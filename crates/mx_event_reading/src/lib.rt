@@ -6,4 +6,7 @@ mod contents;
 mod in_order;
 mod messages;
 mod numbers;
+mod objects;
 mod open_texts;
+
+pub use objects::{BodyRead, EventsRead, read_body};
