@@ -71,8 +71,8 @@ pub(crate) fn host_rooms<K: Keeper<Row = ShardRow>, L: Keeper<Row = BookRow>, E:
     path: &str,
     err: &mut E,
 ) -> Result<(), StartError>
-    ensures ok { OnOk result (AreHosted (offer_by judges_presence) (lines_to_host lines.now) server.old server.new) }
-    ensures err { OnErr result (StopsAt (offer_by judges_presence) (lines_to_host lines.now) server.old server.new) }
+    ensures ok { OnOk result (AreHosted judges_presence (lines_to_host lines.now) server.old server.new) }
+    ensures err { OnErr result (StopsAt judges_presence (lines_to_host lines.now) server.old server.new) }
 {
     let mut rest = lines;
     let mut number = 1u64;
@@ -103,7 +103,7 @@ fn is_hosted_by<K: Keeper<Row = ShardRow>, L: Keeper<Row = BookRow>, E: Write>(
     err: &mut E,
 ) -> bool
     ensures hosted { result ≡ true → HostsRoom (offer_by judges_presence) line.now server.old server.new }
-    ensures not_hosted { result ≡ false → HostsNot (offer_by judges_presence) line.now server.old server.new }
+    ensures not_hosted { result ≡ false → HostsNot judges_presence line.now server.old server.new }
 {
     match host_by_line(alloc, &PresenceVerifier, server, line, err) {
         Ok(HostLineOutcome::Hosted) => true,
