@@ -1,3 +1,4 @@
 mod HandlerLemmas
 mod RequestSending
 mod WorkerSending
+mod HostingLemmas

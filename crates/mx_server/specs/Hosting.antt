@@ -1,5 +1,5 @@
 -- The rooms of a file of rooms, as a server hosts them from its start (our own).
-use Rattle.std.specs.Prelude.{◌≡◌, ◌⊎◌, ℕ, Bool, not, List, [], ◌∷◌, filter}
+use Rattle.std.specs.Prelude.{◌≡◌, ◌⊎◌, ℕ, Bool, true, false, not, List, [], ◌∷◌, filter}
 use Rattle.std.specs.Char.{is_ascii_whitespace}
 use Rattle.std.specs.List.{list_all}
 use Rattle.mx_pdu.specs.Offers.{Judge, offer_by}
@@ -22,6 +22,11 @@ module _ {K L : Type 0} where
   AreHosted judges [] old new = new ≡ old
   AreHosted judges (line ∷ lines) old new =
       (next : WorldView K L) × (HostsRoom (offer_by judges) line old next × AreHosted judges lines next new)
+
+  -- a line is blank, and nothing is done for it, or it hosts its room
+  abbrev pub IsDone : Judge → (line : List ℕ) → (old new : WorldView K L) → Type 0
+  IsDone judges line old new =
+      ((is_blank line ≡ true) × (new ≡ old)) ⊎ ((is_blank line ≡ false) × HostsRoom (offer_by judges) line old new)
 
   -- a line hosts no room, or is refused
   abbrev pub HostsNot : Judge → (line : List ℕ) → (old new : WorldView K L) → Type 0

@@ -21,8 +21,7 @@ loss_line directory book lost = directory ++ (codes "/book-" ++ (decimal book ++
 
 -- a line where some are lost
 abbrev pub line_if : (directory : List ℕ) → (book lost : ℕ) → List (List ℕ)
-line_if directory book zero = []
-line_if directory book (suc lost) = loss_line directory book (suc lost) ∷ []
+line_if directory book lost = if lost == 0 then [] else loss_line directory book lost ∷ []
 
 -- the lines of so many books, in their order
 abbrev pub loss_lines : (directory : List ℕ) → (lost : (book : ℕ) → ℕ) → (books : ℕ) → List (List ℕ)

@@ -2,7 +2,7 @@
 ghost use Rattle.std.specs.Prelude.{◌≡◌, ◌↔◌, false, true, OnErr, OnOk};
 ghost use Rattle.mx_pdu.specs.Offers.{offer_by};
 ghost use Rattle.mx_log.specs.HostLines.{HostsRoom};
-ghost use Rattle.mx_server.specs.Hosting.{AreHosted, HostsNot, StopsAt, is_blank, lines_to_host};
+ghost use Rattle.mx_server.specs.Hosting.{AreHosted, HostsNot, IsDone, StopsAt, is_blank, lines_to_host};
 ghost use Rattle.mx_server.specs.Judging.{judges_presence};
 
 use mx_directory::{ServerError, StartError};
@@ -78,7 +78,8 @@ pub(crate) fn host_rooms<K: Keeper<Row = ShardRow>, L: Keeper<Row = BookRow>, E:
     let mut number = 1u64;
     while !rest.is_empty() {
         let (line, after) = first_line(rest);
-        if !is_blank(line) && !is_hosted_by(alloc, server, line, err) {
+        let is_done = is_line_done(alloc, server, line, err);
+        if !is_done {
             let place = format!(in alloc; "line {number}")?;
             return Err(StartError::about(alloc, ServerError::NotHosted, path, &place));
         }
@@ -86,6 +87,23 @@ pub(crate) fn host_rooms<K: Keeper<Row = ShardRow>, L: Keeper<Row = BookRow>, E:
         number = number.saturating_add(1);
     }
     Ok(())
+}
+
+// Whether a line is blank, or hosts a room, or its room is hosted; else `err` is told what the line is answered.
+fn is_line_done<K: Keeper<Row = ShardRow>, L: Keeper<Row = BookRow>, E: Write>(
+    alloc: Global,
+    server: &mut World<K, L>,
+    line: &[u8],
+    err: &mut E,
+) -> bool
+    ensures hosted { result ≡ true → IsDone judges_presence line.now server.old server.new }
+    ensures not_hosted { result ≡ false
+        → (is_blank line.now ≡ false) × HostsNot judges_presence line.now server.old server.new }
+{
+    if is_blank(line) {
+        return true;
+    }
+    is_hosted_by(alloc, server, line, err)
 }
 
 // Whether a line has nothing but white space.

@@ -1,5 +1,5 @@
 // Whether a server's files have all that its replies say.
-ghost use Rattle.std.specs.Prelude.{◌≡◌, ◌⊎◌, false, [], IfErr, IfOk, IsSome, map, option_map, slice_get, string_bytes};
+ghost use Rattle.std.specs.Prelude.{◌≡◌, ◌⊎◌, ◌++◌, false, [], IfErr, IfOk, IsSome, OnOk, map, option_map, slice_get, string_bytes};
 ghost use Rattle.mx_server.specs.Losses as definition;
 
 use mx_directory::{ServerError, StartError};
@@ -51,12 +51,28 @@ fn loss_lines<K: Keeper<Row = ShardRow>, L: Keeper<Row = BookRow>>(
     let mut lines = Vec::new(alloc);
     for number in 0..books {
         let lost = server.lost_events(alloc, number)?;
-        if !lost.is_empty() {
-            let line = loss_line(alloc, directory, number, lost.len())?;
-            lines.push(line)?;
-        }
+        push_loss(alloc, &mut lines, directory, number, lost.len())?;
     }
     Ok(lines)
+}
+
+// Adds the line of a book of whose events so many are lost, where some are.
+fn push_loss(
+    alloc: Global,
+    lines: &mut Vec<String>,
+    directory: &str,
+    number: usize,
+    lost: usize,
+) -> Result<(), AllocError>
+    ensures { OnOk result (map string_bytes lines.new.items
+        ≡ map string_bytes lines.old.items ++ definition.line_if directory.now number lost) }
+{
+    if lost == 0 {
+        return Ok(());
+    }
+    let line = loss_line(alloc, directory, number, lost)?;
+    lines.push(line)?;
+    Ok(())
 }
 
 // Which book's replies are of lost events, and of how many.
