@@ -6,8 +6,9 @@ A program runs once: at each allocation that is to be refused a copy of it is ma
 
 - `copies_end_as_runs`: a copy leaves what a run of its own does, in which the allocation of that number is refused.
 - `mistakes_are_told`: a small program that goes wrong where one allocation is refused is found out, by that one's number.
-- `served_requests`: of `serve`, for a transaction of two rooms and two queries, a request is answered, or told that no memory is
-  left, or its connection is closed; and the same request is answered when it comes again.
+- `served_requests`: of `serve`, for a transaction of two rooms, one of a child before its parent and two queries, a request is
+  answered, or told that no memory is left, or, for a few allocations of its connection, that is closed; and the same request
+  is answered when it comes again. The files then have each event and each reply once.
 - `tests_of_crates`: each test of a crate whose name ends in or_no_memory accepts the right answer and the memory refusal, and
   nothing else.
 - `check_of_an_event`: `check` on its example prints its lines, or only `memory` on standard error, with status 1.
@@ -33,15 +34,19 @@ from typing import BinaryIO
 
 from suite import TOP, LeftOut, program, run_tests
 from event_logs import Base, Log, quoted, state_path
-from matrix_events import A, ACCEPTED, Json, create, id_of, join, message
+from matrix_events import A, ACCEPTED, Event, Json, canonical, create, error, id_of, join, message
 from program import compiled
-from running_server import Request, Server, getting, host_line, sending
+from running_server import REPLIES, Request, Server, getting, host_line, rows_of, sending
 
 # What a run leaves: its exit status, less than 0 where a signal ended it, its standard output and its standard error.
 Left = tuple[int, bytes, bytes]
 SECONDS = 60
 WORKERS = os.cpu_count() or 1
+NO_MEMORY = {"errcode": "M_UNKNOWN", "error": "memory"}
 REFUSED = (b'{"error":"memory"}', b'{"body":{"errcode":"M_UNKNOWN","error":"memory"},"status":503}')
+# A request has few allocations whose refusal closes its connection: those that read its bytes, hand it over to a worker, and write
+# its reply. Of all others it is told.
+MOST_CLOSED = 32
 # A program with more allocations fails its test, but for these logs, of which as many are refused, evenly spread.
 MOST_RUNS = 20_000
 SAMPLED = {
@@ -212,6 +217,7 @@ def faults_of(task: Task, numbers: range, pool: ThreadPoolExecutor) -> list[str]
 def refuse_each(tasks: Sequence[Task], folder: Path) -> None:
     """Refuses the allocations of each program in turn. Each run leaves what it may."""
     failed = []
+    assert tasks, "nothing to run"
     with ThreadPoolExecutor(WORKERS) as pool:
         for task in tasks:
             count, numbers = numbers_of(task, folder)
@@ -226,16 +232,19 @@ class RefusingServer:
     """A server of two rooms, one allocation of which is refused at a time."""
 
     def __init__(self, folder: Path) -> None:
-        self.number, self.count = folder / "number", folder / "count"
+        self.number, self.count, self.data = folder / "number", folder / "count", folder / "data"
         self.base, self.other = Base(Log()), create(room="!s:a.example")
         variables = {"LD_PRELOAD": str(compiled("fail_alloc")), "FAIL_ALLOC_NUMBER": str(self.number), "FAIL_ALLOC_COUNT": str(self.count)}
         hosts = [host_line(self.base.create), host_line(self.other)]
-        self.server = Server(folder / "data", "--shards", "2", hosts=hosts, env={**os.environ, **variables})
+        self.server = Server(self.data, "--shards", "2", hosts=hosts, env={**os.environ, **variables})
         self.refuse(0)
         base = self.base
         self.joined = join(A, [self.other], [self.other], room="!s:a.example")
+        # The events in the order in which they are to be kept, and the reply to each transaction.
+        self.events, self.replies = [base.create, self.other], {}
         events = [base.join_a, base.levels, base.rules, base.join_b, base.join_c, self.joined]
-        assert self.server.ask(*sending("a.example", "base", events))[0] == 200
+        request, reply = self.sent("base", events, events)
+        assert self.server.ask(*request) == (200, canonical(reply))
         self.made = 0
 
     def refuse(self, number: int) -> int:
@@ -247,6 +256,13 @@ class RefusingServer:
             time.sleep(0.0005)
         return int(self.count.read_text())
 
+    def sent(self, txn: str, events: Sequence[Event], accepted: Sequence[Event]) -> tuple[Request, Json]:
+        """A transaction of these events, and its reply: these are accepted, and the others lack events that they cite."""
+        reply = {"pdus": {id_of(made): ACCEPTED if made in accepted else error("missing events") for made in events}}
+        self.events += [made for made in accepted if made not in self.events]
+        self.replies[txn] = reply
+        return sending("a.example", txn, events), reply
+
     def transaction(self) -> tuple[Request, Json]:
         """A transaction of one new message in each of the rooms, and its reply."""
         self.made += 1
@@ -255,8 +271,16 @@ class RefusingServer:
             message(A, [self.base.join_c], self.base.of_a, text),
             message(A, [self.joined], [self.other, self.joined], text, room="!s:a.example"),
         ]
-        reply = {"pdus": {id_of(event): ACCEPTED for event in events}}
-        return sending("a.example", "t%d" % self.made, events), reply
+        return self.sent("t%d" % self.made, events, events)
+
+    def child_before_parent(self) -> tuple[Request, Json]:
+        """A transaction of a child and its parent, of which another one has had the parent kept, and its reply."""
+        self.made += 1
+        parent = message(A, [self.base.join_c], self.base.of_a, "p%d" % self.made)
+        child = message(A, [parent], self.base.of_a, "c%d" % self.made)
+        request, reply = self.sent("t%d" % self.made, [child, parent], [parent])
+        assert self.server.ask(*request) == (200, canonical(reply))
+        return self.sent("u%d" % self.made, [child, parent], [child, parent])
 
     def state_ids(self) -> tuple[Request, Json]:
         """A query for the ids of a state, and its reply."""
@@ -270,17 +294,28 @@ class RefusingServer:
         return getting("b.example", "v1/event/" + quoted("$" + "x" * 43)), {"errcode": "M_NOT_FOUND", "error": "not found"}
 
     def reply(self, request: Request) -> Json:
-        """The body of the reply to a request; none where its connection was closed, or no memory was left."""
+        """The body of the reply to a request; none where its connection was closed."""
         try:
             _, told = self.server.ask(*request)
         except (http.client.HTTPException, ConnectionError, AssertionError):
             return None
-        return None if json.loads(told) == {"errcode": "M_UNKNOWN", "error": "memory"} else json.loads(told)
+        return json.loads(told)
+
+    def check_files(self) -> None:
+        """The files of the server, which is stopped, have each event of a room once and in order, and each reply once."""
+        rows = [row for name in ("shard-0.db", "shard-1.db") for row in rows_of(self.data, "SELECT room, event FROM kept2 ORDER BY place", name)]
+        for room in (self.base.create["room_id"], self.other["room_id"]):
+            wanted = [canonical(made).decode() for made in self.events if made["room_id"] == room]
+            kept = [event for other, event in rows if other == room]
+            assert kept == wanted, (room, len(kept), len(wanted))
+        replies = [row[1:] for name in ("book-0.db", "book-1.db") for row in rows_of(self.data, REPLIES, name)]
+        wanted = [("a.example", txn, canonical(reply).decode()) for txn, reply in self.replies.items()]
+        assert sorted(replies) == sorted(wanted), (len(replies), len(wanted))
 
 
 def refuse_each_of_a_request(server: RefusingServer, kind: Callable[[], tuple[Request, Json]]) -> None:
     """Refuses each allocation of a request in turn, until a request ends before so many. Each leaves what it may."""
-    number, count = 0, 0
+    number, count, ends = 0, 0, []
     while count >= number:
         number += 1
         request, wanted = kind()
@@ -288,18 +323,23 @@ def refuse_each_of_a_request(server: RefusingServer, kind: Callable[[], tuple[Re
         told = server.reply(request)
         count = server.refuse(0)
         again = server.reply(request)
-        assert told in (None, wanted) and again == wanted, f"allocation {number} refused: {told}, and then {again}"
-    print(f"  serve {kind.__name__}: {number - 1} allocations refused", flush=True)
+        assert told in (None, NO_MEMORY, wanted) and again == wanted, f"allocation {number} refused: {told}, and then {again}"
+        ends.append("closed" if told is None else "told" if told == NO_MEMORY else "answered")
+    assert number > 1, "no allocation was counted"
+    assert "told" in ends and ends.count("closed") <= MOST_CLOSED, ends
+    counts = ", ".join(f"{ends.count(end)} {end}" for end in ("told", "closed"))
+    print(f"  serve {kind.__name__}: {number - 1} allocations refused, {counts}", flush=True)
 
 
 def served_requests(folder: Path) -> None:
     """A request whose allocation is refused is answered, or told so, or closed, and answered when it comes again."""
     server = RefusingServer(folder)
     try:
-        for kind in (server.transaction, server.state_ids, server.no_event):
+        for kind in (server.transaction, server.child_before_parent, server.state_ids, server.no_event):
             refuse_each_of_a_request(server, kind)
     finally:
         server.server.stop()
+    server.check_files()
 
 
 def line_lengths(*mistake: object) -> Lines:
@@ -312,6 +352,7 @@ def copies_end_as_runs(folder: Path) -> None:
     """With each of its allocations refused, a copy of a program leaves what a run of its own does."""
     for task in (line_lengths(), line_lengths("other", 8), check_task()):
         count, numbers = numbers_of(task, folder)
+        assert count > 0, task.name
         with ThreadPoolExecutor(WORKERS) as pool:
             runs = list(pool.map(lambda number: task.run(FAIL_ALLOC=str(number)), numbers))
         *copies, last = task.copies(numbers)

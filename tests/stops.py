@@ -1,19 +1,21 @@
 #!/usr/bin/env python3
-"""`mx_federd serve` is ended at each write of a file in turn, and has its calls on files and on connections fail one at a
-time. Each time it is started again, and asked what it had answered, and for what it had not. tests/faults/fail_call.c
-ends the program and makes the calls fail."""
+"""`mx_federd serve` is ended at each write of a file in turn, with what was written until then, or with all or some of what
+was not brought to the disk lost, and has its calls on files and on connections fail one at a time. Each time it is started
+again, and asked what it had answered, and for what it had not. tests/faults/fail_call.c ends the program and makes the calls
+fail."""
 
 import contextlib
 import http.client
 import json
 import os
+import random
 import shutil
 import signal
 import sqlite3
 import sys
 import tempfile
 import time
-from collections.abc import Sequence
+from collections.abc import Callable, Sequence
 from pathlib import Path
 from types import SimpleNamespace
 from typing import Any
@@ -21,26 +23,29 @@ from typing import Any
 from suite import TOP, run_tests
 from event_logs import Base, Log, quoted, state_path
 from make_first import transactions
-from matrix_events import A, ACCEPTED, B, D, canonical, error, event, id_of, message
+from matrix_events import A, ACCEPTED, B, D, Event, canonical, create, error, event, id_of, join, message
 from program import compiled
 from running_server import SECONDS, Refused, Reply, Request, Server, getting, host_line, sending, serving
 
 STORAGE = 503, b'{"errcode":"M_UNKNOWN","error":"storage"}'
 # An exchange with more writes or more calls on connections than this fails its test.
 MOST_CALLS = 1_000
+# What a disk writes whole or not at all.
+SECTOR = 512
 
 
 class FailingServer(Server):
     """A server one of whose calls fails, or ends it."""
 
-    def __init__(self, data: Path, on: str, how: str, number: int = 0, hosts: Sequence[bytes] = (), **more: object) -> None:
+    def __init__(self, data: Path, on: str, how: str, number: int = 0, hosts: Sequence[bytes] = (),
+                 words: Sequence[object] = (), **more: object) -> None:
         self.number, self.count = data.with_suffix(".number"), data.with_suffix(".count")
         variables = {
             "LD_PRELOAD": compiled("fail_call"), "FAIL_CALL_ON": on, "FAIL_CALL_HOW": how, "FAIL_CALL": number,
             "FAIL_CALL_NUMBER": self.number, "FAIL_CALL_COUNT": self.count, **more,
         }
         variables = {name: str(value) for name, value in variables.items()}
-        super().__init__(data, hosts=hosts, env={**os.environ, **variables})
+        super().__init__(data, *words, hosts=hosts, env={**os.environ, **variables})
 
     def fail(self, number: int) -> int:
         """From now on the call of this number fails, or none for 0. How many there were since the last time."""
@@ -54,6 +59,9 @@ class FailingServer(Server):
 
 class Exchange:
     """The events of the rows' room in a transaction, and then one of two messages, t1."""
+
+    # Options of its server.
+    words: Sequence[object] = ()
 
     def __init__(self) -> None:
         base = self.base = Base(Log())
@@ -80,7 +88,7 @@ class Exchange:
     def check_again(self, data: Path, replies: dict[str, Reply]) -> None:
         """A server over what was left: each start works, each answered reply comes again, with no event sent, and what was
         not answered is answered as if it were sent once, whatever of it was kept."""
-        with serving(data, hosts=self.hosts) as server:
+        with serving(data, *self.words, hosts=self.hosts) as server:
             for txn, reply in replies.items():
                 assert reply in (self.reply_to(txn), STORAGE), (txn, reply)
                 if reply != STORAGE:
@@ -91,13 +99,43 @@ class Exchange:
             for made in self.said:
                 shown = server.ask(*getting("b.example", "v1/event/" + quoted(id_of(made))))
                 assert json.loads(shown[1])["pdus"] == [made], shown
-        rows = [row for row, in rows_in_copy(data, "shard-0.db", "SELECT event FROM kept2 ORDER BY place")]
-        kept = [self.base.create, *self.events["base"], *self.events["t1"]]
-        assert rows == [canonical(made).decode() for made in kept], rows
+        for name, kept in self.kept().items():
+            rows = [row for row, in rows_in_copy(data, name, "SELECT event FROM kept2 ORDER BY place")]
+            assert rows == [canonical(made).decode() for made in kept], rows
+
+    def kept(self) -> dict[str, list[Event]]:
+        """What each shard's file has in the end."""
+        return {"shard-0.db": [self.base.create, *self.events["base"], *self.events["t1"]]}
 
     def empty(self, txn: str) -> Request:
         """The request of a transaction with its events left out."""
         return sending("a.example" if txn == "base" else "b.example", txn, [])
+
+
+class ExchangeOfTwoRooms(Exchange):
+    """The same, where t1 has its second message in another room, in a shard of its own."""
+
+    words = ("--shards", 2)
+
+    def __init__(self) -> None:
+        super().__init__()
+        room = "!s:a.example"
+        self.other = create(room=room)
+        joined = join(A, [self.other], [self.other], room=room)
+        public = event("m.room.join_rules", A, [joined], [self.other, joined], {"join_rule": "public"}, "", room=room)
+        self.others = [joined, public, join(B, [public], [self.other, public], room=room)]
+        self.hosts.append(host_line(self.other))
+        self.said[1] = message(B, self.others[2:], [self.other, self.others[2]], "second", room=room)
+        self.events = {"base": [*self.events["base"], *self.others], "t1": self.said}
+        self.first, self.second = sending("a.example", "base", self.events["base"]), sending("b.example", "t1", self.said)
+        self.sent = {"base": self.first, "t1": self.second}
+
+    def kept(self) -> dict[str, list[Event]]:
+        """What each shard's file has in the end."""
+        base = self.events["base"][:-len(self.others)]
+        return {
+            "shard-0.db": [self.base.create, *base, self.said[0]], "shard-1.db": [self.other, *self.others, self.said[1]],
+        }
 
 
 def rows_in_copy(data: Path, file: str, statement: str) -> list[tuple[Any, ...]]:
@@ -110,29 +148,53 @@ def rows_in_copy(data: Path, file: str, statement: str) -> list[tuple[Any, ...]]
             return connection.execute(statement).fetchall()
 
 
-def lose_power(data: Path) -> None:
-    """Each file is as it was when it was last brought to the disk, and empty where it never was."""
-    for file in list(data.glob("*.db")) + list(data.glob("*.db-wal")):
+def files_and_synced(data: Path) -> list[tuple[Path, bytes]]:
+    """Each file, and what it was when it was last brought to the disk: nothing where it never was."""
+    files = []
+    for file in sorted([*data.glob("*.db"), *data.glob("*.db-wal")]):
         synced = file.with_name(file.name + ".synced")
-        file.write_bytes(synced.read_bytes() if synced.exists() else b"")
+        files.append((file, synced.read_bytes() if synced.exists() else b""))
     for synced in data.glob("*.synced"):
         synced.unlink()
+    return files
 
 
-def check_ended_at_each_write(folder: Path, how: str, **more: object) -> int:
+def lose_all(data: Path, _number: int) -> None:
+    """Each file is as it was when it was last brought to the disk."""
+    for file, synced in files_and_synced(data):
+        file.write_bytes(synced)
+
+
+def lose_some(data: Path, number: int) -> None:
+    """Of what was written to a file since it was last brought to the disk some sectors are there and others are not, whichever
+    was written first, and its length is the old or the new one. The number is the seed."""
+    chance = random.Random(number)
+    for file, synced in files_and_synced(data):
+        whole = file.read_bytes()
+        length = len(chance.choice((synced, whole)))
+        left = bytearray()
+        while len(left) < length:
+            size = min(SECTOR, length - len(left))
+            left += chance.choice((synced, whole))[len(left):len(left) + size].ljust(size, b"\0")
+        file.write_bytes(left)
+
+
+def check_ended_at_each_write(folder: Path, how: str, lose: Callable[[Path, int], None] | None = None,
+                              exchange: Exchange | None = None) -> int:
     """Counts upwards until no write is met any more: how many there were."""
-    exchange = Exchange()
+    exchange = exchange or Exchange()
+    more = {"FAIL_CALL_SYNCED": 1} if lose else {}
     for number in range(1, MOST_CALLS):
         data, replies, ended = folder / f"{how}{number}", {}, True
         try:
-            server = FailingServer(data, "file", how, number, exchange.hosts, **more)
+            server = FailingServer(data, "file", how, number, exchange.hosts, exchange.words, **more)
             replies = exchange.ask(server)
             ended = server.process.poll() is not None or len(replies) < 2
             server.stop()
         except Refused as refused:
             assert refused.args[0] == -signal.SIGKILL, refused.args
-        if more:
-            lose_power(data)
+        if lose:
+            lose(data, number)
         exchange.check_again(data, replies)
         if not ended:
             return number - 1
@@ -144,6 +206,13 @@ def ended_at_each_write(folder: Path) -> None:
     counts = [check_ended_at_each_write(folder, how) for how in ("stop", "torn", "done")]
     assert min(counts) >= 30, counts
     print("ended at %d writes" % sum(counts))
+
+
+def ended_at_each_write_of_two_shards(folder: Path) -> None:
+    """The program, whose two shards and two books are written side by side, is ended before each write of a file in turn."""
+    count = check_ended_at_each_write(folder, "stop", exchange=ExchangeOfTwoRooms())
+    assert count >= 100, count
+    print("ended at %d writes" % count)
 
 
 def check_ended_starts(folder: Path, whole: Path, exchange: Exchange, replies: dict[str, Reply], how: str) -> int:
@@ -195,9 +264,17 @@ def ended_at_each_write_of_a_move(folder: Path) -> None:
 
 def power_lost_at_each_write(folder: Path) -> None:
     """The program is ended before each write in turn, and what was not brought to the disk until then is gone."""
-    count = check_ended_at_each_write(folder, "stop", FAIL_CALL_SYNCED=1)
+    count = check_ended_at_each_write(folder, "stop", lose_all)
     assert count >= 30, count
     print("power lost at %d writes" % count)
+
+
+def power_lost_in_part_at_each_write(folder: Path) -> None:
+    """The program over two shards is ended behind each write in turn, and of what was not brought to the disk until then some
+    sectors are gone, whichever was written first."""
+    count = check_ended_at_each_write(folder, "done", lose_some, ExchangeOfTwoRooms())
+    assert count >= 100, count
+    print("power lost in part at %d writes" % count)
 
 
 def one_failing_call(folder: Path) -> None:
@@ -376,7 +453,8 @@ def failing_connections(folder: Path) -> None:
 
 
 TESTS = [
-    ended_at_each_write, ended_at_each_write_of_a_start, ended_at_each_write_of_a_move, power_lost_at_each_write, one_failing_call,
+    ended_at_each_write, ended_at_each_write_of_two_shards, ended_at_each_write_of_a_start, ended_at_each_write_of_a_move,
+    power_lost_at_each_write, power_lost_in_part_at_each_write, one_failing_call,
     second_message_not_kept, reply_not_kept, reply_not_kept_and_then_denied, later_state_judges_nothing_anew,
     a_start_without_room, failing_connections,
 ]

@@ -69,22 +69,36 @@ static int finds_no_room(int file, off_t end) {
     } while (0)
 
 /* A file was brought to the disk: as it is now a loss of power leaves it. Where FAIL_CALL_SYNCED is set a copy of it is made
-   beside it, under its name and `.synced`. */
+   beside it, under its name and `.synced`, which goes with it where it gets another name. */
 static int brought(int file, int answer) {
     char link[64], path[4096] = {0}, bytes[65536];
+    struct stat about;
     ssize_t length;
     off_t at = 0;
-    if (answer || !getenv("FAIL_CALL_SYNCED")) return answer;
+    if (answer || !getenv("FAIL_CALL_SYNCED") || fstat(file, &about) || !S_ISREG(about.st_mode)) return answer;
     snprintf(link, sizeof link, "/proc/self/fd/%d", file);
     length = readlink(link, path, sizeof path - 8);
-    if (length < 0) _Exit(5);
+    int source = open(link, O_RDONLY);
+    if (length < 0 || source < 0) _Exit(5);
     strcpy(path + length, ".synced");
     int copy = open(path, O_CREAT | O_WRONLY | O_TRUNC, 0600);
-    while ((length = pread(file, bytes, sizeof bytes, at)) > 0) {
+    while ((length = pread(source, bytes, sizeof bytes, at)) > 0) {
         if (REAL(write)(copy, bytes, length) != length) _Exit(5);
         at += length;
     }
+    if (length < 0) _Exit(5);
+    close(source);
     close(copy);
+    return answer;
+}
+
+int rename(const char *from, const char *to) {
+    char synced[2][4096];
+    int answer = REAL(rename)(from, to);
+    if (answer || !getenv("FAIL_CALL_SYNCED")) return answer;
+    snprintf(synced[0], sizeof synced[0], "%s.synced", from);
+    snprintf(synced[1], sizeof synced[1], "%s.synced", to);
+    REAL(rename)(synced[0], synced[1]);
     return answer;
 }
 
