@@ -1,6 +1,6 @@
 #!/usr/bin/env python3
-"""`mx_federd serve` is ended at each write of a file in turn, with what was written until then, or with all or some of what
-was not brought to the disk lost, and has its calls on files and on connections fail one at a time. Each time it is started
+"""`mx_federd serve` is ended at each write of a file in turn, with what was written until then, or with all that was not
+brought to the disk lost, and has its calls on files and on connections fail one at a time. Each time it is started
 again, and asked what it had answered, and for what it had not. tests/faults/fail_call.c ends the program and makes the calls
 fail."""
 
@@ -8,7 +8,6 @@ import contextlib
 import http.client
 import json
 import os
-import random
 import shutil
 import signal
 import sqlite3
@@ -30,8 +29,6 @@ from running_server import SECONDS, Refused, Reply, Request, Server, getting, ho
 STORAGE = 503, b'{"errcode":"M_UNKNOWN","error":"storage"}'
 # An exchange with more writes or more calls on connections than this fails its test.
 MOST_CALLS = 1_000
-# What a disk writes whole or not at all.
-SECTOR = 512
 
 
 class FailingServer(Server):
@@ -165,20 +162,6 @@ def lose_all(data: Path, _number: int) -> None:
         file.write_bytes(synced)
 
 
-def lose_some(data: Path, number: int) -> None:
-    """Of what was written to a file since it was last brought to the disk some sectors are there and others are not, whichever
-    was written first, and its length is the old or the new one. The number is the seed."""
-    chance = random.Random(number)
-    for file, synced in files_and_synced(data):
-        whole = file.read_bytes()
-        length = len(chance.choice((synced, whole)))
-        left = bytearray()
-        while len(left) < length:
-            size = min(SECTOR, length - len(left))
-            left += chance.choice((synced, whole))[len(left):len(left) + size].ljust(size, b"\0")
-        file.write_bytes(left)
-
-
 def check_ended_at_each_write(folder: Path, how: str, lose: Callable[[Path, int], None] | None = None,
                               exchange: Exchange | None = None) -> int:
     """Counts upwards until no write is met any more: how many there were."""
@@ -267,14 +250,6 @@ def power_lost_at_each_write(folder: Path) -> None:
     count = check_ended_at_each_write(folder, "stop", lose_all)
     assert count >= 30, count
     print("power lost at %d writes" % count)
-
-
-def power_lost_in_part_at_each_write(folder: Path) -> None:
-    """The program over two shards is ended behind each write in turn, and of what was not brought to the disk until then some
-    sectors are gone, whichever was written first."""
-    count = check_ended_at_each_write(folder, "done", lose_some, ExchangeOfTwoRooms())
-    assert count >= 100, count
-    print("power lost in part at %d writes" % count)
 
 
 def one_failing_call(folder: Path) -> None:
@@ -454,7 +429,7 @@ def failing_connections(folder: Path) -> None:
 
 TESTS = [
     ended_at_each_write, ended_at_each_write_of_two_shards, ended_at_each_write_of_a_start, ended_at_each_write_of_a_move,
-    power_lost_at_each_write, power_lost_in_part_at_each_write, one_failing_call,
+    power_lost_at_each_write, one_failing_call,
     second_message_not_kept, reply_not_kept, reply_not_kept_and_then_denied, later_state_judges_nothing_anew,
     a_start_without_room, failing_connections,
 ]
