@@ -1,6 +1,8 @@
 -- What a reader of a header has read.
-use Rattle.std.specs.Prelude.{map, string_bytes}
-use Rattle.mx_requests.specs.Authorization.{PartView, Reading}
+use Rattle.std.specs.Prelude.{ℕ, ◌==◌, ◌||◌, Bool, true, false, map, string_bytes}
+use Rattle.mx_requests.specs.Authorization.{PartView, Reading, backslash, quote}
+use Rattle.mx_requests.specs.declared.authorization.HeaderState.{HeaderState}
+use Rattle.mx_requests.specs.declared.authorization.HeaderState.TheVariants.{InQuotes}
 use Rattle.mx_requests.specs.declared.authorization.Part.{Part}
 use Rattle.mx_requests.specs.declared.authorization.Reader.{Reader}
 
@@ -14,3 +16,11 @@ reading_of r = record {
   name = string_bytes r.name;
   value = string_bytes r.value;
 }
+
+abbrev pub is_in_quotes : HeaderState → Bool
+is_in_quotes InQuotes = true
+is_in_quotes _ = false
+
+-- what ends a quoted value, or stands before an escaped character
+abbrev pub is_mark : ℕ → Bool
+is_mark c = c == quote || c == backslash

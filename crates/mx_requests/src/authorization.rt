@@ -2,7 +2,7 @@
 ghost use Rattle.std.specs.Prelude.{◌≡◌, ◌⊎◌, Ok, Err, IfErr, IfOk, Some, fold, map, option_map};
 ghost use Rattle.std.specs.List.{list_any};
 ghost use Rattle.mx_requests.specs.Authorization as definition;
-ghost use Rattle.mx_requests.specs.Reading.{part_shown, reading_of};
+ghost use Rattle.mx_requests.specs.Reading.{is_mark, part_shown, reading_of};
 
 use crate::faults::Fault;
 use mx_ident::ServerName;
@@ -144,10 +144,21 @@ fn read_parts(alloc: Global, text: &str) -> Result<Reader, AllocError>
     ensures { IfOk result (λ reader. reading_of reader ≡ fold definition.feed definition.start text.now) }
 {
     let mut reader = Reader::new(alloc);
-    for character in text.chars() {
-        reader.feed(alloc, character)?;
+    let mut rest = text;
+    while let Some((before, after)) = rest.split_once('"') {
+        reader.read(alloc, before)?;
+        reader.feed(alloc, '"')?;
+        rest = reader.read_quoted(after)?;
     }
+    reader.read(alloc, rest)?;
     Ok(reader)
+}
+
+// Whether a text has what ends a quoted value, or stands before an escaped character.
+fn has_mark(text: &str) -> bool
+    ensures { result ≡ list_any is_mark text.now }
+{
+    text.bytes().any(|byte| byte == b'"' || byte == b'\\')
 }
 
 impl Part {
@@ -165,6 +176,7 @@ impl Part {
 impl HeaderState {
     ghost use Rattle.std.specs.Prelude.{◌≡◌};
     ghost use Rattle.mx_requests.specs.Authorization.{after_value, is_whole, step};
+    ghost use Rattle.mx_requests.specs.Reading.{is_in_quotes};
 
     fn step(self, character: char) -> HeaderAction
         ensures { result ≡ step self character }
@@ -194,6 +206,12 @@ impl HeaderState {
         }
     }
 
+    fn is_in_quotes(self) -> bool
+        ensures { result ≡ is_in_quotes self }
+    {
+        matches!(self, HeaderState::InQuotes)
+    }
+
     // Whether a value is whole here, so that the header may end.
     fn is_whole(self) -> bool
         ensures { result ≡ is_whole self }
@@ -206,7 +224,7 @@ impl HeaderState {
 }
 
 impl Reader {
-    ghost use Rattle.std.specs.Prelude.{◌≡◌, [], IfOk, OnOk, fold, map, option_map};
+    ghost use Rattle.std.specs.Prelude.{◌≡◌, ◌≤◌, [], IfOk, OnOk, fold, length, map, option_map};
     ghost use Rattle.std.specs.Char.{encode_utf8};
     ghost use Rattle.mx_requests.specs.Authorization as definition;
     ghost use Rattle.mx_requests.specs.Reading.{part_shown, reading_of};
@@ -220,6 +238,37 @@ impl Reader {
             name: String::new(alloc),
             value: String::new(alloc),
         }
+    }
+
+    // Reads these characters, one after the other.
+    fn read(&mut self, alloc: Global, text: &str) -> Result<(), AllocError>
+        ensures { OnOk result (reading_of self.new ≡ fold definition.feed (reading_of self.old) text.now) }
+    {
+        for character in text.chars() {
+            self.feed(alloc, character)?;
+        }
+        Ok(())
+    }
+
+    // Reads the rest of a quoted value at once, where it has no escaped character, and its quotation mark. What is left of
+    // the text.
+    fn read_quoted<'t>(&mut self, text: &'t str) -> Result<&'t str, AllocError>
+        ensures shorter { IfOk result (λ rest. length rest.now ≤ length text.now) }
+        ensures read { IfOk result (λ rest. fold definition.feed (reading_of self.new) rest.now
+            ≡ fold definition.feed (reading_of self.old) text.now) }
+    {
+        if !self.place.is_in_quotes() {
+            return Ok(text);
+        }
+        let Some((value, rest)) = text.split_once('"') else {
+            return Ok(text);
+        };
+        if has_mark(value) {
+            return Ok(text);
+        }
+        self.value.push_str(value)?;
+        self.place = HeaderState::AfterQuote;
+        Ok(rest)
     }
 
     // Reads one more character.

@@ -10,6 +10,23 @@ use mx_ident::EventId;
 use mx_pdu::Pdu;
 use serde_json::{Number, Value};
 
+// How many bytes an event id has, with its quotation marks and a comma behind it.
+const ID_LENGTH: usize = 47;
+
+/// How many bytes an array of events has. It is for the size of a buffer: nothing rests on it.
+pub(crate) fn events_length(events: &[Pdu]) -> usize {
+    let mut length: usize = 2;
+    for event in events {
+        length = length.saturating_add(event.text().len()).saturating_add(1);
+    }
+    length
+}
+
+/// How many bytes an array of so many ids has. It is for the size of a buffer: nothing rests on it.
+pub(crate) fn ids_length(count: usize) -> usize {
+    count.saturating_mul(ID_LENGTH).saturating_add(2)
+}
+
 // Gives the sink an array of events.
 pub(crate) fn write_events<S: TextSink>(sink: &mut S, events: &[Pdu])
     ensures { (taken : List ℕ) → S.has_taken sink.old taken

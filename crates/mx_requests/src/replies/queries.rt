@@ -7,7 +7,7 @@ ghost use Rattle.mx_requests.specs.ReplyBodies as definition;
 ghost use Rattle.mx_requests.specs.RepliesShown.{reply_shown};
 
 use crate::faults::{Denial, Fault};
-use crate::replies::pieces::{write_events, write_ids, write_number};
+use crate::replies::pieces::{events_length, ids_length, write_events, write_ids, write_number};
 use crate::replies::{ReplyBody, WireReply, fault_reply};
 use mx_auth::RoomVersion;
 use mx_canon::{TextBuffer, TextSink, write_key, write_object, write_string};
@@ -16,6 +16,11 @@ use mx_pdu::Pdu;
 use mx_room::{Denied, JoinTemplate, Moment, Query, QueryReply};
 use serde_json::{Map, Value};
 use std::alloc::{AllocError, Global};
+
+// How many bytes a body has at most beside its events, its ids and the server's name: keys, brackets and a number.
+const FRAME: usize = 96;
+// How many bytes the body with what a join is to be made of has mostly.
+const USUAL_TEMPLATE: usize = 1024;
 
 /// The reply of the server of this name, at this moment, to a query that was answered so.
 ///
@@ -108,7 +113,10 @@ fn sent_body(
     ensures { IfOk result (λ body.
         body.items ≡ canonical_text (definition.sent_events name.now now events.now)) }
 {
-    let mut body = TextBuffer::new(alloc);
+    let length = events_length(events)
+        .saturating_add(name.as_str().len())
+        .saturating_add(FRAME);
+    let mut body = TextBuffer::with_capacity(alloc, length)?;
     write_sent(&mut body, name, now.milliseconds(), events);
     let bytes = body.into_bytes()?;
     Ok(bytes)
@@ -132,7 +140,10 @@ fn state_body(alloc: Global, state: &[Pdu], auth_chain: &[Pdu]) -> Result<Vec<u8
     ensures { IfOk result (λ body.
         body.items ≡ canonical_text (definition.state_data state.now auth_chain.now)) }
 {
-    let mut body = TextBuffer::new(alloc);
+    let length = events_length(state)
+        .saturating_add(events_length(auth_chain))
+        .saturating_add(FRAME);
+    let mut body = TextBuffer::with_capacity(alloc, length)?;
     write_state(&mut body, state, auth_chain);
     let bytes = body.into_bytes()?;
     Ok(bytes)
@@ -158,7 +169,10 @@ fn state_ids_body(
     ensures { IfOk result (λ body.
         body.items ≡ canonical_text (definition.state_ids_data state.now auth_chain.now)) }
 {
-    let mut body = TextBuffer::new(alloc);
+    let length = ids_length(state.len())
+        .saturating_add(ids_length(auth_chain.len()))
+        .saturating_add(FRAME);
+    let mut body = TextBuffer::with_capacity(alloc, length)?;
     write_state_ids(&mut body, state, auth_chain);
     let bytes = body.into_bytes()?;
     Ok(bytes)
@@ -179,7 +193,8 @@ fn write_state_ids<S: TextSink>(sink: &mut S, state: &[EventId], auth_chain: &[E
 fn chain_body(alloc: Global, auth_chain: &[Pdu]) -> Result<Vec<u8>, AllocError>
     ensures { IfOk result (λ body. body.items ≡ canonical_text (definition.chain_data auth_chain.now)) }
 {
-    let mut body = TextBuffer::new(alloc);
+    let length = events_length(auth_chain).saturating_add(FRAME);
+    let mut body = TextBuffer::with_capacity(alloc, length)?;
     write_chain(&mut body, auth_chain);
     let bytes = body.into_bytes()?;
     Ok(bytes)
@@ -198,7 +213,8 @@ fn write_chain<S: TextSink>(sink: &mut S, auth_chain: &[Pdu])
 fn missing_body(alloc: Global, events: &[Pdu]) -> Result<Vec<u8>, AllocError>
     ensures { IfOk result (λ body. body.items ≡ canonical_text (definition.missing_data events.now)) }
 {
-    let mut body = TextBuffer::new(alloc);
+    let length = events_length(events).saturating_add(FRAME);
+    let mut body = TextBuffer::with_capacity(alloc, length)?;
     write_missing(&mut body, events);
     let bytes = body.into_bytes()?;
     Ok(bytes)
@@ -224,7 +240,7 @@ fn template_body(
         body.items ≡ canonical_text (definition.template_data version (definition.with_origin name.now template))) }
 {
     let event = with_origin(alloc, name, template)?;
-    let mut body = TextBuffer::new(alloc);
+    let mut body = TextBuffer::with_capacity(alloc, USUAL_TEMPLATE)?;
     write_template(&mut body, version, &event);
     let bytes = body.into_bytes()?;
     Ok(bytes)
