@@ -345,15 +345,14 @@ def each_connection(folder: Path) -> None:
     port = free_port()
     with room(folder, "--admin", port, "--threads", "1") as (server, _):
         name = "mx_federd_connections|state="
+        # the connection that made the room is closed
+        figure(port, name + "idle", 0)
         head = b"PUT /_matrix/federation/v1/send/x HTTP/1.1\r\nHost: hub.example\r\nContent-Length: 1000000\r\n\r\n"
         silent, begun = [server.socket() for _ in range(3)], [server.socket() for _ in range(2)]
         for client in begun:
             client.sendall(head + b"x" * 500_000)
-        before = figures(shown(port, "/metrics")[1])
         for state, wanted in (("idle", 3), ("slow", 2), ("busy", 0)):
-            # the connection that made the room may be open
-            if before.get(name + state) != wanted:
-                figure(port, name + state, wanted + (state == "idle") * (before[name + "idle"] > 3))
+            figure(port, name + state, wanted)
         found = figures(shown(port, "/metrics")[1])["mx_federd_held_bytes"]
         assert 900_000 <= found <= 3_000_000, found
         for client in silent + begun:
