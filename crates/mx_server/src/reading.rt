@@ -1,20 +1,17 @@
 // What requests ask for, and which shards they go to.
-use json::Scratch;
 use mx_http::{AskedCall, Claim, HttpReply, HttpRequest, ReadRequest};
 use mx_http_requests::{http_reply, wire_request};
 use mx_keeper::ShardCount;
 use mx_pdu::PresenceVerifier;
 use mx_room::Query;
 use mx_wire::{
-    CallShards, Fault, RequestReply, WireCall, WireRequest, WireServer, read_call, refuse_request,
+    CallShards, RequestReply, WireCall, WireRequest, WireServer, read_call, refuse_request,
     shards_of,
 };
 use std::alloc::Global;
 
 // How many bytes a body has that is read in a moment.
 const SHORT_BODY: usize = 1024;
-// How many bytes a body has at most that is read over a scratch that is kept: it keeps as many.
-const LONGEST_OVER_KEPT: usize = 65_536;
 // The status where the request has another method than its target.
 const METHOD_NOT_ALLOWED: u16 = 405;
 
@@ -38,15 +35,10 @@ impl RequestReader {
         }
     }
 
-    /// What a request asks for, or the reply that tells its fault. The scratch is kept from request to request.
-    pub fn read(
-        &self,
-        alloc: Global,
-        scratch: &mut Scratch,
-        request: HttpRequest,
-    ) -> ReadRequest<WireCall> {
+    /// What a request asks for, or the reply that tells its fault.
+    pub fn read(&self, alloc: Global, request: HttpRequest) -> ReadRequest<WireCall> {
         let request = wire_request(request);
-        match self.call_of(alloc, scratch, &request) {
+        match read_call(alloc, &self.server, &PresenceVerifier, &request) {
             Ok(call) => ReadRequest::Asking(AskedCall {
                 claim: claim_of(shards_of(&call, self.shards)),
                 is_quick: is_quick(&call),
@@ -59,27 +51,6 @@ impl RequestReader {
                 ReadRequest::Refused(refusal)
             }
         }
-    }
-
-    // What a request asks for, or its first fault. A long body is read over a scratch of its own, so that the one that is
-    // kept stays small.
-    fn call_of(
-        &self,
-        alloc: Global,
-        kept: &mut Scratch,
-        request: &WireRequest,
-    ) -> Result<WireCall, Fault> {
-        if request.body.len() <= LONGEST_OVER_KEPT {
-            return read_call(alloc, kept, &self.server, &PresenceVerifier, request);
-        }
-        let mut scratch = Scratch::new(alloc);
-        read_call(
-            alloc,
-            &mut scratch,
-            &self.server,
-            &PresenceVerifier,
-            request,
-        )
     }
 
     // Where the target of a request has another method, that is told. Where no memory is left for it, it is not.

@@ -379,8 +379,7 @@ where
         let answer = move |alloc: Global, now: Moment, call: WireCall| {
             worker.answer(&runtime, alloc, now, call)
         };
-        let reader = Arc::try_clone(&reader)?;
-        let handler = Handler::new(rt.alloc(), reader, desk, runtime, answer);
+        let handler = Handler::new(Arc::try_clone(&reader)?, desk, runtime, answer);
         if loops.len() < crew.loops() {
             loops.push(handler).map_err(AllocError::from)?;
         } else {

@@ -8,7 +8,6 @@ ghost use Rattle.mx_wire.specs.Responses.{IsCallAnswered, IsCallRefused, unavail
 
 use crate::reading::RequestReader;
 use bytes::Bytes;
-use json::Scratch;
 use mx_admin::DeskThread;
 use mx_answer_records::{Answered, CallAbout, RequestAbout, note_answer};
 use mx_directory::RowFiles;
@@ -190,8 +189,6 @@ pub struct NotedCall {
 #[derive(Drop)]
 pub struct Handler<F: Drop, C: Drop> {
     reader: Arc<RequestReader>,
-    // What bodies are read over.
-    scratch: Scratch,
     desk: DeskThread,
     // The clock of what is noted.
     clock: C,
@@ -201,18 +198,11 @@ pub struct Handler<F: Drop, C: Drop> {
 }
 
 impl<F: Drop, C: Wait + Clock + Drop> Handler<F, C> {
-    pub fn new(
-        alloc: Global,
-        reader: Arc<RequestReader>,
-        desk: DeskThread,
-        clock: C,
-        answer: F,
-    ) -> Handler<F, C>
+    pub fn new(reader: Arc<RequestReader>, desk: DeskThread, clock: C, answer: F) -> Handler<F, C>
         ensures { result.answer ≡ answer }
     {
         Handler {
             reader,
-            scratch: Scratch::new(alloc),
             desk,
             clock,
             answer,
@@ -272,9 +262,9 @@ impl<F: FnMut(Global, Moment, WireCall) -> AnsweredRequest + Drop, C: Wait + Clo
         self.reader.is_short(request)
     }
 
-    fn read(&mut self, alloc: Global, request: HttpRequest) -> ReadRequest<NotedCall> {
+    fn read(&self, alloc: Global, request: HttpRequest) -> ReadRequest<NotedCall> {
         let about = RequestAbout::of(&self.clock, request.method.as_str(), &request.target);
-        match self.reader.read(alloc, &mut self.scratch, request) {
+        match self.reader.read(alloc, request) {
             ReadRequest::Refused(reply) => {
                 ReadRequest::Refused(self.noted(alloc, about, None, reply))
             }
