@@ -12,6 +12,6 @@ loop-before-preserved c =
     let found = rw c.in-Some.is at (split_once_first 34 text c.split_once.result c.split_once.ensures.cases (lit< tt)) in (
       search rules,
       read_past (reading_of c.loop-before.reader) (reading_of c.read.new.self) (reading_of c.feed.new.self) (reading_of c.read_quoted.new.self) text before after c.in_ok-rest.rest.now
-      (split_at_quote text before after found.0 found.1 found.2) c.in_ok-read.ensures c.in_ok-feed.ensures c.in_ok-rest.ensures.read
-      ∙ c.loop-before.invariant.1,
+          (split_at_quote text before after found.0 found.1 found.2) c.in_ok-read.ensures c.in_ok-feed.ensures c.in_ok-rest.ensures.read
+          ∙ c.loop-before.invariant.1,
     )
