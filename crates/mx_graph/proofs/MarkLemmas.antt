@@ -6,7 +6,7 @@ use Rattle.std.proofs.lemmas.Bool.Decides.{nat_tests}
 use Rattle.std.specs.Prelude.{slice_index_or, Vec}
 use Rattle.std.specs.declared.alloc.Global.{Global}
 use Rattle.std.specs.List.{list_any}
-use Rattle.mx_graph.specs.Closing.{IsMarked}
+use Rattle.mx_graph.specs.Closing.{AreCitedBelow, IsMarked}
 use Rattle.mx_graph.specs.Edges.{LeadDown, cited}
 use Rattle.mx_graph.specs.Graph.{IsLeastClosed}
 use Rattle.mx_graph.specs.Record.{is_in}
@@ -147,11 +147,11 @@ module _ (cites : ℕ → List ℕ) (starts : List ℕ) (least m : ℕ) (marks :
             ap (λ b. b || is_in taken p) g ∙ walk.reached all closed p (omega arith)
 
 -- at first nothing is taken: no number that is left out is reached
-pub walk-begins : (cites : ℕ → List ℕ) (starts : List ℕ) (least n : ℕ) (old marks : List Bool) → LeadDown cites → ((x : ℕ) → n ≤ x → cites x ≡ []) → length marks ≡ n - least
+pub walk-begins : (cites : ℕ → List ℕ) (starts : List ℕ) (least n : ℕ) (old marks : List Bool) → LeadDown cites → AreCitedBelow cites starts n → length marks ≡ n - least
     → ((q : ℕ) → slice_index_or old q false ≡ false) → length old ≡ length marks
     → ((q : ℕ) → slice_index_or marks q false ≡ (slice_index_or old q false || (nat_lt q (length old) && list_any (λ s. is_in (cites s) (least + q)) starts)))
     → IsMarked cites starts least (length marks) marks []
-walk-begins cites starts least n old marks down none len empty same marked = record {
+walk-begins cites starts least n old marks down within len empty same marked = record {
   in_range = omega arith;
   marked = λ q. marked q ∙ ap (λ b. b || (nat_lt q (length old) && list_any (λ s. is_in (cites s) (least + q)) starts)) (empty q) ∙ ap (λ k. nat_lt q k && list_any (λ s. is_in (cites s) (least + q)) starts) same
       ∙ ap (λ b. nat_lt q (length marks) && b) (or-none (list_any (λ s. is_in (cites s) (least + q)) starts));
@@ -164,12 +164,16 @@ walk-begins cites starts least n old marks down none len empty same marked = rec
     or-none true = refl
     or-none false = refl
 
-    -- no event cites a number that is beyond all events
+    second : (a b : Bool) → (a && b) ≡ true → b ≡ true
+    second true b f = f
+    second false b f = absurd (cc f)
+
+    -- no number from the bound on is reached
     beyond : (all : ℕ → Bool) → IsLeastClosed cites starts all → (p : ℕ) → n ≤ p → false ≡ all p
     beyond all closed p l = by (all p) refl
       where
         inside : (x y : ℕ) → (is_in starts x || (all x && nat_lt x n)) ≡ true → is_in (cites x) y ≡ true → (all y && nat_lt y n) ≡ true
-        inside x y h c = both (all y) (nat_lt y n) (closed.0 x y (wider (is_in starts x) (all x) (nat_lt x n) h) c) (lt-ltb y n (low (cases_lt x n)))
+        inside x y h c = both (all y) (nat_lt y n) (closed.0 x y (wider (is_in starts x) (all x) (nat_lt x n) h) c) (lt-ltb y n (low (or_cases (is_in starts x) (all x && nat_lt x n) h)))
           where
             both : (a b : Bool) → a ≡ true → b ≡ true → (a && b) ≡ true
             both true b e f = f
@@ -180,17 +184,16 @@ walk-begins cites starts least n old marks down none len empty same marked = rec
             wider false true d e = refl
             wider false false d e = e
 
-            low : (x < n) ⊎ (n ≤ x) → y < n
-            low (inl k) = let m : y < x = down x y c in omega arith
-            low (inr k) = absurd (cc (sym (ap (λ zs. is_in zs y) (none x k)) ∙ c))
+            ltb-below : nat_lt x n ≡ true → x < n
+            ltb-below e = grind (arith, nat_tests)
+
+            low : (is_in starts x ≡ true) ⊎ ((all x && nat_lt x n) ≡ true) → y < n
+            low (inl k) = within x y k c
+            low (inr k) = let m : y < x = down x y c in let l : x < n = ltb-below (second (all x) (nat_lt x n) k) in omega arith
 
         by : (b : Bool) → all p ≡ b → false ≡ all p
         by true e = absurd (cc (sym (second (all p) (nat_lt p n) (closed.1 (λ q. all q && nat_lt q n) inside p e)) ∙ not-below))
           where
-            second : (a b : Bool) → (a && b) ≡ true → b ≡ true
-            second true b f = f
-            second false b f = absurd (cc f)
-
             not-below : nat_lt p n ≡ false
             not-below = grind (arith, nat_tests)
         by false e = sym e
@@ -220,6 +223,14 @@ pub cited-none : (edges : List (Vec ℕ Global)) (x : ℕ) → length edges ≤ 
 cited-none [] x l = refl
 cited-none (e ∷ edges) zero l = absurd (omega arith)
 cited-none (e ∷ edges) (suc x) l = cited-none edges x (omega arith)
+
+-- nothing that leads down leads to a number beyond all lists
+pub cited-within : (edges : List (Vec ℕ Global)) (starts : List ℕ) → LeadDown (cited edges) → AreCitedBelow (cited edges) starts (length edges)
+cited-within edges starts down x y s e = by (cases_lt x (length edges))
+  where
+    by : (x < length edges) ⊎ (length edges ≤ x) → y < length edges
+    by (inl l) = let m : y < x = down x y e in omega arith
+    by (inr l) = absurd (cc (sym (ap (λ zs. is_in zs y) (cited-none edges x l)) ∙ e))
 
 pub cited-here : (edges : List (Vec ℕ Global)) (x : ℕ) (d : Vec ℕ Global) → x < length edges → cited edges x ≡ (slice_index_or edges x d).items
 cited-here [] x d l = absurd (omega arith)

@@ -79,12 +79,18 @@ rising-filter a (suc n) (x ∷ xs) r h = by (λ ys s k. rising-filter (a + 1) n 
 
 -- ---- what is reached
 
-pub reached-rising : (rows : List Row) (cites other : ℕ → List ℕ) (starts found : List ℕ) → CitesDown rows cites → ((p : ℕ) → other p ≡ cites p) → Rises found → IsLeastClosed other starts (is_in found) → found ≡ reached rows cites starts
-reached-rising rows cites other starts found down same rises least =
+pub reached-rising : (rows : List Row) (cites other : ℕ → List ℕ) (starts found : List ℕ) → CitesDown rows cites → ((p : ℕ) → other p ≡ cites p) → Rises found → ((all : ℕ → Bool) → IsLeastClosed other starts all → (p : ℕ) → is_in found p ≡ all p) → found ≡ reached rows cites starts
+reached-rising rows cites other starts found down same rises is_all =
     sym (rising-filter 0 (length rows) found rises (λ y e. (omega arith, in_rows y e))) ∙ reached-by rows cites starts (is_in found) down closed
   where
+    all : ℕ → Bool
+    all = is_in (reached rows cites starts)
+
+    agrees : (p : ℕ) → is_in found p ≡ all p
+    agrees = is_all all (subst (λ f. IsLeastClosed f starts all) (λ i p. sym (same p) i) (reached-is_least rows cites starts down))
+
     closed : IsLeastClosed cites starts (is_in found)
-    closed = subst (λ f. IsLeastClosed f starts (is_in found)) (λ i p. same p i) least
+    closed = subst (IsLeastClosed cites starts) (λ i p. sym (agrees p) i) (reached-is_least rows cites starts down)
 
     inside : ℕ → Bool
     inside y = nat_lt y (length rows)

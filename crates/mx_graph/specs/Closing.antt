@@ -1,10 +1,14 @@
 -- For proofs and private clauses alone.
 -- A walk over marks, from the last number down: what was taken so far, and what is marked.
-use Rattle.std.specs.Prelude.{◌≡◌, ◌≤◌, ◌+◌, ◌||◌, ◌&&◌, ℕ, Bool, true, false, List, length, nat_lt, slice_index_or}
+use Rattle.std.specs.Prelude.{◌≡◌, ◌<◌, ◌≤◌, ◌+◌, ◌||◌, ◌&&◌, ℕ, Bool, true, false, List, length, nat_lt, slice_index_or}
 use Rattle.std.specs.List.{list_any}
 use Rattle.mx_graph.specs.Edges.{Rises}
 use Rattle.mx_graph.specs.Graph.{IsLeastClosed}
 use Rattle.mx_graph.specs.Record.{is_in}
+
+-- what each start cites is below a bound
+abbrev pub AreCitedBelow : (ℕ → List ℕ) → List ℕ → ℕ → Type 0
+AreCitedBelow cites starts bound = (x y : ℕ) → is_in starts x ≡ true → is_in (cites x) y ≡ true → y < bound
 
 -- marked is what a start or an event that was taken cites; taken is, from a number on, all that is reached
 pub record IsMarked (cites : ℕ → List ℕ) (starts : List ℕ) (least left : ℕ) (marks : List Bool) (taken : List ℕ) : Type 0 where

@@ -1,19 +1,92 @@
 // What citations lead to.
-ghost use Rattle.std.specs.Prelude.{◌≡◌, ◌||◌, ℕ, IfOk, OnOk, reverse};
+ghost use Rattle.std.specs.Prelude.{◌≡◌, ◌<◌, ◌≤◌, ◌^◌, ◌||◌, Bool, ℕ, IfOk, OnOk, reverse, true};
 ghost use Rattle.std.specs.Ordering.{nat_cmp};
 ghost use Rattle.std.specs.BTreeSet.{contains};
 ghost use Rattle.std.specs.List.{list_any};
+ghost use Rattle.mx_graph.specs.Closing.{AreCitedBelow};
 ghost use Rattle.mx_graph.specs.Edges.{cited, LeadDown, Rises, IsAllFrom};
 ghost use Rattle.mx_graph.specs.Graph.{IsLeastClosed};
 ghost use Rattle.mx_graph.specs.Record.{is_in};
 
+use crate::closing_above::reached_between;
 use crate::numbers::EventNo;
 use std::alloc::{AllocError, Global};
 use std::collections::BTreeSet;
 
+// How many rows are gone through for each citation of the starts, at most: an event that waits in a set costs as much.
+const ROWS_FOR_ONE: usize = 16;
+
 // The events that one citation or more lead to from the starts, rising. It costs the edges below them, times a
-// logarithm: the events that wait for their citations are taken from the last one down, so that each comes up once.
+// logarithm, and where the starts cite many events, or early ones alone, a few steps for each edge.
 pub fn reached(
+    alloc: Global,
+    edges: &[Vec<EventNo>],
+    starts: &[EventNo],
+) -> Result<Vec<EventNo>, AllocError>
+    requires { LeadDown (cited edges.now) }
+    ensures rises { IfOk result (λ found. Rises found.items) }
+    ensures all { IfOk result (λ found. (all : ℕ → Bool) → IsLeastClosed (cited edges.now) starts.now all
+        → (p : ℕ) → is_in found.items p ≡ all p) }
+{
+    let bound = bound_of_starts(edges, starts);
+    if bound <= citations_of(edges, starts).saturating_mul(ROWS_FOR_ONE) {
+        let by_marks = reached_between(alloc, edges, starts, 0, bound)?;
+        return Ok(by_marks);
+    }
+    let by_set = reached_by_set(alloc, edges, starts)?;
+    Ok(by_set)
+}
+
+// A number above all that the starts cite.
+fn bound_of_starts(edges: &[Vec<EventNo>], starts: &[EventNo]) -> usize
+    ensures few { result ≤ 2 ^ 32 }
+    ensures within { AreCitedBelow (cited edges.now) starts.now result }
+{
+    let mut bound = 0;
+    for start in starts {
+        bound = bound.max(bound_of_cited(edges, *start));
+    }
+    bound
+}
+
+// A number above all that an event cites.
+fn bound_of_cited(edges: &[Vec<EventNo>], event: EventNo) -> usize
+    ensures few { result ≤ 2 ^ 32 }
+    ensures within { (p : ℕ) → is_in (cited edges.now event) p ≡ true → p < result }
+{
+    if event.index() < edges.len() {
+        bound_of(&edges[event.index()])
+    } else {
+        0
+    }
+}
+
+// A number above each of these.
+fn bound_of(events: &[EventNo]) -> usize
+    ensures few { result ≤ 2 ^ 32 }
+    ensures within { (p : ℕ) → is_in events.now p ≡ true → p < result }
+{
+    let mut bound = 0;
+    for event in events {
+        bound = bound.max(event.index() + 1);
+    }
+    bound
+}
+
+// How many events the starts cite, each as often as it is cited.
+fn citations_of(edges: &[Vec<EventNo>], starts: &[EventNo]) -> usize {
+    let mut count: usize = 0;
+    for start in starts {
+        if start.index() < edges.len() {
+            count = count.saturating_add(edges[start.index()].len());
+        }
+    }
+    count
+}
+
+// The events that one citation or more lead to from the starts, rising. The events that wait for their citations are
+// taken from the last one down, so that each comes up once.
+fn reached_by_set(
     alloc: Global,
     edges: &[Vec<EventNo>],
     starts: &[EventNo],

@@ -1,6 +1,7 @@
-// What citations lead to, down to a number.
-ghost use Rattle.std.specs.Prelude.{◌≡◌, ◌==◌, ◌<◌, ◌+◌, ◌^◌, ◌&&◌, ◌||◌, Bool, ℕ, IfOk, length, nat_le, nat_lt, reverse, slice_index_or, false, true};
+// What citations lead to, down to a number, by a mark for each row.
+ghost use Rattle.std.specs.Prelude.{◌≡◌, ◌==◌, ◌<◌, ◌≤◌, ◌+◌, ◌^◌, ◌&&◌, ◌||◌, Bool, ℕ, IfOk, length, nat_le, nat_lt, reverse, slice_index_or, false, true};
 ghost use Rattle.std.specs.List.{list_any};
+ghost use Rattle.mx_graph.specs.Closing.{AreCitedBelow};
 ghost use Rattle.mx_graph.specs.Edges.{cited, LeadDown, Rises};
 ghost use Rattle.mx_graph.specs.Graph.{IsLeastClosed};
 ghost use Rattle.mx_graph.specs.Record.{is_in};
@@ -22,16 +23,36 @@ pub fn reached_above(
     ensures part { IfOk result (λ found. (all : ℕ → Bool) → IsLeastClosed (cited edges.now) starts.now all
         → (p : ℕ) → is_in found.items p ≡ (nat_le least p && all p)) }
 {
-    let mut marks = unmarked(alloc, edges.len().saturating_sub(least))?;
+    let found = reached_between(alloc, edges, starts, least, edges.len())?;
+    Ok(found)
+}
+
+// The same where all that the starts cite is below the bound. It costs the edges of these events, and a few steps for each
+// number from the bound down to the least.
+pub fn reached_between(
+    alloc: Global,
+    edges: &[Vec<EventNo>],
+    starts: &[EventNo],
+    least: usize,
+    bound: usize,
+) -> Result<Vec<EventNo>, AllocError>
+    requires down { LeadDown (cited edges.now) }
+    requires few { bound ≤ 2 ^ 32 }
+    requires within { AreCitedBelow (cited edges.now) starts.now bound }
+    ensures rises { IfOk result (λ found. Rises found.items) }
+    ensures part { IfOk result (λ found. (all : ℕ → Bool) → IsLeastClosed (cited edges.now) starts.now all
+        → (p : ℕ) → is_in found.items p ≡ (nat_le least p && all p)) }
+{
+    let mut marks = unmarked(alloc, bound.saturating_sub(least))?;
     mark_starts(&mut marks, edges, starts, least);
     let mut found = Vec::new(alloc);
     let mut left = marks.len();
     while left > 0 {
         left -= 1;
-        let place = least + left;
         if marks[left] {
-            found.push(EventNo::at(place as u32))?;
-            mark(&mut marks, &edges[place], least);
+            let event = EventNo::at((least + left) as u32);
+            found.push(event)?;
+            mark_cited(&mut marks, edges, event, least);
         }
     }
     found.reverse();

@@ -17,7 +17,7 @@ unfolding ancestors
 returns-clause-set c =
     rw (← c.self.view_is)
     (reached-rising c.self.inside.rows.items (λ p. prev_events c.self.inside.rows.items (event c.self.inside.rows.items p)) (cited c.deref.result.now) c.args.starts.now c.in_ok-found.found.items
-    c.self.invariant.prev_down (λ p. ap (λ e. cited e p) c.deref.ensures.value ∙ c.self.invariant.prev_edges p) c.in_ok-found.ensures.rises c.in_ok-found.ensures.least)
+    c.self.invariant.prev_down (λ p. ap (λ e. cited e p) c.deref.ensures.value ∙ c.self.invariant.prev_edges p) c.in_ok-found.ensures.rises c.in_ok-found.ensures.all)
 
 pub returns-clause-below : goal.returns-clause-below
 unfolding ancestors
