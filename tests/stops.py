@@ -1,32 +1,29 @@
 #!/usr/bin/env python3
-"""`mx_federd serve` is ended at each write of a file in turn, with what was written until then, or with all that was not
-brought to the disk lost, and has its calls on files and on connections fail one at a time. Each time it is started
+"""`mx_federd serve` is ended at each write of a file in turn, with what was written until then, or with all or some of what
+was not brought to the disk lost, and has its calls on files and on connections fail one at a time. Each time it is started
 again, and asked what it had answered, and for what it had not. tests/faults/fail_call.c ends the program and makes the calls
-fail."""
+fail; lost_power.py says what a loss of power leaves."""
 
 import contextlib
-import http.client
 import json
 import os
+import random
 import shutil
 import signal
-import sqlite3
 import sys
 import tempfile
 import time
-from collections.abc import Callable, Sequence
+from collections.abc import Iterator, Sequence
 from pathlib import Path
-from types import SimpleNamespace
-from typing import Any
 
 from suite import TOP, run_tests
 from event_logs import Base, Log, quoted, state_path
-from make_first import transactions
-from matrix_events import A, ACCEPTED, B, D, Event, canonical, create, error, event, id_of, join, message
+from exchanges import STORAGE, Exchange, ExchangeOfTwoRooms, LongExchange, OldExchange, rows_in_copy
+from lost_power import Loss, bring_all, lose_all, losing_some
+from matrix_events import A, ACCEPTED, B, D, canonical, error, event, id_of, message
 from program import compiled
 from running_server import SECONDS, Refused, Reply, Request, Server, getting, host_line, sending, serving
 
-STORAGE = 503, b'{"errcode":"M_UNKNOWN","error":"storage"}'
 # An exchange with more writes or more calls on connections than this fails its test.
 MOST_CALLS = 1_000
 
@@ -54,131 +51,54 @@ class FailingServer(Server):
         return int(self.count.read_text())
 
 
-class Exchange:
-    """The events of the rows' room in a transaction, and then one of two messages, t1."""
-
-    # Options of its server.
-    words: Sequence[object] = ()
-
-    def __init__(self) -> None:
-        base = self.base = Base(Log())
-        self.hosts = [host_line(base.create)]
-        first = message(B, [base.join_c], base.of_b, "first")
-        self.said = [first, message(B, [first], base.of_b, "second")]
-        events = [base.join_a, base.levels, base.rules, base.join_b, base.join_c]
-        self.first, self.second = sending("a.example", "base", events), sending("b.example", "t1", self.said)
-        self.events = {"base": events, "t1": self.said}
-        self.sent = {"base": self.first, "t1": self.second}
-
-    def reply_to(self, txn: str) -> Reply:
-        """The reply to a transaction of events that are all accepted."""
-        return 200, canonical({"pdus": {id_of(made): ACCEPTED for made in self.events[txn]}})
-
-    def ask(self, server: Server) -> dict[str, Reply]:
-        """The replies of a server, until it is gone."""
-        replies: dict[str, Reply] = {}
-        with contextlib.suppress(OSError, http.client.HTTPException):
-            for txn, request in self.sent.items():
-                replies[txn] = server.ask(*request)
-        return replies
-
-    def check_again(self, data: Path, replies: dict[str, Reply]) -> None:
-        """A server over what was left: each start works, each answered reply comes again, with no event sent, and what was
-        not answered is answered as if it were sent once, whatever of it was kept."""
-        with serving(data, *self.words, hosts=self.hosts) as server:
-            for txn, reply in replies.items():
-                assert reply in (self.reply_to(txn), STORAGE), (txn, reply)
-                if reply != STORAGE:
-                    assert server.ask(*self.empty(txn)) == reply, txn
-            for txn, request in self.sent.items():
-                assert server.ask(*request) == self.reply_to(txn), txn
-                assert server.ask(*self.empty(txn)) == self.reply_to(txn), txn
-            for made in self.said:
-                shown = server.ask(*getting("b.example", "v1/event/" + quoted(id_of(made))))
-                assert json.loads(shown[1])["pdus"] == [made], shown
-        for name, kept in self.kept().items():
-            rows = [row for row, in rows_in_copy(data, name, "SELECT event FROM kept2 ORDER BY place")]
-            assert rows == [canonical(made).decode() for made in kept], rows
-
-    def kept(self) -> dict[str, list[Event]]:
-        """What each shard's file has in the end."""
-        return {"shard-0.db": [self.base.create, *self.events["base"], *self.events["t1"]]}
-
-    def empty(self, txn: str) -> Request:
-        """The request of a transaction with its events left out."""
-        return sending("a.example" if txn == "base" else "b.example", txn, [])
+@contextlib.contextmanager
+def new_directory(folder: Path) -> Iterator[Path]:
+    """A directory of a server that is not there yet, and is taken away at the end."""
+    with tempfile.TemporaryDirectory(dir=folder) as place:
+        yield Path(place) / "data"
 
 
-class ExchangeOfTwoRooms(Exchange):
-    """The same, where t1 has its second message in another room, in a shard of its own."""
-
-    words = ("--shards", 2)
-
-    def __init__(self) -> None:
-        super().__init__()
-        room = "!s:a.example"
-        self.other = create(room=room)
-        joined = join(A, [self.other], [self.other], room=room)
-        public = event("m.room.join_rules", A, [joined], [self.other, joined], {"join_rule": "public"}, "", room=room)
-        self.others = [joined, public, join(B, [public], [self.other, public], room=room)]
-        self.hosts.append(host_line(self.other))
-        self.said[1] = message(B, self.others[2:], [self.other, self.others[2]], "second", room=room)
-        self.events = {"base": [*self.events["base"], *self.others], "t1": self.said}
-        self.first, self.second = sending("a.example", "base", self.events["base"]), sending("b.example", "t1", self.said)
-        self.sent = {"base": self.first, "t1": self.second}
-
-    def kept(self) -> dict[str, list[Event]]:
-        """What each shard's file has in the end."""
-        base = self.events["base"][:-len(self.others)]
-        return {
-            "shard-0.db": [self.base.create, *base, self.said[0]], "shard-1.db": [self.other, *self.others, self.said[1]],
-        }
+def ended_run(data: Path, how: str, number: int, exchange: Exchange, **more: object) -> tuple[dict[str, Reply], bool]:
+    """Asks a server that is ended at this write: its replies, and whether it met the write."""
+    try:
+        server = FailingServer(data, "file", how, number, exchange.hosts, exchange.words, **more)
+    except Refused as refused:
+        assert refused.args[0] == -signal.SIGKILL, refused.args
+        return {}, True
+    replies = exchange.ask(server)
+    ended = server.process.poll() is not None or len(replies) < len(exchange.sent)
+    server.stop()
+    return replies, ended
 
 
-def rows_in_copy(data: Path, file: str, statement: str) -> list[tuple[Any, ...]]:
-    """Rows of a file as it stands, which a running server has locked: of a copy."""
-    with tempfile.TemporaryDirectory() as folder:
-        for name in (file, file + "-wal"):
-            if (data / name).exists():
-                shutil.copy(data / name, folder)
-        with contextlib.closing(sqlite3.connect(Path(folder) / file)) as connection:
-            return connection.execute(statement).fetchall()
+def ended_start(data: Path, how: str, number: int, exchange: Exchange, **more: object) -> bool:
+    """Starts a server that is ended at this write, and asks it nothing: whether it met the write."""
+    try:
+        FailingServer(data, "file", how, number, words=exchange.words, **more).stop()
+    except Refused as refused:
+        assert refused.args[0] == -signal.SIGKILL, refused.args
+        return True
+    return False
 
 
-def files_and_synced(data: Path) -> list[tuple[Path, bytes]]:
-    """Each file, and what it was when it was last brought to the disk: nothing where it never was."""
-    files = []
-    for file in sorted([*data.glob("*.db"), *data.glob("*.db-wal")]):
-        synced = file.with_name(file.name + ".synced")
-        files.append((file, synced.read_bytes() if synced.exists() else b""))
-    for synced in data.glob("*.synced"):
-        synced.unlink()
-    return files
+def check_left(data: Path, exchange: Exchange, replies: dict[str, Reply], number: int) -> None:
+    """What was left at this write, which is told where something is wrong."""
+    try:
+        exchange.check_again(data, replies)
+    except Exception as failed:
+        failed.add_note("ended at write %d, %d transactions answered" % (number, len(replies)))
+        raise
 
 
-def lose_all(data: Path, _number: int) -> None:
-    """Each file is as it was when it was last brought to the disk."""
-    for file, synced in files_and_synced(data):
-        file.write_bytes(synced)
-
-
-def check_ended_at_each_write(folder: Path, how: str, lose: Callable[[Path, int], None] | None = None,
-                              exchange: Exchange | None = None) -> int:
+def check_ended_at_each_write(folder: Path, how: str, exchange: Exchange, lose: Loss | None = None) -> int:
     """Counts upwards until no write is met any more: how many there were."""
-    exchange = exchange or Exchange()
     more = {"FAIL_CALL_SYNCED": 1} if lose else {}
     for number in range(1, MOST_CALLS):
-        data, replies, ended = folder / f"{how}{number}", {}, True
-        try:
-            server = FailingServer(data, "file", how, number, exchange.hosts, exchange.words, **more)
-            replies = exchange.ask(server)
-            ended = server.process.poll() is not None or len(replies) < 2
-            server.stop()
-        except Refused as refused:
-            assert refused.args[0] == -signal.SIGKILL, refused.args
-        if lose:
-            lose(data, number)
-        exchange.check_again(data, replies)
+        with new_directory(folder) as data:
+            replies, ended = ended_run(data, how, number, exchange, **more)
+            if lose:
+                lose(data, number)
+            check_left(data, exchange, replies, number)
         if not ended:
             return number - 1
     raise AssertionError("too many writes")
@@ -186,32 +106,37 @@ def check_ended_at_each_write(folder: Path, how: str, lose: Callable[[Path, int]
 
 def ended_at_each_write(folder: Path) -> None:
     """The program is ended before each write in turn, from its first start on, in the middle of it, and after it."""
-    counts = [check_ended_at_each_write(folder, how) for how in ("stop", "torn", "done")]
+    counts = [check_ended_at_each_write(folder, how, Exchange()) for how in ("stop", "torn", "done")]
     assert min(counts) >= 30, counts
     print("ended at %d writes" % sum(counts))
 
 
 def ended_at_each_write_of_two_shards(folder: Path) -> None:
     """The program, whose two shards and two books are written side by side, is ended before each write of a file in turn."""
-    count = check_ended_at_each_write(folder, "stop", exchange=ExchangeOfTwoRooms())
+    count = check_ended_at_each_write(folder, "stop", ExchangeOfTwoRooms())
     assert count >= 100, count
     print("ended at %d writes" % count)
 
 
-def check_ended_starts(folder: Path, whole: Path, exchange: Exchange, replies: dict[str, Reply], how: str) -> int:
+def check_ended_starts(folder: Path, whole: Path, exchange: Exchange, replies: dict[str, Reply], how: str,
+                       lose: Loss | None = None) -> int:
     """Ends a start over a copy of a directory at each write: how many there were."""
     for number in range(1, MOST_CALLS):
-        data, ended = folder / f"{how}{number}", False
-        shutil.copytree(whole, data)
-        try:
-            FailingServer(data, "file", how, number).stop()
-        except Refused as refused:
-            assert refused.args[0] == -signal.SIGKILL, refused.args
-            ended = True
-        exchange.check_again(data, replies)
+        with new_directory(folder) as data:
+            shutil.copytree(whole, data)
+            ended = lost_start(data, how, number, exchange, lose) if lose else ended_start(data, how, number, exchange)
+            check_left(data, exchange, replies, number)
         if not ended:
             return number - 1
     raise AssertionError("too many writes")
+
+
+def lost_start(data: Path, how: str, number: int, exchange: Exchange, lose: Loss, **more: object) -> bool:
+    """The same as `ended_start`, over files that are on the disk, and what was not brought there until then is lost."""
+    bring_all(data)
+    ended = ended_start(data, how, number, exchange, FAIL_CALL_SYNCED=1, **more)
+    lose(data, number)
+    return ended
 
 
 def ended_at_each_write_of_a_start(folder: Path) -> None:
@@ -221,19 +146,6 @@ def ended_at_each_write_of_a_start(folder: Path) -> None:
         replies = exchange.ask(server)
     counts = [check_ended_starts(folder, whole, exchange, replies, how) for how in ("stop", "torn", "done")]
     assert min(counts) >= 5, counts
-
-
-class OldExchange(Exchange):
-    """What the first layout's example was answered, and what a server over it answers."""
-
-    def __init__(self) -> None:
-        create, self.events = transactions()
-        self.base, self.hosts, self.said = SimpleNamespace(create=create), [], self.events["t1"]
-        self.sent = {txn: sending("a.example", txn, made) for txn, made in self.events.items()}
-
-    def empty(self, txn: str) -> Request:
-        """The request of a transaction with its events left out."""
-        return sending("a.example", txn, [])
 
 
 def ended_at_each_write_of_a_move(folder: Path) -> None:
@@ -247,9 +159,83 @@ def ended_at_each_write_of_a_move(folder: Path) -> None:
 
 def power_lost_at_each_write(folder: Path) -> None:
     """The program is ended before each write in turn, and what was not brought to the disk until then is gone."""
-    count = check_ended_at_each_write(folder, "stop", lose_all)
+    count = check_ended_at_each_write(folder, "stop", Exchange(), lose_all)
     assert count >= 30, count
     print("power lost at %d writes" % count)
+
+
+def power_lost_in_part_at_each_write(folder: Path) -> None:
+    """The program over two shards is ended behind each write in turn, and some of what was not brought to the disk until then is
+    gone, whichever was written first. The same happens to the next start, at some write."""
+    exchange, chance, lose_some = ExchangeOfTwoRooms(), random.Random(1), losing_some(1)
+
+    def lose_twice(data: Path, number: int) -> None:
+        lose_some(data, number)
+        lost_start(data, "done", chance.randrange(1, 150), exchange, lose_some)
+
+    count = check_ended_at_each_write(folder, "done", exchange, lose_twice)
+    assert count >= 100, count
+    print("power lost in part at %d writes" % count)
+
+
+def power_lost_in_part_in_a_start(folder: Path) -> None:
+    """Some of what was not brought to the disk is gone at each write of a start over files whose logs are copied, and of one over
+    files of the first layout."""
+    exchange, whole = Exchange(), folder / "whole"
+    with serving(whole, hosts=exchange.hosts) as server:
+        replies = exchange.ask(server)
+    counts = [check_ended_starts(folder, whole, exchange, replies, "done", losing_some(2))]
+    old, whole = OldExchange(), TOP / "examples/layouts/first"
+    replies = {txn: old.reply_to(txn) for txn in old.events}
+    counts.append(check_ended_starts(folder, whole, old, replies, "done", losing_some(3)))
+    assert min(counts) >= 20, counts
+    print("power lost in part at %d writes" % sum(counts))
+
+
+def power_lost_in_part_at_a_copy(folder: Path) -> None:
+    """The same where a running server copies a log into its file, and writes that log anew: at some writes of the copy, and at
+    more of those behind it."""
+    exchange, first = LongExchange(), 0
+    with new_directory(folder) as data:
+        server = FailingServer(data, "file", "stop", 0, exchange.hosts)
+        for txn in ("base", "long"):
+            first += server.fail(0)
+            assert server.ask(*exchange.sent[txn]) == exchange.reply_to(txn), txn
+        first += server.fail(0)
+        before = (data / "shard-0.db").stat().st_size
+        assert server.ask(*exchange.sent["more"]) == exchange.reply_to("more")
+        assert before < 100_000 < 3_000_000 < (data / "shard-0.db").stat().st_size, before
+        last = first + server.fail(0)
+        server.stop()
+    numbers = random.Random(4).sample(range(first, last - 50), 8) + list(range(last - 50, last, 2))
+    for number in numbers:
+        with new_directory(folder) as data:
+            replies, _ = ended_run(data, "done", number, exchange, FAIL_CALL_SYNCED=1)
+            losing_some(4)(data, number)
+            check_left(data, exchange, replies, number)
+    print("power lost in part at %d writes" % len(numbers))
+
+
+def left_out_syncs_are_noticed(folder: Path) -> None:
+    """Where calls that bring something to the disk do nothing, and power is lost, these checks fail: of the logs of files, as if
+    requests were answered before; of new files, before they have their names; of the directory; and, in a start, of the files
+    that logs are copied into."""
+    exchange, whole = Exchange(), folder / "whole"
+    with serving(whole, hosts=exchange.hosts) as server:
+        replies = exchange.ask(server)
+    for name in ("-wal", ".new", "/data", ".db"):
+        with new_directory(folder) as data:
+            if name == ".db":
+                shutil.copytree(whole, data)
+                lost_start(data, "done", 0, exchange, lose_all, FAIL_CALL_LIES=name)
+            else:
+                ended_run(data, "done", 0, exchange, FAIL_CALL_SYNCED=1, FAIL_CALL_LIES=name)
+                lose_all(data, 0)
+            try:
+                exchange.check_again(data, replies)
+            except (AssertionError, Refused):
+                continue
+        raise AssertionError(name)
 
 
 def one_failing_call(folder: Path) -> None:
@@ -429,7 +415,8 @@ def failing_connections(folder: Path) -> None:
 
 TESTS = [
     ended_at_each_write, ended_at_each_write_of_two_shards, ended_at_each_write_of_a_start, ended_at_each_write_of_a_move,
-    power_lost_at_each_write, one_failing_call,
+    power_lost_at_each_write, power_lost_in_part_at_each_write, power_lost_in_part_in_a_start, power_lost_in_part_at_a_copy,
+    left_out_syncs_are_noticed, one_failing_call,
     second_message_not_kept, reply_not_kept, reply_not_kept_and_then_denied, later_state_judges_nothing_anew,
     a_start_without_room, failing_connections,
 ]

@@ -5,9 +5,11 @@
    does; `error` makes it fail. At SIGUSR1 it writes how many calls there were into the file that FAIL_CALL_COUNT names,
    and counts anew; the number is then in the file that FAIL_CALL_NUMBER names. */
 #define _GNU_SOURCE
+#include <dirent.h>
 #include <dlfcn.h>
 #include <errno.h>
 #include <fcntl.h>
+#include <pthread.h>
 #include <signal.h>
 #include <stdio.h>
 #include <stdlib.h>
@@ -68,38 +70,84 @@ static int finds_no_room(int file, off_t end) {
         return -1;                                    \
     } while (0)
 
-/* A file was brought to the disk: as it is now a loss of power leaves it. Where FAIL_CALL_SYNCED is set a copy of it is made
-   beside it, under its name and `.synced`, which goes with it where it gets another name. */
-static int brought(int file, int answer) {
-    char link[64], path[4096] = {0}, bytes[65536];
-    struct stat about;
+/* Where FAIL_CALL_SYNCED is set each file has beside it what a loss of power leaves of it in any case: under its name and
+   `.synced` a copy of it as it was last brought to the disk, which goes with it where it gets another name; and the directory
+   has in `names.synced` the names that are on the disk, a line each. Each is made aside and then gets its name, since another
+   thread may end the program meanwhile. Where FAIL_CALL_LIES is set the calls that bring a file whose name ends so to the disk
+   do nothing. */
+static pthread_mutex_t one_at_a_time = PTHREAD_MUTEX_INITIALIZER;
+
+static int is_kept(void) { return getenv("FAIL_CALL_SYNCED") != NULL; }
+
+static void put(int file, const char *bytes, ssize_t length) {
+    if (REAL(write)(file, bytes, length) != length) _Exit(5);
+}
+
+static void put_content(const char *path, int copy) {
+    char bytes[65536];
     ssize_t length;
     off_t at = 0;
-    if (answer || !getenv("FAIL_CALL_SYNCED") || fstat(file, &about) || !S_ISREG(about.st_mode)) return answer;
-    snprintf(link, sizeof link, "/proc/self/fd/%d", file);
-    length = readlink(link, path, sizeof path - 8);
-    int source = open(link, O_RDONLY);
-    if (length < 0 || source < 0) _Exit(5);
-    strcpy(path + length, ".synced");
-    int copy = open(path, O_CREAT | O_WRONLY | O_TRUNC, 0600);
-    while ((length = pread(source, bytes, sizeof bytes, at)) > 0) {
-        if (REAL(write)(copy, bytes, length) != length) _Exit(5);
-        at += length;
-    }
+    int source = open(path, O_RDONLY);
+    if (source < 0) _Exit(5);
+    for (; (length = pread(source, bytes, sizeof bytes, at)) > 0; at += length) put(copy, bytes, length);
     if (length < 0) _Exit(5);
     close(source);
+}
+
+static void put_names(const char *path, int copy) {
+    DIR *directory = opendir(path);
+    if (!directory) _Exit(5);
+    for (struct dirent *entry; (entry = readdir(directory));) {
+        put(copy, entry->d_name, strlen(entry->d_name));
+        put(copy, "\n", 1);
+    }
+    closedir(directory);
+}
+
+/* What is at the path was brought to the disk. */
+static void keep(const char *path, int is_directory) {
+    char synced[4096], aside[4110];
+    snprintf(synced, sizeof synced, "%s%s.synced", path, is_directory ? "/names" : "");
+    snprintf(aside, sizeof aside, "%s.aside", synced);
+    int copy = open(aside, O_CREAT | O_WRONLY | O_TRUNC, 0600);
+    if (copy < 0) _Exit(5);
+    (is_directory ? put_names : put_content)(path, copy);
     close(copy);
+    if (REAL(rename)(aside, synced)) _Exit(5);
+}
+
+static int is_lied_of(const char *path) {
+    size_t length = strlen(path), end = strlen(said("FAIL_CALL_LIES"));
+    return end && length >= end && !strcmp(path + length - end, said("FAIL_CALL_LIES"));
+}
+
+/* Brings a file or a directory to the disk. */
+static int brought(int file, int (*bring)(int)) {
+    char link[64], path[4000];
+    struct stat about;
+    snprintf(link, sizeof link, "/proc/self/fd/%d", file);
+    ssize_t length = readlink(link, path, sizeof path - 1);
+    if (length < 0 || fstat(file, &about)) return bring(file);
+    path[length] = 0;
+    if (is_lied_of(path)) return 0;
+    int is_directory = S_ISDIR(about.st_mode);
+    /* Of two threads that bring one directory to the disk the one that lists more names comes last. */
+    if (is_directory) pthread_mutex_lock(&one_at_a_time);
+    int answer = bring(file);
+    if (!answer && is_kept() && (is_directory || S_ISREG(about.st_mode))) keep(path, is_directory);
+    if (is_directory) pthread_mutex_unlock(&one_at_a_time);
     return answer;
 }
 
+/* The copy goes first, so that no file stands without its own. */
 int rename(const char *from, const char *to) {
-    char synced[2][4096];
-    int answer = REAL(rename)(from, to);
-    if (answer || !getenv("FAIL_CALL_SYNCED")) return answer;
-    snprintf(synced[0], sizeof synced[0], "%s.synced", from);
-    snprintf(synced[1], sizeof synced[1], "%s.synced", to);
-    REAL(rename)(synced[0], synced[1]);
-    return answer;
+    char copies[2][4096];
+    if (is_kept()) {
+        snprintf(copies[0], sizeof copies[0], "%s.synced", from);
+        snprintf(copies[1], sizeof copies[1], "%s.synced", to);
+        REAL(rename)(copies[0], copies[1]);
+    }
+    return REAL(rename)(from, to);
 }
 
 ssize_t write(int file, const void *bytes, size_t size) {
@@ -123,8 +171,8 @@ ssize_t writev(int file, const struct iovec *parts, int count) {
 
 int ftruncate(int file, off_t size) { CALL(file, REAL(ftruncate)(file, size), 0); }
 int ftruncate64(int file, off64_t size) { CALL(file, REAL(ftruncate64)(file, size), 0); }
-int fsync(int file) { CALL(file, brought(file, REAL(fsync)(file)), 0); }
-int fdatasync(int file) { CALL(file, brought(file, REAL(fdatasync)(file)), 0); }
+int fsync(int file) { CALL(file, brought(file, REAL(fsync)), 0); }
+int fdatasync(int file) { CALL(file, brought(file, REAL(fdatasync)), 0); }
 
 #define ON_CONNECTION(file, whole)                    \
     do {                                              \
