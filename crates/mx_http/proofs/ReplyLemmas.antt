@@ -1,10 +1,8 @@
 -- Bodies of replies, which go in pieces.
-use Rattle.std.proofs.Common.{◌≡◌, ℕ, List, [], ◌∷◌, ◌++◌, take, drop, Option, Some, None, Result, Ok, refl, sym, append-nil, take-append-drop, option_map, unwrap_or}
-use Rattle.std.specs.declared.convert.Infallible.{Infallible}
+use Rattle.std.proofs.Common.{◌≡◌, ℕ, List, [], ◌++◌, take, drop, Some, Ok, refl, take-append-drop}
 use Rattle.futures.specs.Runs.{After}
-use Rattle.http_body.specs.declared.frame.Frame.{Frame}
 use Rattle.http_body.specs.Frame.{data_frame}
-use Rattle.mx_http.specs.Responses.{GivesBytes, bytes_left}
+use Rattle.mx_http.specs.Responses.{GivesBytes}
 
 -- a cut makes a piece and what follows it
 pub piece_and_rest : (i : ℕ) (bytes piece rest : List ℕ) → piece ≡ take i bytes → rest ≡ drop i bytes → bytes ≡ piece ++ rest

@@ -1,8 +1,8 @@
 -- Which of the requests that wait for a thread may begin (our own).
-use Rattle.std.specs.Prelude.{ℕ, ◌==◌, Bool, true, false, not, List}
+use Rattle.std.specs.Prelude.{◌==◌, Bool, true, false, not, List}
 use Rattle.std.specs.List.{list_any}
 use Rattle.mx_http.specs.declared.pool.claims.Claim.{Claim}
-use Rattle.mx_http.specs.declared.pool.claims.Claim.TheVariants.{Nothing, Asks, Changes, Several}
+use Rattle.mx_http.specs.declared.pool.claims.Claim.TheVariants.{Asks, Changes, Several}
 
 -- of two requests with these claims one waits for the other
 abbrev pub conflicts : Claim → Claim → Bool

@@ -3,6 +3,7 @@ pub mod Bodies
 pub mod Claims
 pub mod Figures
 pub mod Memory
+pub mod Moments
 pub mod Places
 pub mod Requests
 pub mod Responses

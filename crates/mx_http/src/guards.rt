@@ -1,5 +1,7 @@
 // What the thread that takes connections in and the one that serves one of them know of it together.
+ghost use Rattle.std.specs.Prelude.{◌≡◌};
 ghost use Rattle.futures.specs.Task.{Keeps};
+ghost use Rattle.mx_http.specs.Moments.{milliseconds_from};
 
 use crate::places::activities::Activity;
 use crate::stages::{Progress, Stage};
@@ -123,9 +125,16 @@ pub fn ends(
 
 /// The milliseconds from `start`; none where the clock can't be read.
 pub fn moment<C: Clock>(clock: &C, start: Instant) -> u64 {
-    match Instant::now(clock) {
-        Ok(now) => u64::try_from(now.duration_since(start).as_millis()).unwrap_or(u64::MAX),
-        Err(_error) => 0,
+    milliseconds_from(start, Instant::now(clock).ok())
+}
+
+// The milliseconds from `start` to now.
+fn milliseconds_from(start: Instant, now: Option<Instant>) -> u64
+    ensures { result ≡ milliseconds_from start now }
+{
+    match now {
+        Some(now) => u64::try_from(now.duration_since(start).as_millis()).unwrap_or(u64::MAX),
+        None => 0,
     }
 }
 

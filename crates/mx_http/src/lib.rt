@@ -22,7 +22,6 @@ mod turns;
 mod workers;
 
 pub use answering::Unanswered;
-pub use connections::{Source, serve_one};
 pub use endings::Ending;
 pub use listening::{Announcer, Limits, ListenerHandle, Responders, ServeError, serve_on};
 pub use memory::RoomClosings;

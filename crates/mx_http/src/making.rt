@@ -102,20 +102,3 @@ where
     };
     runtime.run_all(rt, served)
 }
-
-/// Serves one until it has ended.
-pub fn serve_alone<R, S, O>(
-    rt: &R,
-    source: S,
-    opener: O,
-) -> io::Result<<O::Served as Future>::Output>
-where
-    R: Wait + Clock + Net + RandomSource + AllocGlobal,
-    S: Drop,
-    O: Opener<S>,
-    requires { O.can_open opener }
-{
-    let mut runtime = LocalRuntime::new(rt)?;
-    let connection = opener.open(source, runtime.handle())?;
-    runtime.block_on(rt, connection)
-}

@@ -125,8 +125,7 @@ pub struct Progress {
     has_answered: Cell<bool>,
     // A request was answered whose body was not read.
     has_left_body: Cell<bool>,
-    // None where nobody may close it for another.
-    activity: Option<Arc<SharedActivity>>,
+    activity: Arc<SharedActivity>,
 }
 
 /// The progress of a connection, to what reads and writes it and to what answers it.
@@ -134,7 +133,7 @@ pub type SharedProgress = Rc<Progress>;
 
 impl Progress {
     /// No request has begun.
-    pub fn new(activity: Option<Arc<SharedActivity>>) -> Progress {
+    pub fn new(activity: Arc<SharedActivity>) -> Progress {
         let time = StageTime {
             stage: Stage::Idle,
             since: None,
@@ -179,20 +178,13 @@ impl Progress {
     pub fn begin_wait(&self, now: u64) -> bool {
         let time = self.time.get().waiting(now);
         self.time.set(time);
-        self.become_active(time.activity())
+        self.activity.change(time.activity())
     }
 
     /// Its client is waited for no longer. False where it was given up before: then nothing more of it is read, written or
     /// answered.
     pub fn end_wait(&self) -> bool {
-        self.become_active(Activity::Busy)
-    }
-
-    fn become_active(&self, activity: Activity) -> bool {
-        match &self.activity {
-            Some(shared) => shared.change(activity),
-            None => true,
-        }
+        self.activity.change(Activity::Busy)
     }
 
     /// Its event loop gives it a turn.

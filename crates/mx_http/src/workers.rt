@@ -17,7 +17,7 @@ use tokio::sync::mpsc::{UnboundedReceiver, UnboundedSender, unbounded_channel};
 /// The connections that an event loop is to serve.
 #[derive(Drop)]
 pub struct WorkerQueue {
-    pub line: UnboundedSender<Arrival<TcpStream>>,
+    pub line: UnboundedSender<Arrival>,
     // Whether the loop serves what comes.
     pub has_begun: Arc<AtomicBool>,
     pub turn: Arc<LoopTurn>,
@@ -27,7 +27,7 @@ pub struct WorkerQueue {
 #[derive(Drop)]
 pub struct LoopWorker<A: Responder> {
     pub responder: Arc<LoopResponder<A>>,
-    pub arrivals: UnboundedReceiver<Arrival<TcpStream>>,
+    pub arrivals: UnboundedReceiver<Arrival>,
     pub has_begun: Arc<AtomicBool>,
     // What all connections may hold of bodies and replies.
     pub budget: Arc<MemoryBudget>,

@@ -119,7 +119,7 @@ impl Responder for GateKeeper {
         true
     }
 
-    fn read(&self, _alloc: Global, request: HttpRequest) -> ReadRequest<GateCall> {
+    fn read(&mut self, _alloc: Global, request: HttpRequest) -> ReadRequest<GateCall> {
         match request.target.as_slice() {
             b"/gate" => self.asking(Goal::Gate, 0),
             b"/opener" => self.asking(Goal::Opener, 1),

@@ -76,7 +76,7 @@ impl Responder for Counter {
         true
     }
 
-    fn read(&self, _alloc: Global, request: HttpRequest) -> ReadRequest<bool> {
+    fn read(&mut self, _alloc: Global, request: HttpRequest) -> ReadRequest<bool> {
         ReadRequest::Asking(AskedCall {
             call: request.target.starts_with(b"/long"),
             claim: Claim::Nothing,

@@ -43,8 +43,7 @@ impl MemoryBudget {
 #[derive(Drop)]
 pub struct Account {
     budget: Arc<MemoryBudget>,
-    // None where nobody may close it.
-    connection: Option<Arc<ConnectionHandle>>,
+    connection: Arc<ConnectionHandle>,
     start: Instant,
 }
 
@@ -52,7 +51,7 @@ impl Account {
     /// Of a connection with this handle. Moments are milliseconds from `start`.
     pub fn new(
         budget: Arc<MemoryBudget>,
-        connection: Option<Arc<ConnectionHandle>>,
+        connection: Arc<ConnectionHandle>,
         start: Instant,
     ) -> Account {
         Account {
@@ -64,17 +63,12 @@ impl Account {
 
     // The connection holds nothing any more of what it was asked to make room for.
     fn end_asking(&self) {
-        if let Some(connection) = &self.connection {
-            let _ = connection.end_asking();
-        }
+        let _ = self.connection.end_asking();
     }
 
     /// Whether the connection is to end now since it was asked to make room, and waits.
     pub fn makes_room(&self) -> bool {
-        match &self.connection {
-            Some(connection) => connection.makes_room(),
-            None => false,
-        }
+        self.connection.makes_room()
     }
 
     pub fn moment<C: Clock>(&self, clock: &C) -> u64 {
@@ -82,11 +76,8 @@ impl Account {
     }
 
     // What closes the connection, to what is held for it.
-    fn handle(&self) -> Result<Option<Arc<ConnectionHandle>>, AllocError> {
-        match &self.connection {
-            Some(connection) => Ok(Some(Arc::try_clone(connection)?)),
-            None => Ok(None),
-        }
+    fn handle(&self) -> Result<Arc<ConnectionHandle>, AllocError> {
+        Ok(Arc::try_clone(&self.connection)?)
     }
 }
 

@@ -20,35 +20,23 @@ pub struct Holding {
     // When its reply was made, or when its body began, in milliseconds from the listener's start.
     since: u64,
     waits_for_room: bool,
-    // None where nobody may close it.
-    connection: Option<Arc<ConnectionHandle>>,
+    connection: Arc<ConnectionHandle>,
 }
 
 impl Holding {
     // Since when its client has taken nothing of its reply; of a body, when that began.
     fn unread_since(&self) -> u64 {
-        match &self.connection {
-            Some(connection) => self.since.max(connection.unread_since()),
-            None => self.since,
-        }
+        self.since.max(self.connection.unread_since())
     }
 
     // Whether its connection is asked to make room.
     fn is_asked(&self) -> bool {
-        match &self.connection {
-            Some(connection) => connection.is_asked(),
-            None => false,
-        }
+        self.connection.is_asked()
     }
 
     // Whether its connection waits, and is not asked to make room.
     fn waits(&self) -> bool {
-        match &self.connection {
-            Some(connection) => {
-                matches!(connection.activity(), Activity::SlowSince(_)) && !connection.is_asked()
-            }
-            None => false,
-        }
+        matches!(self.connection.activity(), Activity::SlowSince(_)) && !self.is_asked()
     }
 
     // What it waits for. One that waits for room is not closed while others go on.
@@ -64,18 +52,12 @@ impl Holding {
 
     // Asks its connection to make room.
     fn ask_for_room(&self) -> bool {
-        match &self.connection {
-            Some(connection) => connection.ask_for_room(),
-            None => false,
-        }
+        self.connection.ask_for_room()
     }
 
     // Nothing is held any more. Whether its connection ends since it was asked to make room.
     fn end_asking(&self) -> bool {
-        match &self.connection {
-            Some(connection) => connection.end_asking(),
-            None => false,
-        }
+        self.connection.end_asking()
     }
 }
 
@@ -143,7 +125,7 @@ impl Holdings {
         &mut self,
         bytes: usize,
         since: u64,
-        connection: Option<Arc<ConnectionHandle>>,
+        connection: Arc<ConnectionHandle>,
     ) -> Option<u64>
         ensures added { IfSome result (λ number. self.new.0 ≡ self.old.0
             ++ record { number = number; bytes = bytes; since = since; waits_for_room = false; connection = connection } ∷ []) }

@@ -11,7 +11,6 @@ use crate::pool::shared::Pool;
 use crate::pool::tickets::Ticket;
 use crate::runtimes::ConnectionRuntime;
 use std::alloc::{AllocError, Global};
-use std::net::Net;
 use std::sync::{Arc, Mutex, Wait};
 use tokio::sync::oneshot;
 
@@ -42,10 +41,9 @@ impl<C: Drop> LoopSide<C> {
 #[derive(Drop)]
 pub struct LoopResponder<A: Responder> {
     responder: Arc<Mutex<A>>,
-    // None where it serves one connection alone, and answers each request itself.
-    side: Option<LoopSide<A::Call>>,
-    // Whether the listener is to end; None where there is none.
-    ending: Option<Ending>,
+    side: LoopSide<A::Call>,
+    // Whether the listener is to end.
+    ending: Ending,
 }
 
 /// What becomes of a request: it has its reply, or waits.
@@ -71,32 +69,14 @@ impl<A: Responder> LoopResponder<A> {
     ) -> LoopResponder<A> {
         LoopResponder {
             responder,
-            side: Some(side),
-            ending: Some(ending),
-        }
-    }
-
-    /// It answers each request.
-    pub fn alone(responder: Arc<Mutex<A>>) -> LoopResponder<A> {
-        LoopResponder {
-            responder,
-            side: None,
-            ending: None,
+            side,
+            ending,
         }
     }
 
     /// Whether the listener is to end.
     pub fn is_ending(&self) -> bool {
-        match &self.ending {
-            Some(ending) => ending.is_wanted(),
-            None => false,
-        }
-    }
-
-    fn end<N: Net>(&self, net: &N) {
-        if let Some(ending) = &self.ending {
-            ending.want(net);
-        }
+        self.ending.is_wanted()
     }
 
     pub fn refuse_body<R: Wait>(&self, rt: &R, alloc: Global) -> HttpReply {
@@ -112,7 +92,7 @@ impl<A: Responder> LoopResponder<A> {
     }
 
     /// Begins to answer a request. Where it may have to wait for a shard, or takes long to read, it is left to an answering
-    /// thread, if there are some.
+    /// thread.
     pub fn begin<R: ConnectionRuntime>(
         &self,
         rt: &R,
@@ -122,15 +102,12 @@ impl<A: Responder> LoopResponder<A> {
         requires { A.can_respond }
         ensures { IfOk result (λ begun. IfReplied begun (A.answers request)) }
     {
-        let Some(side) = &self.side else {
-            return Ok(Begun::Replied(self.answer(rt, alloc, request)));
-        };
-        side.turn.begin();
-        let sorted = self.sort(rt, alloc, side, request);
-        side.turn.end();
+        self.side.turn.begin();
+        let sorted = self.sort(rt, alloc, request);
+        self.side.turn.end();
         match sorted {
             Begun::Replied(reply) => Ok(Begun::Replied(reply)),
-            Begun::Waits(left) => Ok(Begun::Waits(side.leave(rt, alloc, left)?)),
+            Begun::Waits(left) => Ok(Begun::Waits(self.side.leave(rt, alloc, left)?)),
         }
     }
 
@@ -139,7 +116,6 @@ impl<A: Responder> LoopResponder<A> {
         &self,
         rt: &R,
         alloc: Global,
-        side: &LoopSide<A::Call>,
         request: HttpRequest,
     ) -> Begun<HttpReply, LeftWork<A::Call>>
         requires { A.can_respond }
@@ -154,10 +130,10 @@ impl<A: Responder> LoopResponder<A> {
         }
         match responder.read(alloc, request) {
             ReadRequest::Refused(reply) => Begun::Replied(reply),
-            ReadRequest::Asking(asked) if asked.is_quick && side.pool.is_free(asked.claim) => {
+            ReadRequest::Asking(asked) if asked.is_quick && self.side.pool.is_free(asked.claim) => {
                 let reply = responder.respond(rt, alloc, asked.call);
                 if responder.is_done() {
-                    self.end(rt);
+                    self.ending.want(rt);
                 }
                 Begun::Replied(reply)
             }
@@ -165,18 +141,6 @@ impl<A: Responder> LoopResponder<A> {
                 claim: asked.claim,
                 work: Work::Answer(asked.call),
             }),
-        }
-    }
-
-    // The reply to a request.
-    fn answer<R: ConnectionRuntime>(&self, rt: &R, alloc: Global, request: HttpRequest) -> HttpReply
-        requires { A.can_respond }
-        ensures { A.answers request result }
-    {
-        let mut responder = self.responder.lock(rt);
-        match responder.read(alloc, request) {
-            ReadRequest::Refused(reply) => reply,
-            ReadRequest::Asking(asked) => responder.respond(rt, alloc, asked.call),
         }
     }
 }

@@ -30,7 +30,7 @@ pub fn answer_each<R: ServerRuntime, A: Responder>(rt: &R, thread: AnsweringThre
         let Some(job) = thread.pool.take(rt, thread.number) else {
             return;
         };
-        if let Some((call, reply)) = read(rt, rt.alloc(), &thread, &*responder, job) {
+        if let Some((call, reply)) = read(rt, rt.alloc(), &thread, &mut *responder, job) {
             let told = responder.respond(rt, rt.alloc(), call);
             if responder.is_done() {
                 thread.ending.want(rt);
@@ -45,7 +45,7 @@ fn read<R: ServerRuntime, A: Responder>(
     rt: &R,
     alloc: Global,
     thread: &AnsweringThread<A>,
-    responder: &A,
+    responder: &mut A,
     job: Job<A::Call>,
 ) -> Option<Asked<A::Call>> {
     let Job {
