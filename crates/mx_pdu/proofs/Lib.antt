@@ -12,6 +12,7 @@ pub mod LengthLemmas
 pub mod LimitLemmas
 pub mod LookupLemmas
 pub mod NestingLemmas
+pub mod PartLemmas
 pub mod RedactionLemmas
 pub mod RefusalLemmas
 pub mod RiseLemmas

@@ -9,3 +9,4 @@ pub mod Verifiers
 pub mod Refusals
 pub mod Offers
 pub mod RuleContent
+pub mod EventParts

@@ -4,7 +4,7 @@ ghost use Rattle.base64.specs.Engines.{standard_no_pad};
 ghost use Rattle.base64.specs.GeneralPurpose.{encode_of};
 ghost use Rattle.serde_json.specs.Data.{object};
 ghost use Rattle.serde_json.specs.View.{members_view};
-ghost use Rattle.mx_redact.specs.Fields.{text_field, value_at};
+ghost use Rattle.mx_redact.specs.Fields.{is_text, text_field, value_at};
 ghost use Rattle.mx_redact.specs.Hashes.{content_hash, hash_holds};
 
 use crate::event_fields::EventFields;
@@ -17,7 +17,14 @@ pub fn names_hash(fields: &EventFields<'_>, hash: &[u8; 32]) -> bool
     requires { hash.now ≡ content_hash (object (members_view fields.now.members.now.entries)) }
     ensures { result ≡ hash_holds (object (members_view fields.now.members.now.entries)) }
 {
-    match named_hash(fields) {
+    is_named(named_hash(fields), hash)
+}
+
+// Whether the text is there, and is the unpadded standard base64 of the hash.
+pub fn is_named(named: Option<&str>, hash: &[u8; 32]) -> bool
+    ensures { result ≡ is_text (encode_of standard_no_pad hash.now) (option_map (λ text. text.now) named.entry) }
+{
+    match named {
         Some(text) => is_text_of(text, hash),
         None => false,
     }

@@ -1,8 +1,8 @@
 // Events.
 ghost use Rattle.std.specs.Prelude.{◌≡◌, ◌≤◌, ◌↔◌, IfOk, IsErrOf, IsTrue, None, OnOk, Some, length, option_map, string_bytes};
 ghost use Rattle.std.specs.Result.{result_err};
-ghost use Rattle.serde_json.specs.Data.{depth as nesting, object};
-ghost use Rattle.serde_json.specs.Read.{max_depth, read};
+ghost use Rattle.serde_json.specs.Data.{Data, depth as nesting, object};
+ghost use Rattle.serde_json.specs.Read.{max_depth, read, read as read_text};
 ghost use Rattle.serde_json.specs.View.{view, members_view};
 ghost use Rattle.mx_canon.specs.Canonical.{canonical_error, canonical_text, in_range, largest};
 ghost use Rattle.mx_canon.specs.KeyOrder.{KeysRise};
@@ -11,13 +11,15 @@ ghost use Rattle.mx_redact.specs.Hashes.{content_hash, event_id, hash_holds, ref
 ghost use Rattle.mx_redact.specs.Redaction.{redact as redacted_form};
 ghost use Rattle.mx_pdu.specs.Event.{room_of, sender_of, state_key_of, content_of, prev_ids, auth_ids, depth_of, timestamp_of, redacts_of};
 ghost use Rattle.mx_pdu.specs.Format.{format_error, has_readable_nesting, is_well_formed};
-ghost use Rattle.mx_pdu.specs.Inside.{event_of, IsSound};
+ghost use Rattle.mx_pdu.specs.EventParts.{IsHashedAs};
+ghost use Rattle.mx_pdu.specs.Inside.{AreOf, event_of, IsSound};
 ghost use Rattle.mx_pdu.specs.RuleContent.{rule_content};
 ghost use Rattle.mx_pdu.specs.declared.refusals.NotAnEvent.{NotAnEvent as Cause};
 
+use crate::assembling::EventParts;
 use crate::checking::{check_canonical_format, check_format};
 use crate::event_fields::EventFields;
-use crate::hashes::names_hash;
+use crate::hashes::{is_named, names_hash};
 use crate::ids::{event_ids_at, redacted_id_in, room_id_of, user_id_of};
 use crate::lookups::{depth_in, text_copied_from, text_or_empty_at, timestamp_in};
 use crate::refusals::{NotAnEvent, PduError};
@@ -127,6 +129,20 @@ impl Pdu {
         let whole = Parts::of(alloc, fields, text, &digests)?;
         let parts = Arc::new(alloc, whole)?;
         Ok((Pdu { parts }, digests))
+    }
+
+    // Of what was read of an event that is well formed, its canonical text and its hashes.
+    pub(crate) fn of_parts(
+        alloc: Global,
+        read: EventParts<'_>,
+        text: String,
+        digests: &Digests,
+    ) -> Result<Pdu, AllocError>
+        requires { (event : Data) × IsHashedAs (string_bytes text) read digests.now event }
+        ensures { IfOk result (λ pdu. read_text (string_bytes text) ≡ Some pdu) }
+    {
+        let parts = Arc::new(alloc, Parts::of_read(read, text, digests))?;
+        Ok(Pdu { parts })
     }
 
     /// Why the value is no event of room version 6, if it is none. It takes no memory.
@@ -325,6 +341,31 @@ impl Parts {
             reference: digests.reference,
             hash_holds,
         })
+    }
+
+    // Of what was read of an event, its canonical text and its hashes. The text is kept with no room to spare.
+    fn of_read(read: EventParts<'_>, text: String, digests: &Digests) -> Parts
+        requires { (event : Data) × IsHashedAs (string_bytes text) read digests.now event }
+        ensures { (event : Data) → IsHashedAs (string_bytes text) read.entry digests.now event → AreOf result event }
+    {
+        let mut text = text;
+        text.shrink_to_fit();
+        let hash_holds = is_named(read.hash, &digests.content);
+        Parts {
+            text,
+            kind: read.kind,
+            state_key: read.state_key,
+            room_id: read.room_id,
+            sender: read.sender,
+            prev_events: read.prev_events,
+            auth_events: read.auth_events,
+            redacts: read.redacts,
+            depth: read.depth,
+            origin_server_ts: read.origin_server_ts,
+            content: read.content,
+            reference: digests.reference,
+            hash_holds,
+        }
     }
 }
 

@@ -56,8 +56,8 @@ fn copy_member(key: &String, value: &Value, kept: &mut Map<String, Value>) -> Re
     Ok(())
 }
 
-// Whether rules read a content's member at this key.
-fn is_rule_key(key: &str) -> bool
+/// Whether rules read a content's member at this key, as [`crate::Pdu::content`] has it.
+pub fn is_rule_key(key: &str) -> bool
     ensures { result ≡ is_in_rules key.now }
 {
     matches!(

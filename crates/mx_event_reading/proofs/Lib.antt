@@ -1,0 +1,13 @@
+pub mod NumberLemmas
+pub mod ArrayLemmas
+pub mod InOrderLemmas
+pub mod NestingLemmas
+pub mod OpenTextLemmas
+pub mod ContentLemmas
+pub mod FieldLemmas
+pub mod FormLemmas
+pub mod ChainLemmas
+pub mod ReadLemmas
+pub mod PutLemmas
+pub mod EventsLemmas
+pub mod EventsReadLemmas

@@ -1,0 +1,6 @@
+pub mod InOrder
+pub mod Appending
+pub mod Contents
+pub mod OpenTexts
+pub mod EventRead
+pub mod BodiesRead
