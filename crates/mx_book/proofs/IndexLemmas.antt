@@ -15,7 +15,6 @@ use Rattle.mx_book.specs.Transactions.{same, transaction_cmp}
 use Rattle.mx_book.specs.TransactionLaws.{transaction_total, transaction_ties}
 use Rattle.mx_book.specs.Journal.{transaction_of, last_of, Hold, free, begun, kept, hold_after, hold_of, opening_of, follows, reply_in}
 use Rattle.mx_book.specs.declared.entries.BookEntry.TheVariants.{Begun, Kept, GivenUp}
-use Rattle.mx_book.specs.declared.openings.Opening.{Opening}
 use Rattle.mx_book.specs.declared.openings.Opening.TheVariants as opening
 use Rattle.mx_book.specs.Inside.{reply_at, hold_kept, hold_at, is_kept, hold_found, IsMoved, IsSameMap, IsIndexed, IsSound}
 use Rattle.mx_book.specs.declared.transaction_keys.TransactionKey.{TransactionKey}

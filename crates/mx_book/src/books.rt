@@ -78,10 +78,6 @@ impl<K: Keeper<Row = BookRow>> Book<K> {
         ensures again { IfOk result (λ book. K.is_honest book.keeper → (journal : List BookEntry) → K.rows keeper ≡ Some (stored journal) → IsTrue (is_legal journal)
             → (key : TransactionKey) → hold_of book.journal key ≡ after_stop (hold_of journal key)) }
 
-        // What became of the keeper tells why.
-        ensures storage { result ≡ Err CallError.Storage → (after : K) × (K.is_honest after → K.is_honest keeper)
-            × (Rose (K.failed keeper) (K.failed after)
-            ⊎ (K.is_honest after → K.is_open keeper → (rows : List BookRow) → K.rows keeper ≡ Some rows → can_reopen place rows ≡ false)) }
         // A keeper that is ready stays honest, and only such rows are refused as no book at this place has.
         ensures ready { IfOk result (λ book. K.is_ready keeper → K.is_honest keeper → K.is_honest book.keeper) }
         ensures unfit { result ≡ Err CallError.Storage → K.is_ready keeper → K.is_honest keeper → (rows : List BookRow) → K.rows keeper ≡ Some rows → can_reopen place rows ≡ false }

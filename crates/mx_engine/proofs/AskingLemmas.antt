@@ -1,10 +1,9 @@
 -- Queries that are put to each shard.
-use Rattle.std.proofs.Common.{◌≡◌, ◌≢◌, ℕ, ◌<◌, ◌≤◌, ◌+◌, ◌==◌, ◌||◌, Bool, true, false, true≢false, cond, List, ◌++◌, length, set, append-nil, refl, sym, ◌∙◌, ap, subst, arith}
+use Rattle.std.proofs.Common.{◌≡◌, ◌≢◌, ℕ, ◌<◌, ◌+◌, ◌||◌, Bool, true, false, true≢false, List, ◌++◌, length, set, append-nil, refl, sym, ◌∙◌, ap, subst, arith}
 use Rattle.std.specs.Prelude.{Option, None, Some, Result, Ok, Err}
 use Rattle.std.specs.Result.{IsErrAnd}
 use native.Mathlib.Decide.{ℕ_discrete}
 use mathlib.Core.Logic.{dite}
-use Rattle.std.proofs.lemmas.Bool.{eq-eqb, ne_eqb}
 use Rattle.std.proofs.lemmas.List.{length-set, get_or-set_same}
 use Rattle.mx_dock.specs.Dock.{own}
 use Rattle.mx_dock.specs.declared.berths.Berth.{Berth}
@@ -23,7 +22,7 @@ use Rattle.mx_keeper.specs.declared.refusals.CallError.{CallError}
 use Rattle.mx_keeper.specs.declared.refusals.CallError.TheVariants.{Memory, Storage}
 use Rattle.mx_engine.specs.Views.{BerthView, view_at, AddsNothing, AreSameViews}
 use Rattle.mx_engine.specs.Berths.{views_of}
-use Rattle.mx_engine.specs.Calls.{Shows, IsShownBy, IsRefusedBySome}
+use Rattle.mx_engine.specs.Calls.{Shows, IsShownBy}
 use Rattle.mx_engine.specs.Calling.{IsTurn, IsAskTurn, found_in, is_storage, told_by}
 use Rattle.mx_engine.proofs.TurnLemmas.{view-eq, view_at-here, views-set, view-set_other, ask_view}
 
@@ -173,91 +172,13 @@ shows_there call berths n m new told apart shows =
       shown = subst (λ (v : BerthView Entry). IsShown (record_of v.seen) call told) (sym same) shows.shown;
     }
 
--- of the first so many shards each was asked, and those that were not refused show nothing
-pub record AreAsked (call : Call) (views : List (BerthView Entry)) (count : ℕ) (some_refused : Bool) : Type 0 where
-  pub is_refused : ℕ → Bool
-  pub some : some_refused ≡ true → (m : ℕ) × (m < count) × (is_refused m ≡ true)
-  pub none : some_refused ≡ false → (m : ℕ) → m < count → is_refused m ≡ false
-  pub legal : (m : ℕ) → m < count → IsLegal (view_at views m).seen
-  pub others : (m : ℕ) → m < count → is_refused m ≡ false → Shows call views (ToAsked (Err NotFound)) m
+-- of the first so many shards none shows it, unless some were refused
+abbrev pub AreAsked : Call → List (BerthView Entry) → ℕ → Bool → Type 0
+AreAsked call views count some_refused = some_refused ≡ false → (m : ℕ) → m < count
+    → Shows call views (ToAsked (Err NotFound)) m
 
 pub asked_none : (call : Call) (views : List (BerthView Entry)) → AreAsked call views 0 false
-asked_none call views = record {
-  is_refused = λ m. false;
-  some = λ is. absurd (true≢false (sym is));
-  none = λ is m below. refl;
-  legal = λ m below. absurd (let e : ⊥ = omega (arith, below) in e);
-  others = λ m below is. absurd (let e : ⊥ = omega (arith, below) in e);
-}
-
--- a shard was asked, whatever came of it
-pub legal_here : {T : Type 0} (call : Call) (berths : List (Berth T Entry)) (n : ℕ) (old new : Berth T Entry)
-    (result : Result (Option Answer) CallError) → n < length berths →
-    IsAskTurn call (own old) (own new) result → IsLegal (view_at (views_of (set berths n new)) n).seen
-legal_here call berths n old new result l t =
-    let k : n < length (set berths n new) = subst (λ m. n < m) (sym (length-set berths n new)) l in
-    subst IsLegal (sym (ap (λ (v : BerthView Entry). v.seen)
-    (view_at-here (set berths n new) n new k ∙ ap own (get_or-set_same berths n new new l) ∙ t.seen)
-    ∙ append-nil t.journal)) t.legal
-
-module _ {T : Type 0} (call : Call) (berths : List (Berth T Entry)) (n : ℕ) (old new : Berth T Entry) (some_refused : Bool)
-    (l : n < length berths) (before : AreAsked call (views_of berths) n some_refused) where
-  abbrev with_refusal : Bool → ℕ → Bool
-  with_refusal here m = cond (m == n) here (before.is_refused m)
-
-  refusal_here : (here : Bool) → with_refusal here n ≡ here
-  refusal_here here = ap (λ b. cond b here (before.is_refused n)) (eq-eqb n n refl)
-
-  refusal_there : (here : Bool) (m : ℕ) → m ≢ n → with_refusal here m ≡ before.is_refused m
-  refusal_there here m apart = ap (λ b. cond b here (before.is_refused m)) (ne_eqb m n apart)
-
-  legal_there : (m : ℕ) → m ≢ n → m < n + 1 → IsLegal (view_at (views_of (set berths n new)) m).seen
-  legal_there m apart below =
-      subst (λ (v : BerthView Entry). IsLegal v.seen)
-      (sym (ap (λ vs. view_at vs m) (views-set berths n new) ∙ view-set_other (views_of berths) n m (own new) apart))
-      (before.legal m (omega (arith, below, apart)))
-
-  others_there : (here : Bool) (m : ℕ) → m ≢ n → m < n + 1 → with_refusal here m ≡ false
-      → Shows call (views_of (set berths n new)) (ToAsked (Err NotFound)) m
-  others_there here m apart below is =
-      shows_there call berths n m new (ToAsked (Err NotFound)) apart
-      (before.others m (omega (arith, below, apart)) (sym (refusal_there here m apart) ∙ is))
-
-  -- one more, which shows nothing
-  pub asked_unshown : IsAskTurn call (own old) (own new) (Ok None)
-      → AreAsked call (views_of (set berths n new)) (n + 1) some_refused
-  asked_unshown t = record {
-    is_refused = with_refusal false;
-    some = λ is. let s = before.some is in
-        (s.0, omega (arith, s.1), refusal_there false s.0 (λ same. let e : ⊥ = omega (arith, s.1, same) in e) ∙ s.2);
-    none = λ is m below. dite (ℕ_discrete m n)
-        (λ same. ap (with_refusal false) same ∙ refusal_here false)
-        (λ other. refusal_there false m other ∙ before.none is m (omega (arith, below, other)));
-    legal = λ m below. dite (ℕ_discrete m n)
-        (λ same. subst (λ k. IsLegal (view_at (views_of (set berths n new)) k).seen) (sym same)
-        (legal_here call berths n old new (Ok None) l t))
-        (λ other. legal_there m other below);
-    others = λ m below is. dite (ℕ_discrete m n)
-        (λ same. subst (Shows call (views_of (set berths n new)) (ToAsked (Err NotFound))) (sym same)
-        (shows_here call berths n old new None l t))
-        (λ other. others_there false m other below is);
-  }
-
-  -- one more, which was refused
-  pub asked_refused : (error : CallError) → IsAskTurn call (own old) (own new) (Err error)
-      → AreAsked call (views_of (set berths n new)) (n + 1) true
-  asked_refused error t = record {
-    is_refused = with_refusal true;
-    some = λ is. (n, omega arith, refusal_here true);
-    none = λ is. absurd (true≢false is);
-    legal = λ m below. dite (ℕ_discrete m n)
-        (λ same. subst (λ k. IsLegal (view_at (views_of (set berths n new)) k).seen) (sym same)
-        (legal_here call berths n old new (Err error) l t))
-        (λ other. legal_there m other below);
-    others = λ m below is. dite (ℕ_discrete m n)
-        (λ same. absurd (true≢false (sym (refusal_here true) ∙ ap (with_refusal true) (sym same) ∙ is)))
-        (λ other. others_there true m other below is);
-  }
+asked_none call views = λ none m below. absurd (let e : ⊥ = omega (arith, below) in e)
 
 -- one more, which was refused for storage or shows nothing
 pub asked_more : {T : Type 0} (call : Call) (berths : List (Berth T Entry)) (n : ℕ) (old new : Berth T Entry)
@@ -265,39 +186,19 @@ pub asked_more : {T : Type 0} (call : Call) (berths : List (Berth T Entry)) (n :
     → AreAsked call (views_of berths) n some_refused →
     IsAskTurn call (own old) (own new) asked → found_in asked ≡ Ok None
     → AreAsked call (views_of (set berths n new)) (n + 1) (is_storage asked || some_refused)
-asked_more call berths n old new some_refused (Ok None) l before t is =
-    asked_unshown call berths n old new some_refused l before t
+asked_more call berths n old new some_refused (Ok None) l before t is = λ none m below.
+    dite (ℕ_discrete m n)
+    (λ same. subst (Shows call (views_of (set berths n new)) (ToAsked (Err NotFound))) (sym same)
+    (shows_here call berths n old new None l t))
+    (λ other. shows_there call berths n m new (ToAsked (Err NotFound)) other
+    (before none m (omega (arith, below, other))))
 asked_more call berths n old new some_refused (Ok (Some told)) l before t is =
     absurd (let e : Ok (Some told) ≡ Ok None = is in cc)
 asked_more call berths n old new some_refused (Err Memory) l before t is = absurd (let e : Err Memory ≡ Ok None = is in cc)
-asked_more call berths n old new some_refused (Err Storage) l before t is =
-    asked_refused call berths n old new some_refused l before Storage t
+asked_more call berths n old new some_refused (Err Storage) l before t is = λ none. absurd (true≢false none)
 
 pub found_some : (asked : Result (Option Answer) CallError) (told : Answer) → found_in asked ≡ Ok (Some told)
     → asked ≡ Ok (Some told)
 found_some (Ok found) told is = is
 found_some (Err Memory) told is = absurd (let e : Err Memory ≡ Ok (Some told) = is in cc)
 found_some (Err Storage) told is = absurd (let e : Ok None ≡ Ok (Some told) = is in cc)
-
--- what ends the asking is no refusal for storage
-pub never_storage : (asked : Result (Option Answer) CallError) (result : Result Answer CallError) (cause : CallError)
-    → IsErrAnd result (λ e. e ≡ cause) → found_in asked ≡ Err cause → result ≡ Err Storage → ⊥
-never_storage asked (Ok told) cause is found storage = is
-never_storage (Ok found) (Err e) cause is none storage = let h : Ok found ≡ Err cause = none in cc
-never_storage (Err Storage) (Err e) cause is none storage = let h : Ok None ≡ Err cause = none in cc
-never_storage (Err Memory) (Err e) cause is none storage = let h : Err Memory ≡ Err cause = none in let k : e ≡ cause =
-    is in let j : Err e ≡ Err Storage = storage in cc
-
--- once all were asked
-module _ (call : Call) (views : List (BerthView Entry)) (count : ℕ) (some_refused : Bool)
-    (asked : AreAsked call views count some_refused) (all : length views ≤ count) where
-  pub all_unshown : some_refused ≡ false → (n : ℕ) → n < length views → Shows call views (ToAsked (Err NotFound)) n
-  all_unshown is n l = asked.others n (omega (arith, l, all)) (asked.none is n (omega (arith, l, all)))
-
-  pub all_refused : count ≤ length views → some_refused ≡ true → IsRefusedBySome call views
-  all_refused within is = record {
-    is_refused = asked.is_refused;
-    some = let s = asked.some is in (s.0, omega (arith, s.1, within), s.2);
-    legal = λ n l. asked.legal n (omega (arith, l, all));
-    others = λ n l. asked.others n (omega (arith, l, all));
-  }

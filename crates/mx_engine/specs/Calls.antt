@@ -1,8 +1,7 @@
 -- What a caller is told of a call of a room, by what it knows before and afterwards (our own).
-use Rattle.std.specs.Prelude.{◌≡◌, ℕ, ◌<◌, Bool, true, false, List, length, map, Option, None, Some, Ok, Err}
+use Rattle.std.specs.Prelude.{◌≡◌, ℕ, ◌<◌, List, length, map, Option, None, Some, Ok}
 use Rattle.mx_dock.specs.Journal.{IsPrefix}
 use Rattle.mx_keeper.specs.Places.{place_number}
-use Rattle.mx_room.specs.declared.queries.Denied.TheVariants.{NotFound}
 use Rattle.mx_shard.specs.LoneRoom.{Call, answer, added}
 use Rattle.mx_shard.specs.Journal.{Entry, entry_of, record_of, IsLegal}
 use Rattle.mx_shard.specs.Rooms.{AreRoomsOf}
@@ -36,13 +35,6 @@ pub record Shows (call : Call) (views : List (BerthView Entry)) (told : Answer) 
 abbrev pub IsShownBy : Call → List (BerthView Entry) → Answer → Type 0
 IsShownBy call new (ToAsked (Ok reply)) = (n : ℕ) × (n < length new) × Shows call new (ToAsked (Ok reply)) n
 IsShownBy call new told = (n : ℕ) → n < length new → Shows call new told n
-
--- Each shard was asked, and is found at a legal journal. Some were refused, and of the others no room shows it.
-pub record IsRefusedBySome (call : Call) (views : List (BerthView Entry)) : Type 0 where
-  pub is_refused : ℕ → Bool
-  pub some : (n : ℕ) × (n < length views) × (is_refused n ≡ true)
-  pub legal : (n : ℕ) → n < length views → IsLegal (view_at views n).seen
-  pub others : (n : ℕ) → n < length views → is_refused n ≡ false → Shows call views (ToAsked (Err NotFound)) n
 
 -- the answer of the room that the query names, else what some room shows
 abbrev pub IsAsked : ℕ → Call → Option (List ℕ) → List (BerthView Entry) → List (BerthView Entry) → Answer → Type 0

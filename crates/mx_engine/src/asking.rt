@@ -1,9 +1,9 @@
 // Queries by an event's id alone, which are put to each shard.
-ghost use Rattle.std.specs.Prelude.{◌≡◌, ◌||◌, None, Err, IfOk};
+ghost use Rattle.std.specs.Prelude.{◌≡◌, ◌||◌, None, IfOk};
 ghost use Rattle.mx_room.specs.Queries.{room_named};
 ghost use Rattle.mx_shard.specs.LoneRoom.{to_ask};
 ghost use Rattle.mx_engine.specs.Views.{AddsNothing, AreSameViews};
-ghost use Rattle.mx_engine.specs.Calls.{IsShownBy, IsRefusedBySome};
+ghost use Rattle.mx_engine.specs.Calls.{IsShownBy};
 ghost use Rattle.mx_engine.specs.Calling.{IsAskTurn, found_in, is_storage};
 ghost use Rattle.mx_dock.specs.Dock.{own};
 ghost use Rattle.mx_engine.specs.Berths.{AreBerthsAt, IsBerthAt, views_of};
@@ -34,9 +34,6 @@ pub(crate) fn ask_each<R: Wait, K: Keeper<Row = ShardRow>, G: Gate>(
     ensures nothing { AddsNothing (views_of berths.old.items) (views_of berths.new.items) }
     ensures shown { IfOk result
         (IsShownBy (to_ask question.now.origin.now question.now.moment question.now.query.now) (views_of berths.new.items)) }
-    ensures storage { result ≡ Err CallError.Storage
-        → IsRefusedBySome (to_ask question.now.origin.now question.now.moment question.now.query.now)
-        (views_of berths.new.items) }
 {
     let mut is_refused = false;
     for number in 0..docks.len() {

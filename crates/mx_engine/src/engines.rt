@@ -1,5 +1,5 @@
 // The server.
-ghost use Rattle.std.specs.Prelude.{◌≡◌, ◌+◌, ◌<◌, ◌≤◌, ◌⊎◌, ℕ, List, [], ◌∷◌, All, None, Err, IfErr, IfOk, IfSome, OnErr, IsTrue, is_some, length, get_or, map, nat_lt};
+ghost use Rattle.std.specs.Prelude.{◌≡◌, ◌+◌, ◌<◌, ◌≤◌, ◌⊎◌, ℕ, List, [], ◌∷◌, All, IfErr, IfOk, IfSome, OnErr, IsTrue, is_some, length, get_or, map, nat_lt};
 ghost use Rattle.std.specs.Fn.{FnOnceReturnsAt};
 ghost use Rattle.mx_dock.specs.Journal.{IsPrefix};
 ghost use Rattle.mx_pdu.specs.Event.{room_of};
@@ -11,7 +11,7 @@ ghost use Rattle.mx_world.specs.Worlds.{shard_journals, book_journals, none_open
 ghost use Rattle.mx_engine.specs.Places.{book_caller};
 ghost use Rattle.mx_engine.specs.Views.{view_at, AddsNothing, AreSameViews};
 ghost use Rattle.mx_world.specs.Offers.{offer_by};
-ghost use Rattle.mx_engine.specs.Calls.{IsAnswered, IsAsked, IsRead, IsRefusedBySome};
+ghost use Rattle.mx_engine.specs.Calls.{IsAnswered, IsAsked, IsRead};
 ghost use Rattle.mx_engine.specs.Transactions.{IsReplied, IsRefused};
 ghost use Rattle.mx_engine.specs.Seats.{AreAllSeats, BeginsWithFirstSeat, HasFirstSeat, IsSeatOf, seat_number, seats_made, shard_views, book_views, verifier_of};
 ghost use Rattle.mx_engine.specs.Closing.{IsNew, IsWhole, known_at};
@@ -219,8 +219,6 @@ impl<
         ensures ok { IfOk result (IsAsked (seat_number seat.old) (to_ask origin.now now query.now) (room_named query.now)
             (shard_views seat.old) (shard_views seat.new)) }
         ensures nothing { AddsNothing (shard_views seat.old) (shard_views seat.new) }
-        ensures storage { room_named query.now ≡ None → result ≡ Err CallError.Storage
-            → IsRefusedBySome (to_ask origin.now now query.now) (shard_views seat.new) }
         ensures books { book_views seat.new ≡ book_views seat.old }
     {
         let caller = seat.number;

@@ -12,3 +12,4 @@ pub mod LineRows
 pub mod AnswerLemmas
 pub mod HostLineLemmas
 pub mod StrictLemmas
+pub mod EventsLineLemmas

@@ -24,7 +24,7 @@ use mx_ident::ServerName;
 use mx_keeper::{BookRow, CallError, Keeper, MemoryKeeper, ShardCount, ShardRow, Storable};
 use mx_pdu::Verifier;
 use mx_requests::WireServer;
-use mx_world::World;
+use mx_world::{OpenError, World};
 use std::alloc::{AllocError, Global};
 use std::io::{self, Read, Write};
 use thiserror::Error;
@@ -105,6 +105,18 @@ impl From<CallError> for LinesError {
             CallError::Memory => LinesError::Memory,
             CallError::Storage => LinesError::Storage,
         }
+    }
+}
+
+impl From<OpenError> for LinesError {
+    ghost use Rattle.std.specs.Prelude.{◌≡◌};
+    ghost use Rattle.mx_log.specs.LineErrors.{of_call};
+    ghost use Rattle.mx_world.specs.Reopening.{cause_of};
+
+    ghost from_gives = { λ error e. e ≡ of_call (cause_of error) };
+
+    fn from(error: OpenError) -> LinesError {
+        LinesError::from(CallError::from(error))
     }
 }
 

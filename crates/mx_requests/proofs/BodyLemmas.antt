@@ -7,8 +7,9 @@ use Rattle.mx_canon.specs.Pieces.{comma_if}
 use Rattle.mx_auth.specs.Versions.{version_text}
 use Rattle.mx_auth.specs.declared.versions.RoomVersion.{RoomVersion}
 use Rattle.mx_auth.specs.declared.versions.RoomVersion.TheVariants.{V6, V7}
+use Rattle.mx_room.specs.declared.queries.Denied.TheVariants as denied
 use Rattle.mx_requests.specs.declared.faults.Fault.{Fault}
-use Rattle.mx_requests.specs.declared.faults.Fault.TheVariants.{NotJson, WrongForm, Missing, Invalid, IncompatibleVersion, NoOrigin, WrongDestination, Forbidden, NotFound, UnknownPath, UnknownMethod, TooLarge, Memory, Storage, Busy}
+use Rattle.mx_requests.specs.declared.faults.Fault.TheVariants.{NotJson, WrongForm, Missing, Invalid, NoOrigin, WrongDestination, Denied, Refused, UnknownPath, UnknownMethod, TooLarge, Memory, Storage, Busy}
 use Rattle.mx_requests.specs.Faults.{fault_body, fault_code, fault_text}
 use Rattle.mx_requests.specs.Bodies.{body_end}
 
@@ -33,7 +34,7 @@ two taken code text =
     let flat : with_more code text no_members ≡ codes "{" ++ (pair code text ++ codes "}") = refl in
     rw flat simp (append_assoc)
 
-three : (taken code text : List ℕ) (v : RoomVersion) → written taken code text ++ body_end (IncompatibleVersion v) ≡ taken ++ with_more code text (member (codes "room_version") (string (version_text v)) no_members)
+three : (taken code text : List ℕ) (v : RoomVersion) → written taken code text ++ body_end (Denied (denied.WrongVersion v)) ≡ taken ++ with_more code text (member (codes "room_version") (string (version_text v)) no_members)
 unfolding canonical_text chars
 three taken code text V6 =
     let flat : with_more code text (member (codes "room_version") (string (codes "6")) no_members) ≡ codes "{" ++ (member_text (codes "errcode", string_text code) ++ 44 ∷ (member_text (codes "error", string_text text) ++ 44 ∷ member_text (codes "room_version", string_text (codes "6"))) ++ codes "}") = refl in
@@ -47,11 +48,15 @@ whole taken NotJson = two taken _ _
 whole taken WrongForm = two taken _ _
 whole taken (Missing parameter) = two taken _ _
 whole taken (Invalid part) = two taken _ _
-whole taken (IncompatibleVersion version) = three taken _ _ version
 whole taken NoOrigin = two taken _ _
 whole taken WrongDestination = two taken _ _
-whole taken (Forbidden why) = two taken _ _
-whole taken NotFound = two taken _ _
+whole taken (Denied denied.AccessList) = two taken _ _
+whole taken (Denied denied.NotInRoom) = two taken _ _
+whole taken (Denied denied.NotFound) = two taken _ _
+whole taken (Denied denied.OtherServer) = two taken _ _
+whole taken (Denied (denied.WrongVersion version)) = three taken _ _ version
+whole taken (Denied (denied.Rule rule)) = two taken _ _
+whole taken (Refused refusal) = two taken _ _
 whole taken UnknownPath = two taken _ _
 whole taken UnknownMethod = two taken _ _
 whole taken TooLarge = two taken _ _

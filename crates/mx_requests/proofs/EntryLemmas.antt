@@ -14,6 +14,10 @@ use Rattle.serde_json.specs.declared.value.Value.{Value}
 use Rattle.mx_redact.specs.Fields.{field, is_none_or, item_list}
 use Rattle.mx_pdu.proofs.FieldLemmas.{items-length}
 use Rattle.mx_pdu.specs.Format.{is_well_formed}
+use Rattle.mx_pdu.specs.Offers.{Judge, offer_by}
+use Rattle.mx_event_reading.specs.BodiesRead.{AreOffered, items_of, object_of}
+use Rattle.mx_event_reading.specs.declared.objects.EventsRead.{EventsRead}
+use Rattle.mx_event_reading.proofs.EventsReadLemmas.{at-pdus, beside-pdus, entries-offered}
 use Rattle.mx_requests.specs.Requests.{entries_up_to, events_in, is_array_up_to}
 
 values : (vs : List Value) → item_list (items_view vs) ≡ map (λ (v : Value). view v) vs
@@ -54,6 +58,25 @@ events-at d few o is e =
     filtered_if : (b : Bool) (x : Option (List Data)) → option_map (filter is_well_formed) (if b then x else None) ≡ (if b then option_map (filter is_well_formed) x else None)
     filtered_if true x = refl
     filtered_if false x = refl
+
+-- the events of an object that was read with them
+pub events-read : (judges : Judge) (read : EventsRead) (few fits : Bool) → AreOffered judges read.events.items
+    → is_none_or (is_array_up_to 100) (field (codes "edus") (object (members_view read.others.entries))) ≡ few
+    → nat_le (length read.events.items) 50 ≡ fits
+    → option_map (map (offer_by judges)) (events_in (object_of read))
+    ≡ (if few then (if fits then Some read.events.items else None) else None)
+events-read judges read few fits are ephemeral counted =
+    let beside = beside-pdus (codes "edus") read refl in
+    let found = events-at (object_of read) few (Some (array (items_of read.events.items)))
+    (ap (is_none_or (is_array_up_to 100)) beside ∙ ephemeral) (at-pdus read) in
+    ap (option_map (map (offer_by judges))) found ∙ by few
+  where
+    by : (b : Bool)
+        → option_map (map (offer_by judges)) (if b then option_map (filter is_well_formed)
+        (entries_up_to 50 (array (items_of read.events.items))) else None)
+        ≡ (if b then (if fits then Some read.events.items else None) else None)
+    by true = entries-offered judges 50 fits read.events.items are counted
+    by false = refl
 
 pub not_below : (m n : ℕ) → n < m → nat_le m n ≡ false
 not_below m n over = by (nat_le m n) refl

@@ -3,7 +3,8 @@ use Rattle.std.specs.Prelude.{◌≡◌, refl, ℕ, List, [], ◌∷◌, codes, 
 use Prim.Native.String.{String}
 use Rattle.mx_auth.specs.declared.versions.RoomVersion.TheVariants.{V6, V7}
 use Rattle.mx_requests.specs.declared.faults.Fault.{Fault}
-use Rattle.mx_requests.specs.declared.faults.Fault.TheVariants.{NoOrigin, WrongDestination, IncompatibleVersion, Missing, Invalid}
+use Rattle.mx_room.specs.declared.queries.Denied.TheVariants.{WrongVersion}
+use Rattle.mx_requests.specs.declared.faults.Fault.TheVariants.{NoOrigin, WrongDestination, Denied, Missing, Invalid}
 use Rattle.mx_requests.specs.declared.faults.MissingParameter.TheVariants as missing
 use Rattle.mx_requests.specs.declared.faults.InvalidPart.TheVariants as invalid
 use Rattle.mx_requests.specs.declared.targets.routes.Route.{Route}
@@ -78,11 +79,11 @@ body-missing : fault_body (Missing missing.EventId) ≡ codes "{\"errcode\":\"M_
 unfolding wire_on_examples
 body-missing = refl
 
-body-incompatible : fault_body (IncompatibleVersion V6) ≡ codes "{\"errcode\":\"M_INCOMPATIBLE_ROOM_VERSION\",\"error\":\"room version\",\"room_version\":\"6\"}"
+body-incompatible : fault_body (Denied (WrongVersion V6)) ≡ codes "{\"errcode\":\"M_INCOMPATIBLE_ROOM_VERSION\",\"error\":\"room version\",\"room_version\":\"6\"}"
 unfolding wire_on_examples
 body-incompatible = refl
 
-body-incompatible_7 : fault_body (IncompatibleVersion V7) ≡ codes "{\"errcode\":\"M_INCOMPATIBLE_ROOM_VERSION\",\"error\":\"room version\",\"room_version\":\"7\"}"
+body-incompatible_7 : fault_body (Denied (WrongVersion V7)) ≡ codes "{\"errcode\":\"M_INCOMPATIBLE_ROOM_VERSION\",\"error\":\"room version\",\"room_version\":\"7\"}"
 unfolding wire_on_examples
 body-incompatible_7 = refl
 

@@ -10,11 +10,10 @@ use Rattle.mx_room.specs.declared.joining.JoinReply.{JoinReply}
 use Rattle.mx_room.specs.declared.joining.JoinReply.TheVariants as join
 use Rattle.mx_room.specs.declared.outcomes.Outcome.{Outcome}
 use Rattle.mx_room.specs.declared.outcomes.Outcome.TheVariants as outcome
-use Rattle.mx_room.specs.declared.queries.Denied.TheVariants.{OtherServer}
-use Rattle.mx_requests.specs.declared.faults.Denial.TheVariants as denial
+use Rattle.mx_room.specs.declared.queries.Denied.TheVariants as denied
 use Rattle.mx_requests.specs.declared.faults.Fault.{Fault}
-use Rattle.mx_requests.specs.declared.faults.Fault.TheVariants.{Forbidden, NotFound}
-use Rattle.mx_requests.specs.ReplyBodies.{Response, denied_fault, event_array, failure, success}
+use Rattle.mx_requests.specs.declared.faults.Fault.TheVariants.{Denied, Refused}
+use Rattle.mx_requests.specs.ReplyBodies.{Response, event_array, failure, success}
 
 abbrev pub joined_data : List ℕ → Joined → Data
 joined_data server j =
@@ -23,18 +22,18 @@ joined_data server j =
     (member (codes "origin") (string server) (member (codes "state") (event_array j.state) no_members))))
 
 abbrev pub verdict_fault : Verdict → Fault
-verdict_fault Accepted = NotFound
-verdict_fault (SoftFailed rule) = Forbidden (denial.Rule rule)
-verdict_fault (Rejected rule) = Forbidden (denial.Rule rule)
+verdict_fault Accepted = Denied denied.NotFound
+verdict_fault (SoftFailed rule) = Denied (denied.Rule rule)
+verdict_fault (Rejected rule) = Denied (denied.Rule rule)
 
 -- why a join that was offered is not let in; an accepted one always has an answer
 abbrev pub outcome_fault : Outcome → Fault
 outcome_fault (outcome.Kept v) = verdict_fault v
 outcome_fault (outcome.Known v) = verdict_fault v
-outcome_fault (outcome.Refused r) = Forbidden (denial.Refusal r)
+outcome_fault (outcome.Refused r) = Refused r
 
 -- the reply of this server to a join that was answered so
 abbrev pub join_reply : List ℕ → JoinReply → Response
-join_reply server join.NotOffered = failure (denied_fault OtherServer)
+join_reply server join.NotOffered = failure (Denied denied.OtherServer)
 join_reply server (join.Offered outcome (Some j)) = success (canonical_text (joined_data server j))
 join_reply server (join.Offered outcome None) = failure (outcome_fault outcome)

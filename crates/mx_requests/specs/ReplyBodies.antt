@@ -11,10 +11,8 @@ use Rattle.mx_room.specs.declared.queries.Query.TheVariants.{Missing}
 use Rattle.mx_room.specs.declared.queries.QueryReply.{QueryReply}
 use Rattle.mx_room.specs.declared.queries.QueryReply.TheVariants as gives
 use Rattle.mx_room.specs.declared.queries.Denied.{Denied}
-use Rattle.mx_room.specs.declared.queries.Denied.TheVariants as denied
-use Rattle.mx_requests.specs.declared.faults.Denial.TheVariants as denial
 use Rattle.mx_requests.specs.declared.faults.Fault.{Fault}
-use Rattle.mx_requests.specs.declared.faults.Fault.TheVariants.{Forbidden, IncompatibleVersion, NotFound}
+use Rattle.mx_requests.specs.declared.faults.Fault.TheVariants as fault
 use Rattle.mx_requests.specs.Faults.{fault_body, fault_status}
 
 pub record Response : Type 0 where
@@ -86,15 +84,7 @@ query_data server now q (gives.Template v e) = template_data v (with_origin serv
 
 -- ---- replies
 
-abbrev pub denied_fault : Denied → Fault
-denied_fault denied.AccessList = Forbidden denial.ServerAcl
-denied_fault denied.NotInRoom = Forbidden denial.NotInRoom
-denied_fault denied.NotFound = NotFound
-denied_fault denied.OtherServer = Forbidden denial.UserOfAnotherServer
-denied_fault (denied.WrongVersion v) = IncompatibleVersion v
-denied_fault (denied.Rule rule) = Forbidden (denial.Rule rule)
-
 -- the reply of this server, at a time, to a query that was answered so
 abbrev pub query_reply : List ℕ → ℕ → Query → Result QueryReply Denied → Response
 query_reply server now q (Ok reply) = success (canonical_text (query_data server now q reply))
-query_reply server now q (Err why) = failure (denied_fault why)
+query_reply server now q (Err why) = failure (fault.Denied why)

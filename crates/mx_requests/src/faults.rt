@@ -1,11 +1,11 @@
 // The faults of a request: what is told in place of an answer.
 ghost use Rattle.std.specs.Prelude.{◌≡◌, ◌++◌, IfOk, List, ℕ, string_bytes};
+ghost use Rattle.mx_requests.specs.Faults as definition;
 ghost use Rattle.mx_requests.specs.Faults.{fault_body, fault_code, fault_status, fault_text, invalid_name, missing_name};
-ghost use Rattle.mx_requests.specs.Bodies.{body_end};
+ghost use Rattle.mx_requests.specs.Bodies.{body_end, denied_end};
 
-use mx_auth::{RoomVersion, Rule};
 use mx_canon::{TextBuffer, TextSink, write_key, write_string};
-use mx_room::Refusal;
+use mx_room::{Denied, Refusal};
 use std::alloc::{AllocError, Global};
 
 /// A parameter of a query that a request has to have.
@@ -29,21 +29,6 @@ pub enum InvalidPart {
     Path,
 }
 
-/// Why a request that is well formed is forbidden.
-#[derive(Clone, Copy, Debug, PartialEq, Eq, Drop)]
-pub enum Denial {
-    // The server is denied by the room's access control list.
-    ServerAcl,
-    // The server has no user in the room.
-    NotInRoom,
-    // The user that is to join is of another server.
-    UserOfAnotherServer,
-    // A line of the authorization rules rejects the event.
-    Rule(Rule),
-    // The room refuses the event before it is judged.
-    Refusal(Refusal),
-}
-
 /// What a request is told in place of an answer: a status, a code, a text, and a body that has the last two.
 ///
 /// Source: the section "Standard error response" of the Server-Server API of the Matrix specification.
@@ -57,16 +42,14 @@ pub enum Fault {
     Missing(MissingParameter),
     // A part of the request is not of its kind.
     Invalid(InvalidPart),
-    // The sender knows other versions of rooms than the room's.
-    IncompatibleVersion(RoomVersion),
     // The request has no header that names the server from which it comes.
     NoOrigin,
     // The request is for another server.
     WrongDestination,
-    // The request is well formed and forbidden.
-    Forbidden(Denial),
-    // What is asked for is not held, or not shown.
-    NotFound,
+    // The room denies what is asked for, or has nothing of it to show.
+    Denied(Denied),
+    // The room refuses the event before it is judged.
+    Refused(Refusal),
     // No route has this path.
     UnknownPath,
     // The route has another method.
@@ -128,10 +111,10 @@ impl Fault {
     {
         match self {
             Fault::NotJson | Fault::WrongForm | Fault::Missing(_) | Fault::Invalid(_) => 400,
-            Fault::IncompatibleVersion(_) => 400,
             Fault::NoOrigin | Fault::WrongDestination => 401,
-            Fault::Forbidden(_) => 403,
-            Fault::NotFound | Fault::UnknownPath => 404,
+            Fault::Denied(denied) => denied_status(denied),
+            Fault::Refused(_) => 403,
+            Fault::UnknownPath => 404,
             Fault::UnknownMethod => 405,
             Fault::TooLarge => 413,
             Fault::Memory | Fault::Storage | Fault::Busy => 503,
@@ -147,10 +130,9 @@ impl Fault {
             Fault::WrongForm => "M_BAD_JSON",
             Fault::Missing(_) => "M_MISSING_PARAM",
             Fault::Invalid(_) => "M_INVALID_PARAM",
-            Fault::IncompatibleVersion(_) => "M_INCOMPATIBLE_ROOM_VERSION",
             Fault::NoOrigin | Fault::WrongDestination => "M_UNAUTHORIZED",
-            Fault::Forbidden(_) => "M_FORBIDDEN",
-            Fault::NotFound => "M_NOT_FOUND",
+            Fault::Denied(denied) => denied_code(denied),
+            Fault::Refused(_) => "M_FORBIDDEN",
             Fault::UnknownPath | Fault::UnknownMethod => "M_UNRECOGNIZED",
             Fault::TooLarge => "M_TOO_LARGE",
             Fault::Memory | Fault::Storage | Fault::Busy => "M_UNKNOWN",
@@ -176,11 +158,10 @@ impl Fault {
             Fault::WrongForm => ("body has a wrong form", ""),
             Fault::Missing(parameter) => ("missing ", parameter.name()),
             Fault::Invalid(part) => ("invalid ", part.name()),
-            Fault::IncompatibleVersion(_) => ("room version", ""),
             Fault::NoOrigin => ("no origin", ""),
             Fault::WrongDestination => ("wrong destination", ""),
-            Fault::Forbidden(why) => why.words(),
-            Fault::NotFound => ("not found", ""),
+            Fault::Denied(denied) => denied_words(denied),
+            Fault::Refused(refusal) => (refusal.text(), ""),
             Fault::UnknownPath => ("unknown path", ""),
             Fault::UnknownMethod => ("unknown method", ""),
             Fault::TooLarge => ("body over 8 MiB", ""),
@@ -204,21 +185,38 @@ impl Fault {
     }
 }
 
-impl Denial {
-    ghost use Rattle.std.specs.Prelude.{◌≡◌, ◌++◌};
-    ghost use Rattle.mx_requests.specs.Faults.{denial_text};
+fn denied_status(denied: Denied) -> u16
+    ensures { result ≡ definition.denied_status denied }
+{
+    match denied {
+        Denied::WrongVersion(_) => 400,
+        Denied::NotFound => 404,
+        Denied::AccessList | Denied::NotInRoom | Denied::OtherServer | Denied::Rule(_) => 403,
+    }
+}
 
-    // Its text in two pieces.
-    fn words(self) -> (&'static str, &'static str)
-        ensures { result.0.now ++ result.1.now ≡ denial_text self }
-    {
-        match self {
-            Denial::ServerAcl => ("server acl", ""),
-            Denial::NotInRoom => ("not in room", ""),
-            Denial::UserOfAnotherServer => ("user of another server", ""),
-            Denial::Rule(rule) => ("rule ", rule.label()),
-            Denial::Refusal(refusal) => (refusal.text(), ""),
-        }
+fn denied_code(denied: Denied) -> &'static str
+    ensures { result.now ≡ definition.denied_code denied }
+{
+    match denied {
+        Denied::WrongVersion(_) => "M_INCOMPATIBLE_ROOM_VERSION",
+        Denied::NotFound => "M_NOT_FOUND",
+        Denied::AccessList | Denied::NotInRoom | Denied::OtherServer | Denied::Rule(_) =>
+            "M_FORBIDDEN",
+    }
+}
+
+// The text in two pieces.
+fn denied_words(denied: Denied) -> (&'static str, &'static str)
+    ensures { result.0.now ++ result.1.now ≡ definition.denied_text denied }
+{
+    match denied {
+        Denied::AccessList => ("server acl", ""),
+        Denied::NotInRoom => ("not in room", ""),
+        Denied::NotFound => ("not found", ""),
+        Denied::OtherServer => ("user of another server", ""),
+        Denied::WrongVersion(_) => ("room version", ""),
+        Denied::Rule(rule) => ("rule ", rule.label()),
     }
 }
 
@@ -239,7 +237,16 @@ fn write_body<S: TextSink>(sink: &mut S, fault: Fault, text: &[u8])
 fn close_body<S: TextSink>(sink: &mut S, fault: Fault)
     ensures { (taken : List ℕ) → S.has_taken sink.old taken → S.has_taken sink.new (taken ++ body_end fault) }
 {
-    if let Fault::IncompatibleVersion(version) = fault {
+    match fault {
+        Fault::Denied(denied) => close_denied(sink, denied),
+        _ => sink.put(b"}"),
+    }
+}
+
+fn close_denied<S: TextSink>(sink: &mut S, denied: Denied)
+    ensures { (taken : List ℕ) → S.has_taken sink.old taken → S.has_taken sink.new (taken ++ denied_end denied) }
+{
+    if let Denied::WrongVersion(version) = denied {
         sink.put(b",\"room_version\":\"");
         sink.put(version.text().as_bytes());
         sink.put(b"\"}");

@@ -12,7 +12,7 @@ mod targets;
 
 pub use bodies::transactions::{events_in, well_formed};
 pub use calls::WireCall;
-pub use faults::{Denial, Fault, InvalidPart, MissingParameter, memory_body};
+pub use faults::{Fault, InvalidPart, MissingParameter, memory_body};
 pub use replies::joins::join_reply;
 pub use replies::pieces::write_number;
 pub use replies::queries::query_reply;

@@ -1,2 +1,5 @@
+mod HandlerLemmas
+mod HostingLemmas
+mod LossLemmas
 mod RequestSending
 mod WorkerSending

@@ -14,7 +14,7 @@ use mx_directory::{
 use mx_engine::{Engine, OpenGate};
 use mx_http::{Announcer, Limits, ListenerHandle, Responders, ServeError, ServerRuntime, serve_on};
 use mx_ident::ServerName;
-use mx_keeper::{BookRow, CallError, Keeper, MOST_PLACES, ShardCount, ShardRow};
+use mx_keeper::{BookRow, Keeper, MOST_PLACES, ShardCount, ShardRow};
 use mx_line_queue::{LineOutput, LineSender};
 use mx_name_grammar::is_in_grammar;
 use mx_options::{SeatCount, ServeOptions};
@@ -25,7 +25,7 @@ use mx_watch::{
     start_room_watch,
 };
 use mx_wire::{WireCall, WireServer};
-use mx_world::World;
+use mx_world::{OpenError, World};
 use sqlite::Alter;
 use std::alloc::{AllocError, AllocGlobal, Global};
 use std::io::{self, Write};
@@ -191,17 +191,18 @@ where
         Err(error) => return Err(not_reopened(alloc, &options.data, error)),
     };
     let is_accepted = options.accept_loss;
-    check_losses(alloc, &server, count, &options.data, is_accepted, err)?;
+    let losses = check_losses(alloc, &server, count, &options.data, is_accepted)?;
+    tell_losses(&losses, err);
     oversight.watch.check_counts(rt, is_accepted, err)?;
     host_rooms(alloc, &mut server, rooms, file_of_rooms(&options), err)?;
     listen(rt, server, oversight, options, out, err)
 }
 
 // Rows that are no server's, or for which no memory is left.
-fn not_reopened(alloc: Global, data: &str, error: CallError) -> StartError {
+fn not_reopened(alloc: Global, data: &str, error: OpenError) -> StartError {
     match error {
-        CallError::Memory => StartError::from(ServerError::Memory),
-        CallError::Storage => {
+        OpenError::Memory => StartError::from(ServerError::Memory),
+        OpenError::Shard(_) | OpenError::Book(_) => {
             let cause = "no server with so many shards has these rows";
             StartError::about(alloc, ServerError::Storage, data, &cause)
         }
@@ -379,7 +380,8 @@ where
         let answer = move |alloc: Global, now: Moment, call: WireCall| {
             worker.answer(&runtime, alloc, now, call)
         };
-        let handler = Handler::new(Arc::try_clone(&reader)?, desk, runtime, answer);
+        let reader = Arc::try_clone(&reader)?;
+        let handler = Handler::new(rt.alloc(), reader, desk, runtime, answer);
         if loops.len() < crew.loops() {
             loops.push(handler).map_err(AllocError::from)?;
         } else {

@@ -4,10 +4,13 @@ ghost use Rattle.mx_engine.specs.Seats.{IsSeatOf, book_views, seat_number, shard
 ghost use Rattle.mx_http_requests.specs.Carried.{IsCarried, http_reply_shown};
 ghost use Rattle.mx_requests.specs.CallsShown.{call_shown};
 ghost use Rattle.mx_requests.specs.RepliesShown.{reply_shown};
+ghost use Rattle.mx_server.specs.Moments.{moment_shown};
+ghost use Rattle.mx_server.specs.Replies.{AsksSome, IsReplyTo, IsWorkersReply, answer_shown};
 ghost use Rattle.mx_wire.specs.Responses.{IsCallAnswered, IsCallRefused, unavailable};
 
 use crate::reading::RequestReader;
 use bytes::Bytes;
+use json::Scratch;
 use mx_admin::DeskThread;
 use mx_answer_records::{Answered, CallAbout, RequestAbout, note_answer};
 use mx_directory::RowFiles;
@@ -24,7 +27,7 @@ use std::alloc::{AllocError, Global};
 use std::marker::Model;
 use std::sync::{Arc, Wait};
 use std::thread::Threads;
-use std::time::Clock;
+use std::time::{Clock, Duration};
 
 // The status where a body does not come in its coding.
 const BAD_REQUEST: u16 = 400;
@@ -60,13 +63,19 @@ pub struct Worker<K: Keeper<Row = ShardRow>, L: Keeper<Row = BookRow>> {
 }
 
 impl<K: Keeper<Row = ShardRow>, L: Keeper<Row = BookRow>> Model for Worker<K, L> {
-    ghost use Rattle.std.specs.Prelude.{ℕ};
-    ghost use Rattle.mx_engine.specs.Seats.{IsSeatOf, seat_number};
+    ghost use Rattle.mx_engine.specs.Seats.{IsSeatOf, book_views, seat_number, shard_views};
+    ghost use Rattle.mx_server.specs.WorkerViews.{WorkerView, worker_code};
 
-    // The number of its seat.
-    ghost Value = { ℕ };
+    ghost Value = { WorkerView };
 
-    ghost view = { λ worker. seat_number worker.seat };
+    ghost coded = { worker_code };
+
+    ghost view = { λ worker. record {
+      name = worker.shared.value.name;
+      number = seat_number worker.seat;
+      shards = shard_views worker.seat;
+      books = book_views worker.seat;
+    } };
 
     ghost invariant = { λ worker. IsSeatOf worker.shared.value.engine worker.seat };
 }
@@ -87,7 +96,11 @@ impl<K: Keeper<Row = ShardRow> + Send, L: Keeper<Row = BookRow>> Worker<K, L> {
         alloc: Global,
         now: Moment,
         call: WireCall,
-    ) -> AnsweredRequest {
+    ) -> AnsweredRequest
+        ensures name { self.new.name ≡ self.old.name }
+        ensures number { self.new.number ≡ self.old.number }
+        ensures reply { IsWorkersReply now (call_shown call) self.old self.new (answer_shown result) }
+    {
         let answered = answer_in(rt, alloc, &self.shared, &mut self.seat, now, call);
         answered_request(rt, alloc, &self.shared, answered)
     }
@@ -189,6 +202,8 @@ pub struct NotedCall {
 #[derive(Drop)]
 pub struct Handler<F: Drop, C: Drop> {
     reader: Arc<RequestReader>,
+    // What bodies are read over.
+    scratch: Scratch,
     desk: DeskThread,
     // The clock of what is noted.
     clock: C,
@@ -198,11 +213,18 @@ pub struct Handler<F: Drop, C: Drop> {
 }
 
 impl<F: Drop, C: Wait + Clock + Drop> Handler<F, C> {
-    pub fn new(reader: Arc<RequestReader>, desk: DeskThread, clock: C, answer: F) -> Handler<F, C>
+    pub fn new(
+        alloc: Global,
+        reader: Arc<RequestReader>,
+        desk: DeskThread,
+        clock: C,
+        answer: F,
+    ) -> Handler<F, C>
         ensures { result.answer ≡ answer }
     {
         Handler {
             reader,
+            scratch: Scratch::new(alloc),
             desk,
             clock,
             answer,
@@ -217,7 +239,9 @@ impl<F: Drop, C: Wait + Clock + Drop> Handler<F, C> {
         about: RequestAbout,
         call: Option<CallAbout>,
         reply: HttpReply,
-    ) -> HttpReply {
+    ) -> HttpReply
+        ensures { result ≡ reply }
+    {
         let answered = Answered {
             request: about,
             call,
@@ -229,7 +253,9 @@ impl<F: Drop, C: Wait + Clock + Drop> Handler<F, C> {
     }
 
     // Notes the reply to a request whose body was not read.
-    fn noted_unread(&self, alloc: Global, reply: HttpReply) -> HttpReply {
+    fn noted_unread(&self, alloc: Global, reply: HttpReply) -> HttpReply
+        ensures { result ≡ reply }
+    {
         self.noted(alloc, RequestAbout::unknown(&self.clock), None, reply)
     }
 
@@ -254,6 +280,10 @@ impl<F: FnMut(Global, Moment, WireCall) -> AnsweredRequest + Drop, C: Wait + Clo
 
     ghost can_respond = { (answer : F) → F.IsAlwaysCallable answer };
 
+    ghost asks = { λ request noted. AsksSome request noted.call };
+
+    ghost answers = { λ request reply. IsReplyTo F.step request reply };
+
     fn has_long_reply(_method: &str, target: &[u8]) -> bool {
         LONG_REPLIES.iter().any(|path| target.starts_with(*path))
     }
@@ -262,9 +292,9 @@ impl<F: FnMut(Global, Moment, WireCall) -> AnsweredRequest + Drop, C: Wait + Clo
         self.reader.is_short(request)
     }
 
-    fn read(&self, alloc: Global, request: HttpRequest) -> ReadRequest<NotedCall> {
+    fn read(&mut self, alloc: Global, request: HttpRequest) -> ReadRequest<NotedCall> {
         let about = RequestAbout::of(&self.clock, request.method.as_str(), &request.target);
-        match self.reader.read(alloc, request) {
+        match self.reader.read(alloc, &mut self.scratch, request) {
             ReadRequest::Refused(reply) => {
                 ReadRequest::Refused(self.noted(alloc, about, None, reply))
             }
@@ -350,17 +380,20 @@ fn answer_in<K: Keeper<Row = ShardRow> + Send, L: Keeper<Row = BookRow>, R: Thre
     answer_call(rt, alloc, &shared.name, &shared.engine, seat, now, call)
 }
 
-// The moment of the clock: the first one where it can't be read, the latest one where it shows more.
+// The moment of the clock.
 fn moment<C: Clock>(clock: &C) -> Moment {
-    let milliseconds = match clock.since_1970() {
-        Ok(time) => u64::try_from(time.as_millis()).unwrap_or(u64::MAX),
-        Err(_error) => 0,
+    moment_of(clock.since_1970().ok())
+}
+
+// The moment that a clock shows: the first one where it can't be read, the latest one where it shows more.
+fn moment_of(time: Option<Duration>) -> Moment
+    ensures { result ≡ moment_shown time }
+{
+    let milliseconds = match time {
+        Some(time) => u64::try_from(time.as_millis()).unwrap_or(u64::MAX),
+        None => 0,
     };
-    if milliseconds < LATEST_MILLISECONDS {
-        Moment::at(milliseconds).unwrap()
-    } else {
-        Moment::at(LATEST_MILLISECONDS).unwrap()
-    }
+    Moment::at(milliseconds.min(LATEST_MILLISECONDS)).unwrap()
 }
 
 /// A worker at each seat of an engine.

@@ -1,10 +1,11 @@
 -- All the seats of an engine, in the order of their numbers.
-use Rattle.std.proofs.Common.{◌≡◌, ◌+◌, ◌++◌, ◌∙◌, ℕ, ◌<◌, ◌≤◌, List, [], ◌∷◌, append-nil, drop, length, get_or, map, sym, take, ap, subst, arith}
+use Rattle.std.proofs.Common.{◌≡◌, ◌+◌, ◌++◌, ◌∙◌, ℕ, ◌<◌, ◌≤◌, zero, suc, List, [], ◌∷◌, append-nil, drop, length, get_or, map, sym, take, ap, subst, arith}
 use Rattle.std.specs.Prelude.{All}
 use Rattle.std.proofs.lemmas.List.{drop_all, length-map, get_or-map, take_all}
+use Rattle.std.proofs.lemmas.List.Elements.{All-cons, All-nil}
 use Rattle.mx_engine.specs.declared.engines.Engine.{Engine}
 use Rattle.mx_engine.specs.declared.seats.Seat.{Seat}
-use Rattle.mx_engine.specs.Seats.{IsSeatOf, seat_number, AreAllSeats, BeginsWithFirstSeat}
+use Rattle.mx_engine.specs.Seats.{IsSeatOf, seat_number, seats_made, AreAllSeats, BeginsWithFirstSeat}
 use Rattle.mx_engine.proofs.SeatLemmas.{numbered_first, numbered_all}
 use Rattle.mx_server_tests.specs.Callers.{AreTheSeats}
 
@@ -14,6 +15,20 @@ module _ {K L V G : Type 0} (engine : Engine K L V G) (seats : List (Seat K L)) 
 
   pub the-all : AreAllSeats engine seats
   the-all = λ n from to. numbered_all seats (length seats) (λ i. length seats) are.numbers n from (subst (λ k. n ≤ k) (sym are.whole) to)
+
+-- where there is one seat
+module _ {K L V G : Type 0} (engine : Engine K L V G) (seat : Seat K L) where
+  only_number : seat_number seat ≡ 1 → (n : ℕ) (d : Seat K L) → n < 1 → seat_number (get_or (seat ∷ []) n d) ≡ n + 1
+  only_number is zero d l = is
+  only_number is (suc n) d l = absurd (omega (arith, l))
+
+  pub the-only : IsSeatOf engine seat → seat_number seat ≡ 1 → seats_made engine ≡ 1 → AreTheSeats engine (seat ∷ [])
+  the-only mine number count = record {
+    mine = All-cons (IsSeatOf engine) seat [] mine (All-nil (IsSeatOf engine));
+    numbers = only_number number;
+    whole = sym count;
+    some = omega arith;
+  }
 
 module _ {K L V G C : Type 0} (engine : Engine K L V G) (seat : C → Seat K L) where
   -- what is so of the seats is so of who has them

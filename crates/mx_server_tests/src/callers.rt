@@ -6,8 +6,7 @@ ghost use Rattle.mx_server_tests.specs.Callers.{AreTheSeats};
 
 use crate::engines::{TestEngine, TestSeat, send};
 use crate::gates::Meeting;
-use crate::room_events::{RoomEvents, events, key_of, message};
-use crate::values::event;
+use crate::room_events::{TestRoom, create_of, key_of, message, others_of};
 use mx_book::TransactionKey;
 use mx_engine::TransactionReply;
 use mx_pdu::Pdu;
@@ -80,7 +79,8 @@ fn turns_in_threads<R: Threads + Wait + Sync>(
     requires { All (λ c. IsSeatOf engine.now c.seat) callers.old }
     ensures count { length callers.new ≡ length callers.old }
     ensures mine { All (λ c. IsSeatOf engine.now c.seat) callers.new }
-    ensures numbers { (n : ℕ) (d : Caller) → n < length callers.old → seat_number (get_or callers.new n d).seat ≡ seat_number (get_or callers.old n d).seat }
+    ensures numbers { (n : ℕ) (d : Caller) → n < length callers.old
+        → seat_number (get_or callers.new n d).seat ≡ seat_number (get_or callers.old n d).seat }
 {
     thread::for_each_mut(
         rt,
@@ -88,7 +88,8 @@ fn turns_in_threads<R: Threads + Wait + Sync>(
         4,
         &|place, caller|
             requires { IsSync R.row × IsSeatOf engine.now caller.old.seat }
-            ensures { IsSeatOf engine.entry.now caller.new.seat × (seat_number caller.new.seat ≡ seat_number caller.old.seat) }
+            ensures { IsSeatOf engine.entry.now caller.new.seat
+                × (seat_number caller.new.seat ≡ seat_number caller.old.seat) }
         {
             meeting.before(place);
             take_turn(rt, alloc, engine, caller);
@@ -117,7 +118,7 @@ pub fn after_a_turn<R: Threads + Wait + Sync>(
 // What a caller is to do: it hosts and fills the room, and sends so many messages in a transaction with this number.
 #[derive(Drop)]
 pub struct Plan {
-    pub room: RoomEvents,
+    pub room: TestRoom,
     pub txn: &'static str,
     pub messages: u32,
 }
@@ -126,18 +127,22 @@ fn messages(alloc: Global, plan: &Plan) -> Result<Vec<Pdu>, AllocError> {
     let mut all = Vec::new(alloc);
     for number in 0..plan.messages {
         let body = format!(in alloc; "{} {number}", plan.txn)?;
-        all.push(message(alloc, &plan.room, &body)?)?;
+        all.push(message(alloc, plan.room, &body)?)?;
     }
     Ok(all)
 }
 
 // Three turns, the last one first.
 fn turns_of(alloc: Global, plan: &Plan) -> Result<Vec<Turn>, AllocError> {
-    let last = Turn::Send(key_of(alloc, plan.txn)?, messages(alloc, plan)?);
-    let create = event(alloc, plan.room.create)?;
-    let others = events(alloc, &plan.room.others)?;
-    let filling = Turn::Send(key_of(alloc, plan.room.room)?, others);
-    Ok(vec![in alloc; last, filling, Turn::Host(create)]?)
+    let last = sending(alloc, plan.txn, messages(alloc, plan)?)?;
+    let filling = sending(alloc, plan.room.id(), others_of(alloc, plan.room)?)?;
+    let hosting = Turn::Host(create_of(alloc, plan.room)?);
+    Ok(vec![in alloc; last, filling, hosting]?)
+}
+
+fn sending(alloc: Global, txn: &str, events: Vec<Pdu>) -> Result<Turn, AllocError> {
+    let key = key_of(alloc, txn)?;
+    Ok(Turn::Send(key, events))
 }
 
 // A caller at the seat, with what it is to do.

@@ -4,6 +4,7 @@ ghost use Rattle.mx_engine.specs.Seats.{IsSeatOf, seat_number};
 ghost use Rattle.mx_server_tests.specs.Callers.{AreTheSeats};
 
 use crate::gates::MeetingGate;
+use crate::room_events::key_of;
 use crate::values::refused;
 use mx_book::{Book, TransactionKey};
 use mx_engine::{Engine, Seat, TransactionReply};
@@ -49,6 +50,34 @@ pub fn opened<R: Wait>(
     Ok(made)
 }
 
+// An engine of two shards that host no room, and its seat.
+pub fn with_one_seat<R: Wait>(
+    rt: &R,
+    alloc: Global,
+    gate: MeetingGate,
+) -> Result<(TestEngine, TestSeat), AllocError>
+    ensures { IfOk result (λ made. IsSeatOf made.0 made.1) }
+{
+    let (engine, mut seats) = opened(rt, alloc, gate, 1)?;
+    let seat = seats.remove(0);
+    Ok((engine, seat))
+}
+
+// Such an engine, and its two seats.
+pub fn with_two_seats<R: Wait>(
+    rt: &R,
+    alloc: Global,
+    gate: MeetingGate,
+) -> Result<(TestEngine, TestSeat, TestSeat), AllocError>
+    ensures first { IfOk result (λ made. IsSeatOf made.0 made.1) }
+    ensures second { IfOk result (λ made. IsSeatOf made.0 made.2) }
+{
+    let (engine, mut seats) = opened(rt, alloc, gate, 2)?;
+    let first = seats.remove(0);
+    let second = seats.remove(0);
+    Ok((engine, first, second))
+}
+
 // The reply to a transaction of these events through a seat.
 pub fn send<R: Threads + Wait + Sync>(
     rt: &R,
@@ -63,6 +92,22 @@ pub fn send<R: Threads + Wait + Sync>(
     ensures number { seat_number seat.new ≡ seat_number seat.old }
 {
     engine.transaction(rt, alloc, seat, key, events)
+}
+
+// The reply to a transaction of a.example with this number through a seat.
+pub fn reply_to<R: Threads + Wait + Sync>(
+    rt: &R,
+    alloc: Global,
+    engine: &TestEngine,
+    seat: &mut TestSeat,
+    txn: &str,
+    events: Vec<Pdu>,
+) -> Result<TransactionReply, AllocError>
+    requires { IsSeatOf engine.now seat.old }
+    ensures { IsSeatOf engine.now seat.new }
+{
+    let key = key_of(alloc, txn)?;
+    send(rt, alloc, engine, seat, &key, events).map_err(refused)
 }
 
 // The server on one thread that is left once all seats are given back.

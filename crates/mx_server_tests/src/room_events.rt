@@ -7,16 +7,45 @@ use mx_redact::content_hash;
 use serde_json::Value;
 use std::alloc::{AllocError, Global};
 
-// The events of a room: A creates it and joins, gives B and C level 50 and lets everybody join, and they join.
-#[derive(Drop)]
-pub struct RoomEvents {
-    pub room: &'static str,
-    pub create: &'static str,
-    pub others: [&'static str; 5],
-    pub ids: [&'static str; 6],
+// The two rooms of the tests.
+#[derive(Clone, Copy)]
+pub enum TestRoom {
+    First,
+    Second,
 }
 
-pub const FIRST_ROOM: RoomEvents = RoomEvents {
+impl TestRoom {
+    // The room's id.
+    pub fn id(self) -> &'static str {
+        let RoomEvents { room, .. } = self.events();
+        room
+    }
+
+    // The id of the room's last event.
+    pub fn last_id(self) -> &'static str {
+        let RoomEvents { ids, .. } = self.events();
+        let [_, _, _, _, _, last] = ids;
+        last
+    }
+
+    fn events(self) -> RoomEvents {
+        match self {
+            TestRoom::First => FIRST_ROOM,
+            TestRoom::Second => SECOND_ROOM,
+        }
+    }
+}
+
+// The events of a room: A creates it and joins, gives B and C level 50 and lets everybody join, and they join.
+#[derive(Drop)]
+struct RoomEvents {
+    room: &'static str,
+    create: &'static str,
+    others: [&'static str; 5],
+    ids: [&'static str; 6],
+}
+
+const FIRST_ROOM: RoomEvents = RoomEvents {
     room: "!r:a.example",
     create: "{\"auth_events\":[],\"content\":{\"creator\":\"@a:a.example\",\"room_version\":\"6\"},\"depth\":1,\"hashes\":{\"sha256\":\"zibTlrvpTSp/W5vkL4NdWNTuf4IhaqcyDIAshZlSXI4\"},\"origin_server_ts\":10,\"prev_events\":[],\"room_id\":\"!r:a.example\",\"sender\":\"@a:a.example\",\"signatures\":{\"a.example\":{\"ed25519:1\":\"s\"}},\"state_key\":\"\",\"type\":\"m.room.create\"}",
     others: [
@@ -46,7 +75,7 @@ pub const JOIN_OF_D: &str =
 
 pub const ID_OF_JOIN_OF_D: &str = "$asOKoHHX7MvnGcMLhdDchoFmQtvw5UVvg5B0POS_N7I";
 
-pub const SECOND_ROOM: RoomEvents = RoomEvents {
+const SECOND_ROOM: RoomEvents = RoomEvents {
     room: "!s:a.example",
     create: "{\"auth_events\":[],\"content\":{\"creator\":\"@a:a.example\",\"room_version\":\"6\"},\"depth\":1,\"hashes\":{\"sha256\":\"qUcbb2K7v6tk7bOZ65STR7ZgqiOokz4i3BGo6dyzVtc\"},\"origin_server_ts\":10,\"prev_events\":[],\"room_id\":\"!s:a.example\",\"sender\":\"@a:a.example\",\"signatures\":{\"a.example\":{\"ed25519:1\":\"s\"}},\"state_key\":\"\",\"type\":\"m.room.create\"}",
     others: [
@@ -66,6 +95,17 @@ pub const SECOND_ROOM: RoomEvents = RoomEvents {
     ],
 };
 
+// The room's events behind its create event.
+pub fn others_of(alloc: Global, room: TestRoom) -> Result<Vec<Pdu>, AllocError> {
+    let RoomEvents { others, .. } = room.events();
+    events(alloc, &others)
+}
+
+pub fn create_of(alloc: Global, room: TestRoom) -> Result<Pdu, AllocError> {
+    let RoomEvents { create, .. } = room.events();
+    event(alloc, create)
+}
+
 pub fn events(alloc: Global, texts: &[&str]) -> Result<Vec<Pdu>, AllocError> {
     let mut events = Vec::new(alloc);
     for text in texts {
@@ -80,23 +120,22 @@ pub fn key_of(alloc: Global, txn: &str) -> Result<TransactionKey, AllocError> {
 }
 
 // A message of A behind the room's last event.
-pub fn message(alloc: Global, of: &RoomEvents, body: &str) -> Result<Pdu, AllocError> {
+pub fn message(alloc: Global, of: TestRoom, body: &str) -> Result<Pdu, AllocError> {
+    let hash = hash_of_message(alloc, of, body)?;
+    event(alloc, &message_text(alloc, of, body, &hash)?)
+}
+
+fn hash_of_message(alloc: Global, of: TestRoom, body: &str) -> Result<String, AllocError> {
     let unhashed = message_text(alloc, of, body, "")?;
     let value = Value::from_str(alloc, &unhashed).map_err(refused)?;
     let members = value.as_object().ok_or(AllocError)?;
     let hash = content_hash(members).map_err(refused)?;
-    let hash = STANDARD_NO_PAD.encode(alloc, &hash)?;
-    event(alloc, &message_text(alloc, of, body, &hash)?)
+    STANDARD_NO_PAD.encode(alloc, &hash)
 }
 
-fn message_text(
-    alloc: Global,
-    of: &RoomEvents,
-    body: &str,
-    hash: &str,
-) -> Result<String, AllocError> {
-    let room = of.room;
-    let [create, join, levels, _, _, last] = of.ids;
+fn message_text(alloc: Global, of: TestRoom, body: &str, hash: &str) -> Result<String, AllocError> {
+    let RoomEvents { room, ids, .. } = of.events();
+    let [create, join, levels, _, _, last] = ids;
     format!(in alloc;
         "{{\"auth_events\":[\"{create}\",\"{join}\",\"{levels}\"],\"content\":{{\"body\":\"{body}\"}},\"depth\":7,\"hashes\":{{\"sha256\":\"{hash}\"}},\"origin_server_ts\":70,\"prev_events\":[\"{last}\"],\"room_id\":\"{room}\",\"sender\":\"@a:a.example\",\"signatures\":{{\"a.example\":{{\"ed25519:1\":\"s\"}}}},\"type\":\"m.room.message\"}}"
     )

@@ -1,8 +1,9 @@
 use crate::values::{event, event_id, refused, server};
-use mx_keeper::{Caller, Keeper, KeeperFault, MemoryKeeper, Place, ShardRow};
+use crate::words::{word_of_answer, word_of_refusal};
+use mx_keeper::{Caller, Keeper, KeeperFault, Place, ShardRow};
 use mx_pdu::Offered;
 use mx_room::{Moment, Outcome, Query, Refusal, Room};
-use mx_shard::{Answer, CallError, Shard};
+use mx_shard::{CallError, Shard};
 use std::alloc::{AllocError, Global};
 use std::test::Fail;
 
@@ -30,37 +31,63 @@ fn offered(alloc: Global, name: &str) -> Result<Offered, AllocError> {
     })
 }
 
+fn ask<K: Keeper<Row = ShardRow>>(
+    alloc: Global,
+    shard: &mut Shard<K>,
+    offered: Offered,
+) -> Result<&'static str, CallError> {
+    let origin = server(alloc, "a.example")?;
+    let now = Moment::at(1).ok_or(AllocError)?;
+    let query = Query::Event(offered.id);
+    Ok(word_of_answer(&shard.ask(&origin, now, &query)?))
+}
+
+fn host<K: Keeper<Row = ShardRow>>(
+    shard: &mut Shard<K>,
+    offered: &Offered,
+) -> Result<&'static str, CallError> {
+    if !shard.place().has(offered.pdu.room_id().as_str()) {
+        return Ok("another place");
+    }
+    Ok(word_of_answer(&shard.host(Caller::new(0), offered)?))
+}
+
+fn offer<K: Keeper<Row = ShardRow>>(
+    alloc: Global,
+    shard: &mut Shard<K>,
+    offered: &Offered,
+) -> Result<&'static str, CallError> {
+    if !shard.place().has(offered.pdu.room_id().as_str()) {
+        return Ok("another place");
+    }
+    let origin = server(alloc, "a.example")?;
+    Ok(word_of_answer(&shard.offer(Caller::new(0), &origin, offered)?))
+}
+
 // A call of the server a.example by its words, `host NAME`, `offer NAME` or `ask NAME`. The answer is told in a word.
 fn tell<K: Keeper<Row = ShardRow>>(
     alloc: Global,
     shard: &mut Shard<K>,
-    caller: u32,
     call: &str,
 ) -> Result<&'static str, CallError> {
-    let mut words = call.split(' ');
-    let kind = words.next().unwrap_or("");
-    let offered = offered(alloc, words.next().unwrap_or(""))?;
-    let origin = server(alloc, "a.example")?;
-    if kind == "ask" {
-        let now = Moment::at(1).ok_or(AllocError)?;
-        return Ok(word(&shard.ask(&origin, now, &Query::Event(offered.id))?));
+    let (kind, name) = call.split_once(' ').unwrap_or(("", ""));
+    let offered = offered(alloc, name)?;
+    match kind {
+        "ask" => ask(alloc, shard, offered),
+        "host" => host(shard, &offered),
+        _ => offer(alloc, shard, &offered),
     }
-    if !shard.place().has(offered.pdu.room_id().as_str()) {
-        return Ok("another place");
-    }
-    if kind == "host" {
-        return Ok(word(&shard.host(Caller::new(caller), &offered)?));
-    }
-    Ok(word(&shard.offer(Caller::new(caller), &origin, &offered)?))
 }
 
-fn word(answer: &Answer) -> &'static str {
-    match answer {
-        Answer::Hosted(_) => "hosted",
-        Answer::AlreadyHosted(_) => "already",
-        Answer::ToOffered(Outcome::Kept(_)) => "kept",
-        Answer::ToAsked(Ok(_)) => "event",
-        _ => "another answer",
+// The same, where a refusal is a word too.
+fn told<K: Keeper<Row = ShardRow>>(
+    alloc: Global,
+    shard: &mut Shard<K>,
+    call: &str,
+) -> &'static str {
+    match tell(alloc, shard, call) {
+        Ok(word) => word,
+        Err(refusal) => word_of_refusal(refusal),
     }
 }
 
@@ -113,48 +140,91 @@ impl Keeper for FailingKeeper {
     ghost settled = { λ _ _ honest _ _. absurd honest };
 }
 
-// From the first failure on each call is refused, and the keeper isn't asked again.
-#[test]
-fn refused_from_the_first_failure(rt: HostRuntime) -> Result<(), Fail> {
-    let alloc = rt.alloc();
+fn over_failing_keeper(alloc: Global) -> Result<Shard<FailingKeeper>, CallError> {
     let keeper = FailingKeeper {
         alloc,
         left: 1,
         failures: 0,
     };
-    let mut shard = Shard::reopen(alloc, keeper, Place::new(0, 1))?;
-    for (call, wanted) in [
-        ("host create", None),
-        ("ask create", None),
-        ("offer join", Some(CallError::Storage)),
-        ("host create", Some(CallError::Storage)),
-        ("ask create", Some(CallError::Storage)),
-    ] {
-        assert_eq!(rt; tell(alloc, &mut shard, 0, call).err(), wanted, "at {call}");
+    Shard::reopen(alloc, keeper, Place::new(0, 1))
+}
+
+// What is answered to these calls, each in a word, and how often the keeper failed.
+fn all_told(alloc: Global, calls: &[&str]) -> Result<(String, u64), CallError> {
+    let mut shard = over_failing_keeper(alloc)?;
+    let mut words = String::new(alloc);
+    for call in calls {
+        let word = told(alloc, &mut shard, call);
+        words.push_str(" ")?;
+        words.push_str(word)?;
     }
-    assert_eq!(rt; shard.into_keeper().failures(), 1);
+    let failures = shard.into_keeper().failures();
+    Ok((words, failures))
+}
+
+// From the first failure on each call is refused, and the keeper isn't asked again. A server that is not in the room is told
+// of none of its events.
+#[test]
+fn refused_from_the_first_failure(rt: HostRuntime) -> Result<(), Fail> {
+    let calls = [
+        "host create",
+        "ask create",
+        "offer join",
+        "host create",
+        "ask create",
+    ];
+    let (words, failures) = all_told(rt.alloc(), &calls)?;
+    assert_eq!(rt; words.as_str(), " hosted absent storage storage storage");
+    assert_eq!(rt; failures, 1);
     Ok(())
 }
 
-fn received(alloc: Global, room: &mut Room, signed: bool) -> Result<Outcome, AllocError> {
+fn hosted_room(alloc: Global) -> Result<Room, AllocError> {
+    let create = offered(alloc, "create")?;
+    Room::host(alloc, &create).map_err(refused)
+}
+
+fn word_of_outcome(outcome: &Outcome) -> &'static str {
+    match outcome {
+        Outcome::Kept(_) => "kept",
+        Outcome::Known(_) => "known",
+        Outcome::Refused(refusal) => word_of_cause(refusal),
+    }
+}
+
+fn word_of_cause(cause: &Refusal) -> &'static str {
+    match cause {
+        Refusal::Signature => "signature",
+        _ => "other",
+    }
+}
+
+// What becomes of the join that the server a.example sends, signed or not.
+fn received(alloc: Global, room: &mut Room, signed: bool) -> Result<&'static str, AllocError> {
     let mut join = offered(alloc, "join")?;
     join.signed = signed;
     let origin = server(alloc, "a.example")?;
-    room.receive(alloc, &origin, &join)
+    let outcome = room.receive(alloc, &origin, &join)?;
+    Ok(word_of_outcome(&outcome))
+}
+
+// What becomes of it where it comes unsigned, then signed, and then unsigned again, and how many events the room has then.
+fn all_received(alloc: Global) -> Result<(String, usize), AllocError> {
+    let mut room = hosted_room(alloc)?;
+    let mut words = String::new(alloc);
+    for signed in [false, true, false] {
+        let word = received(alloc, &mut room, signed)?;
+        words.push_str(" ")?;
+        words.push_str(word)?;
+    }
+    Ok((words, room.len()))
 }
 
 // A room with no shard around it. A shard prepares each event, and keeps it before the room has it.
 #[test]
 fn events_received_by_a_room(rt: HostRuntime) -> Result<(), Fail> {
-    let alloc = rt.alloc();
-    let create = offered(alloc, "create")?;
-    let mut room = Room::host(alloc, &create).map_err(refused)?;
-    let unsigned = received(alloc, &mut room, false)?;
-    assert!(rt; matches!(unsigned, Outcome::Refused(Refusal::Signature)));
-    let signed = received(alloc, &mut room, true)?;
-    assert!(rt; matches!(signed, Outcome::Kept(_)));
-    let again = received(alloc, &mut room, false)?;
-    assert!(rt; matches!(again, Outcome::Known(_)));
-    assert_eq!(rt; room.len(), 2);
+    let (words, length) = all_received(rt.alloc())?;
+    assert_eq!(rt; words.as_str(), " signature kept known");
+    assert_eq!(rt; length, 2);
     Ok(())
 }

@@ -2,12 +2,13 @@ ghost use Rattle.std.specs.Prelude.{◌≡◌, ◌≤◌, length, IfOk, IsTrue};
 ghost use Rattle.mx_world.specs.Worlds.{none_open};
 
 use crate::values::{event, event_id, key, refused, server};
+use crate::words::word;
+use mx_book::TransactionKey;
 use mx_ident::RoomId;
 use mx_keeper::{MemoryKeeper, Storable};
 use mx_pdu::Offered;
 use mx_world::{
-    Answer, BookRow, CallError, Denied, EventIdList, Moment, Query, QueryReply, ShardRow, Step,
-    StepReply, World, run,
+    BookRow, CallError, EventIdList, Moment, Query, ShardRow, Step, StepReply, World, run,
 };
 use std::alloc::{AllocError, Global};
 
@@ -52,65 +53,101 @@ fn list_of(alloc: Global, id: &str) -> Result<EventIdList, AllocError> {
     Ok(EventIdList::new(ids))
 }
 
-// A query that names a room, about the first event; between both for `missing`.
-fn query_in(
-    alloc: Global,
-    kind: &str,
-    room: &str,
-    first: &str,
-    last: &str,
-) -> Result<Query, AllocError> {
-    let room = RoomId::parse(alloc, room).map_err(refused)?;
-    let event = event_id(alloc, first)?;
-    let ids = list_of(alloc, first)?;
+// A query for a state by an event, or for the event's auth chain.
+fn state_query(alloc: Global, kind: &str, room: RoomId, id: &str) -> Result<Query, AllocError> {
+    let event = event_id(alloc, id)?;
     match kind {
         "state" => Ok(Query::State { room, event }),
         "state_ids" => Ok(Query::StateIds { room, event }),
-        "event_auth" => Ok(Query::EventAuth { room, event }),
-        "backfill" => Ok(Query::Backfill {
-            room,
-            from: ids,
-            limit: 10,
-        }),
-        _ => Ok(Query::Missing {
-            room,
-            earliest: ids,
-            latest: list_of(alloc, last)?,
-            limit: 10,
-            min_depth: 0,
-        }),
+        _ => Ok(Query::EventAuth { room, event }),
     }
+}
+
+// A query for the events behind one.
+fn backfill(alloc: Global, room: RoomId, id: &str) -> Result<Query, AllocError> {
+    let from = list_of(alloc, id)?;
+    Ok(Query::Backfill {
+        room,
+        from,
+        limit: 10,
+    })
+}
+
+// A query for the events between two.
+fn missing(alloc: Global, room: RoomId, first: &str, last: &str) -> Result<Query, AllocError> {
+    let earliest = list_of(alloc, first)?;
+    let latest = list_of(alloc, last)?;
+    Ok(Query::Missing {
+        room,
+        earliest,
+        latest,
+        limit: 10,
+        min_depth: 0,
+    })
+}
+
+// A query that names a room, by `ID`, or by `ID ID` for `missing`.
+fn query_in(alloc: Global, kind: &str, room: &str, ids: &str) -> Result<Query, AllocError> {
+    let room = RoomId::parse(alloc, room).map_err(refused)?;
+    let (first, last) = ids.split_once(' ').unwrap_or((ids, ""));
+    match kind {
+        "backfill" => backfill(alloc, room, first),
+        "missing" => missing(alloc, room, first, last),
+        _ => state_query(alloc, kind, room, first),
+    }
+}
+
+// A query of the server a.example for the event with this id.
+fn ask_for_event(alloc: Global, id: &str) -> Result<Step, AllocError> {
+    let query = Query::Event(event_id(alloc, id)?);
+    ask(alloc, "a.example", query)
+}
+
+// A query by `ORIGIN ROOM ID`, or with one id more.
+fn ask_in_room(alloc: Global, kind: &str, words: &str) -> Result<Step, AllocError> {
+    let (origin, rest) = words.split_once(' ').unwrap_or(("", ""));
+    let (room, ids) = rest.split_once(' ').unwrap_or(("", ""));
+    let query = query_in(alloc, kind, room, ids)?;
+    ask(alloc, origin, query)
+}
+
+// A transaction by `ORIGIN TXN`.
+fn key_of(alloc: Global, words: &str) -> Result<TransactionKey, AllocError> {
+    let (origin, txn) = words.split_once(' ').unwrap_or(("", ""));
+    key(alloc, origin, txn)
+}
+
+// Events by `ID=NAME ..`.
+fn all_offered(alloc: Global, words: &str) -> Result<Vec<Offered>, AllocError> {
+    let mut events = Vec::new(alloc);
+    for word in words.split(' ') {
+        if !word.is_empty() {
+            events.push(offered(alloc, word)?)?;
+        }
+    }
+    Ok(events)
+}
+
+// A transaction and its events by `ORIGIN TXN ID=NAME ..`.
+fn open(alloc: Global, words: &str) -> Result<Step, AllocError> {
+    let (origin, rest) = words.split_once(' ').unwrap_or(("", ""));
+    let (txn, names) = rest.split_once(' ').unwrap_or((rest, ""));
+    let key = key(alloc, origin, txn)?;
+    let events = all_offered(alloc, names)?;
+    Ok(Step::Open(key, events))
 }
 
 // A step by its words: `host ID=NAME`, `open ORIGIN TXN ID=NAME ..`, `next ORIGIN TXN`, `close ORIGIN TXN`, `ask ID` of
 // the server a.example, `KIND ORIGIN ROOM ID` for a query that names a room, and `missing ORIGIN ROOM ID ID`.
 fn step_of(alloc: Global, written: &str) -> Result<Step, AllocError> {
-    let mut words = written.split(' ');
-    let kind = words.next().unwrap_or("");
-    let first = words.next().unwrap_or("");
-    if kind == "host" {
-        return Ok(Step::Host(offered(alloc, first)?));
-    }
-    if kind == "ask" {
-        let id = event_id(alloc, first)?;
-        return ask(alloc, "a.example", Query::Event(id));
-    }
-    let second = words.next().unwrap_or("");
+    let (kind, words) = written.split_once(' ').unwrap_or(("", ""));
     match kind {
-        "next" => Ok(Step::Next(key(alloc, first, second)?)),
-        "close" => Ok(Step::Close(key(alloc, first, second)?)),
-        "open" => {
-            let mut events = Vec::new(alloc);
-            for word in words {
-                events.push(offered(alloc, word)?)?;
-            }
-            Ok(Step::Open(key(alloc, first, second)?, events))
-        }
-        _ => {
-            let id = words.next().unwrap_or("");
-            let last = words.next().unwrap_or("");
-            ask(alloc, first, query_in(alloc, kind, second, id, last)?)
-        }
+        "host" => Ok(Step::Host(offered(alloc, words)?)),
+        "ask" => ask_for_event(alloc, words),
+        "next" => Ok(Step::Next(key_of(alloc, words)?)),
+        "close" => Ok(Step::Close(key_of(alloc, words)?)),
+        "open" => open(alloc, words),
+        _ => ask_in_room(alloc, kind, words),
     }
 }
 
@@ -132,35 +169,8 @@ fn server_of(alloc: Global, count: usize) -> Result<Server, CallError>
     requires few { count ≤ 64 }
     ensures { IfOk result (λ server. IsTrue (none_open server)) }
 {
-    World::new(alloc, keepers(alloc, count)?, keepers(alloc, count)?)
-}
-
-fn all_steps(alloc: Global, written: &[&str]) -> Result<Vec<Step>, AllocError> {
-    let mut steps = Vec::new(alloc);
-    for one in written {
-        steps.push(step_of(alloc, one)?)?;
-    }
-    Ok(steps)
-}
-
-// A reply in a word.
-fn word(reply: &StepReply) -> &'static str {
-    match reply {
-        StepReply::OfRoom(Answer::Hosted(_)) => "hosted",
-        StepReply::OfRoom(Answer::NotHosted) => "not hosted",
-        StepReply::OfRoom(Answer::ToAsked(Ok(QueryReply::Event(_)))) => "shown",
-        StepReply::OfRoom(Answer::ToAsked(Ok(QueryReply::State { .. }))) => "state",
-        StepReply::OfRoom(Answer::ToAsked(Ok(QueryReply::StateIds { .. }))) => "ids of a state",
-        StepReply::OfRoom(Answer::ToAsked(Ok(QueryReply::EventAuth(_)))) => "auth chain",
-        StepReply::OfRoom(Answer::ToAsked(Ok(QueryReply::Events(_)))) => "events",
-        StepReply::OfRoom(Answer::ToAsked(Err(Denied::NotInRoom))) => "not in the room",
-        StepReply::OfRoom(Answer::ToAsked(Err(Denied::NotFound))) => "not found",
-        StepReply::OfEvent(_) => "told",
-        StepReply::Replayed(_) => "kept reply",
-        StepReply::Closed(_) => "closed",
-        StepReply::Opened(_) => "opened",
-        _ => "another reply",
-    }
+    let server = World::new(alloc, keepers(alloc, count)?, keepers(alloc, count)?)?;
+    Ok(server)
 }
 
 // Queries by an event's id alone are put to all rooms, and each other one to the room that it names.
@@ -184,42 +194,54 @@ const STEPS: [&str; 17] = [
     "backfill a.example !s:a.example $p",
 ];
 
-const WORDS: [&str; 17] = [
-    "hosted",
-    "not found",
-    "opened",
-    "told",
-    "shown",
-    "told",
-    "closed",
-    "kept reply",
-    "shown",
-    "state",
-    "ids of a state",
-    "auth chain",
-    "events",
-    "events",
-    "not in the room",
-    "not found",
-    "not hosted",
-];
+const REPLIES: &str =
+    "hosted absent opened told shown told closed kept shown state ids chain events events outside absent unhosted";
+
+fn all_steps(alloc: Global) -> Result<Vec<Step>, AllocError> {
+    let mut steps = Vec::new(alloc);
+    for written in STEPS {
+        steps.push(step_of(alloc, written)?)?;
+    }
+    Ok(steps)
+}
+
+fn replies_to(
+    alloc: Global,
+    server: &mut Server,
+    steps: &[Step],
+) -> Result<Vec<StepReply>, CallError>
+    requires { IsTrue (none_open server.old) }
+{
+    match run(server, alloc, steps) {
+        Ok(replies) => Ok(replies),
+        Err(error) => Err(error.cause),
+    }
+}
+
+// Replies, each in a word.
+fn all_words(alloc: Global, replies: &[StepReply]) -> Result<String, AllocError> {
+    let mut words = String::new(alloc);
+    for reply in replies {
+        if !words.is_empty() {
+            words.push_str(" ")?;
+        }
+        words.push_str(word(reply))?;
+    }
+    Ok(words)
+}
+
+// The replies to all steps, each in a word.
+fn told(alloc: Global) -> Result<String, CallError> {
+    let mut server = server_of(alloc, 3)?;
+    let steps = all_steps(alloc)?;
+    let replies = replies_to(alloc, &mut server, &steps)?;
+    Ok(all_words(alloc, &replies)?)
+}
 
 #[test]
 fn run_or_no_memory(rt: HostRuntime) {
-    let alloc = rt.alloc();
-    let Ok(mut server) = server_of(alloc, 3) else {
-        return;
-    };
-    let Ok(steps) = all_steps(alloc, &STEPS) else {
-        return;
-    };
-    match run(&mut server, alloc, &steps) {
-        Ok(replies) => {
-            assert_eq!(rt; replies.len(), WORDS.len());
-            for (reply, wanted) in replies.iter().zip(WORDS.iter()) {
-                assert_eq!(rt; word(reply), *wanted);
-            }
-        }
-        Err(error) => assert_eq!(rt; error.cause, CallError::Memory),
+    match told(rt.alloc()) {
+        Ok(words) => assert_eq!(rt; words.as_str(), REPLIES),
+        Err(cause) => assert_eq!(rt; cause, CallError::Memory),
     }
 }

@@ -84,10 +84,6 @@ impl<K: Keeper<Row = ShardRow>> Shard<K> {
         // It has the journal whose rows the keeper had, where its ids are those that are worked out of its events.
         ensures again { IfOk result (λ shard. K.is_honest shard.keeper → (journal : List Entry) → K.rows keeper ≡ Some (stored journal) → AreWorkedOut journal → shard.journal ≡ journal) }
 
-        // What became of the keeper tells why.
-        ensures storage { result ≡ Err CallError.Storage → (after : K) × (K.is_honest after → K.is_honest keeper)
-            × (Rose (K.failed keeper) (K.failed after)
-            ⊎ (K.is_honest after → K.is_open keeper → (rows : List ShardRow) → K.rows keeper ≡ Some rows → ¬ (CanReopen place rows))) }
         // A keeper that is ready stays honest, and only such rows are refused as no shard at this place has.
         ensures ready { IfOk result (λ shard. K.is_ready keeper → K.is_honest keeper → K.is_honest shard.keeper) }
         ensures unfit { result ≡ Err CallError.Storage → K.is_ready keeper → K.is_honest keeper → (rows : List ShardRow) → K.rows keeper ≡ Some rows → ¬ (CanReopen place rows) }

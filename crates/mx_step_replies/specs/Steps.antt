@@ -11,7 +11,8 @@ use Rattle.mx_world.specs.declared.steps.StepReply.TheVariants.{OfRoom, Replayed
 use Rattle.mx_requests.specs.Calls.{Call, sends, asks, joins}
 use Rattle.mx_requests.specs.JoinReplies.{join_reply}
 use Rattle.mx_requests.specs.ReplyBodies.{Response, success, failure, query_reply}
-use Rattle.mx_requests.specs.declared.faults.Fault.TheVariants.{NotFound, Busy as TransactionBusy}
+use Rattle.mx_room.specs.declared.queries.Denied.TheVariants.{NotFound}
+use Rattle.mx_requests.specs.declared.faults.Fault.TheVariants.{Denied, Busy as TransactionBusy}
 
 -- a step of a server, with the events of an opening as a list
 pub data StepView : Type 0 where
@@ -42,4 +43,4 @@ reply_to server (open_step key events) (Replayed body) = success body
 reply_to server (open_step key events) _ = failure TransactionBusy
 reply_to server (ask_step origin now q) (OfRoom (ToAsked answered)) = query_reply server now q answered
 reply_to server (join_step origin o) (OfRoom (ToJoined reply)) = join_reply server reply
-reply_to server _ _ = failure NotFound
+reply_to server _ _ = failure (Denied NotFound)

@@ -8,7 +8,7 @@ ghost use Rattle.mx_step_replies.specs.Steps.{ask_step, join_step, open_step, re
 
 use mx_ident::ServerName;
 use mx_requests::{Fault, ReplyBody, WireReply, fault_reply, join_reply, query_reply};
-use mx_room::{Moment, Query};
+use mx_room::{Denied, Moment, Query};
 use mx_world::{Answer, Step, StepReply};
 use std::alloc::{AllocError, Global};
 
@@ -39,7 +39,7 @@ pub fn write_reply(
             Ok(made)
         }
         Step::Host(_) | Step::Next(_) | Step::Close(_) => {
-            let made = fault_reply(alloc, Fault::NotFound)?;
+            let made = fault_reply(alloc, Fault::Denied(Denied::NotFound))?;
             Ok(made)
         }
     }
@@ -60,7 +60,7 @@ pub fn asked_reply(
         StepReply::OfRoom(Answer::ToAsked(answered)) => {
             query_reply(alloc, name, now, query, answered)
         }
-        _ => fault_reply(alloc, Fault::NotFound),
+        _ => fault_reply(alloc, Fault::Denied(Denied::NotFound)),
     }
 }
 
@@ -75,7 +75,7 @@ pub fn joined_reply(
 {
     match last {
         StepReply::OfRoom(Answer::ToJoined(reply)) => join_reply(alloc, name, reply),
-        _ => fault_reply(alloc, Fault::NotFound),
+        _ => fault_reply(alloc, Fault::Denied(Denied::NotFound)),
     }
 }
 

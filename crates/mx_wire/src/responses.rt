@@ -36,7 +36,7 @@ pub struct RequestReply {
 /// A request with a fault is told it, and the engine is not called. Else the engine is called once, and the reply is the
 /// one by its answer. `refused` is `Memory` where no memory is left, and `Storage` where what keeps rows failed, now or
 /// before. Then a query has added nothing; a join or a transaction was refused by the engine, or it was answered, and no
-/// memory was left for the bytes of its reply.
+/// memory was left for the bytes of its reply. Bodies are read over the scratch, which is kept from request to request.
 ///
 /// It waits where the engine does. Source: the Server-Server API of the Matrix specification: "Request Authentication",
 /// "Transactions", "Retrieving events", "Backfilling and retrieving missing events" and "Joining Rooms".
@@ -49,6 +49,7 @@ pub fn respond<
 >(
     rt: &R,
     alloc: Global,
+    scratch: &mut Scratch,
     server: &WireServer,
     engine: &Engine<K, L, V, G>,
     seat: &mut Seat<K, L>,
@@ -66,17 +67,19 @@ pub fn respond<
         (shard_views seat.old) (book_views seat.old) (shard_views seat.new) (book_views seat.new) (request_shown request.now) error
         × (reply_shown result.reply ≡ unavailable error)) }
 {
-    match read_call(alloc, server, engine.verifier(), request) {
+    match read_call(alloc, scratch, server, engine.verifier(), request) {
         Ok(call) => answer_call(rt, alloc, &server.name, engine, seat, now, call),
         Err(fault) => refuse_request(alloc, fault),
     }
 }
 
 /// What a request to this server asks for, or its first fault, as this judge of signatures has it. It waits for nobody.
+/// Its body is read over the scratch, which is kept from request to request.
 ///
 /// `Memory` where no memory is left. Source: the Server-Server API of the Matrix specification: "Request Authentication".
 pub fn read_call<V: Verifier>(
     alloc: Global,
+    scratch: &mut Scratch,
     server: &WireServer,
     verifier: &V,
     request: &WireRequest,
@@ -86,8 +89,7 @@ pub fn read_call<V: Verifier>(
     ensures err { IfErr result (λ fault. (fault ≡ Fault.Memory)
         ⊎ (call_of (V.judges verifier.now) server.now.name (request_shown request.now) ≡ Err fault)) }
 {
-    let mut scratch = Scratch::new(alloc);
-    read_request(alloc, &mut scratch, server, verifier, request)
+    read_request(alloc, scratch, server, verifier, request)
 }
 
 /// The reply to a request with this fault. `refused` is `Memory` where the fault is want of memory, or no memory is left

@@ -12,6 +12,7 @@ pub mod StorageLemmas
 pub mod NextEventLemmas
 pub mod TextLemmas
 pub mod StepRows
+mod AskingLemmas
 mod UnfitLemmas
 pub mod ReopeningLemmas
 pub mod CrashLemmas

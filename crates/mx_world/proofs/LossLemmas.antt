@@ -1,6 +1,6 @@
 -- The events that replies call kept and that no shard has.
 use Rattle.std.proofs.Common.{◌≡◌, ℕ, Bool, true, false, cond, List, [], ◌∷◌, ◌++◌, refl, sym, ◌∙◌, ap, append_assoc, append-nil, drop, length, ◌<◌, ◌≤◌, ◌+◌, get_or, Some}
-use Rattle.std.specs.Prelude.{not, ◌&&◌, ◌||◌, filter, is_none}
+use Rattle.std.specs.Prelude.{not, ◌&&◌, ◌||◌, is_none}
 use Rattle.std.specs.List.{list_any}
 use Rattle.std.proofs.lemmas.List.{drop_more, drop_all}
 use Rattle.std.proofs.lemmas.List.Elements.{filter-append}

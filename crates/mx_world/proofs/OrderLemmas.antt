@@ -1,7 +1,7 @@
 -- A law of the definitions: a transaction's events in two orders that agree on each room's events leave each room the
 -- same record, and call for the same reply.
 use Rattle.std.proofs.Common.{◌≡◌, ℕ, Bool, true, false, cond, List, [], ◌∷◌, ◌++◌, refl, sym, ◌∙◌, ap, subst, Ordering, Less, Equal, Greater}
-use Rattle.std.specs.Prelude.{bytes_eq, fold, filter, map}
+use Rattle.std.specs.Prelude.{bytes_eq, fold, map}
 use Rattle.std.specs.Cmp.Lexicographic.{slice_cmp}
 use Rattle.std.specs.Ordering.{nat_cmp, match_ordering, ordering_reverse}
 use Rattle.std.proofs.lemmas.Cmp.{nat_list_cmp_total, tied_back}

@@ -10,7 +10,7 @@ use Rattle.mx_book.specs.Journal.{Hold, free, begun, kept, hold_of, IsEnded}
 use Rattle.mx_book.specs.View.{BookView}
 use Rattle.mx_book.specs.declared.transaction_keys.TransactionKey.{TransactionKey}
 use Rattle.mx_book.proofs.JournalLemmas.{holds_of_begun}
-use Rattle.mx_world.specs.Parts.{book_places, ArePlaced, IsSoundBook, SomeFilled}
+use Rattle.mx_world.specs.Parts.{book_places, ArePlaced, IsSoundBook, FilledAt}
 use Rattle.mx_world.specs.View.{Progress}
 use Rattle.mx_world.specs.Worlds.{book_journals, holds_of, found}
 use Rattle.mx_world.specs.Inside.{Agrees, AllAgree}
@@ -24,8 +24,9 @@ all-more P views n v l is all here = All-more P views n v l all (subst P is here
 pub all-in : {V : Type 0} (P : V → Type 0) (views : List V) (n : ℕ) → length views ≤ n → All P (take n views) → All P views
 all-in P views n all found = subst (All P) (take_all n views all) found
 
-pub filled-here : {V : Type 0} (P : V → Type 0) (views : List V) (n : ℕ) (v : V) (none : Bool) → n < length views → v ≡ get_or views n v → (P v → IsTrue none) → none ≡ false → SomeFilled P views
-filled-here P views n v none l is told filled = (n, l, λ d blank. false≢true (sym filled ∙ told (subst P (sym (get_or_read views n v l is d)) blank)))
+pub filled-here : {V : Type 0} (P : V → Type 0) (views : List V) (n : ℕ) (v : V) (none : Bool) → n < length views → v ≡ get_or views n v
+    → (P v → IsTrue none) → none ≡ false → FilledAt P views n
+filled-here P views n v none l is told filled = (l, λ d blank. false≢true (sym filled ∙ told (subst P (sym (get_or_read views n v l is d)) blank)))
 
 -- ---- nothing is open
 

@@ -1,21 +1,18 @@
 -- Views that are opened again one after the other, each over the keeper with its number.
-use Rattle.std.proofs.Common.{◌≡◌, ◌+◌, ℕ, ◌<◌, ◌≤◌, Bool, true, false, List, [], ◌∷◌, ◌++◌, length, get_or, map, reverse, Option, Some, IsTrue, inl, inr, refl, sym, ap, subst, ◌∙◌, arith}
-use Rattle.std.specs.Prelude.{All, find, if◌then◌else◌, Result, Ok, Err, IfOk}
+use Rattle.std.proofs.Common.{◌≡◌, ◌+◌, ℕ, ◌<◌, ◌≤◌, Bool, true, false, List, [], ◌∷◌, ◌++◌, length, get_or, map, reverse, Option, Some, inl, inr, refl, sym, ap, subst, ◌∙◌, arith}
+use Rattle.std.specs.Prelude.{◌⊎◌, All, find, if◌then◌else◌}
 use Rattle.std.proofs.lemmas.List.{length_push, get_or_push, get_or_append_left, map_push, reverse-append}
 use Rattle.std.proofs.lemmas.Bool.{false≢true}
 use Rattle.std.proofs.Math.Nat.{eq-or-lt_of_le}
 use Rattle.mx_keeper.specs.Places.{PlaceView}
 use Rattle.mx_keeper.specs.declared.rows.BookRow.{BookRow}
-use Rattle.mx_keeper.specs.declared.rows.ShardRow.{ShardRow}
-use Rattle.mx_keeper.specs.declared.refusals.CallError.{CallError}
-use Rattle.mx_shard.specs.Journal.{Entry, stored as stored_events, reopened as reopened_events, AreWorkedOut}
-use Rattle.mx_shard.specs.View.{ShardView}
 use Rattle.mx_book.specs.Transactions.{same}
-use Rattle.mx_book.specs.Journal.{transaction_of, IsEnded, free, begun, kept, hold_after, hold_of, is_legal, entry_of, reopened, stored, can_reopen, after_stop}
+use Rattle.mx_book.specs.Journal.{transaction_of, IsEnded, free, begun, kept, hold_after, entry_of, reopened, stored, can_reopen}
 use Rattle.mx_book.specs.View.{BookView}
 use Rattle.mx_book.specs.declared.entries.BookEntry.{BookEntry}
-use Rattle.mx_book.specs.declared.transaction_keys.TransactionKey.{TransactionKey}
-use Rattle.mx_world.specs.Reopening.{AreOver, IsReopenedShard, IsReopenedBook, CannotReopen, CanReopenBook}
+use Rattle.mx_world.specs.Reopening.{AreOver, IsReopenedBook, CannotReopen, CannotAt, CanReopenBook, IsRefusedFor}
+use Rattle.mx_world.specs.declared.open_errors.OpenError.{OpenError}
+use Rattle.mx_world.specs.declared.open_errors.OpenError.TheVariants.{Memory, Shard, Book}
 
 -- ---- one more
 
@@ -72,25 +69,30 @@ pub book-closed : {L : Type 0} (is_ready honest : L → Type 0) (read : L → Op
     → (is_ready keeper → honest keeper → (rows : List BookRow) → read keeper ≡ Some rows → can_reopen place rows ≡ false) → CannotReopen (CanReopenBook place) is_ready honest read keeper
 book-closed is_ready honest read keeper place why = λ ready honestly rows is can. false≢true (sym (why ready honestly rows is) ∙ can)
 
--- ---- what is opened
+-- why a server was not opened, by what one of its parts told
+module _ (shard book : ℕ → Type 0) where
+  pub refused-shard : (error : OpenError) → (error ≡ Memory) ⊎ ((n : ℕ) × (error ≡ Shard n) × shard n) → IsRefusedFor shard book error
+  refused-shard error (inl is) = subst (IsRefusedFor shard book) (sym is) tt
+  refused-shard error (inr (n, is, why)) = subst (IsRefusedFor shard book) (sym is) why
 
-pub shard-over : {K : Type 0} (is_ready honest : K → Type 0) (read : K → Option (List ShardRow)) (may_leave : K → Option (List ShardRow) → Type 0) (keeper : K) (r : Result (ShardView K) CallError)
-    → IfOk r (λ shard. shard.journal ≡ reopened_events (stored_events shard.journal)) → IfOk r (λ shard. shard.is_refused ≡ false)
-    → IfOk r (λ shard. honest shard.keeper → honest keeper × (read keeper ≡ Some (stored_events shard.journal)))
-    → IfOk r (λ shard. honest shard.keeper → (left : Option (List ShardRow)) → may_leave shard.keeper left → may_leave keeper left)
-    → IfOk r (λ shard. is_ready keeper → honest keeper → honest shard.keeper)
-    → IfOk r (λ shard. honest shard.keeper → (journal : List Entry) → read keeper ≡ Some (stored_events journal) → AreWorkedOut journal → shard.journal ≡ journal)
-    → IfOk r (IsReopenedShard is_ready honest read may_leave keeper)
-shard-over is_ready honest read may_leave keeper (Ok shard) journal taken rows crash ready again = record { journal = journal; taken = taken; rows = rows; crash = crash; ready = ready; again = again }
-shard-over is_ready honest read may_leave keeper (Err error) journal taken rows crash ready again = tt
+  pub refused-book : (error : OpenError) → (error ≡ Memory) ⊎ ((n : ℕ) × (error ≡ Book n) × book n) → IsRefusedFor shard book error
+  refused-book error (inl is) = subst (IsRefusedFor shard book) (sym is) tt
+  refused-book error (inr (n, is, why)) = subst (IsRefusedFor shard book) (sym is) why
 
-pub book-over : {L : Type 0} (is_ready honest : L → Type 0) (read : L → Option (List BookRow)) (may_leave : L → Option (List BookRow) → Type 0) (keeper : L) (r : Result (BookView L) CallError)
-    → IfOk r (λ book. book.journal ≡ reopened (stored book.journal)) → IfOk r (λ book. book.is_refused ≡ false)
-    → IfOk r (λ book. honest book.keeper → honest keeper × (read keeper ≡ Some (stored book.journal)))
-    → IfOk r (λ book. honest book.keeper → (left : Option (List BookRow)) → may_leave book.keeper left → may_leave keeper left)
-    → IfOk r (λ book. is_ready keeper → honest keeper → honest book.keeper)
-    → IfOk r (λ book. honest book.keeper → (journal : List BookEntry) → read keeper ≡ Some (stored journal) → IsTrue (is_legal journal)
-    → (key : TransactionKey) → hold_of book.journal key ≡ after_stop (hold_of journal key))
-    → IfOk r (IsReopenedBook is_ready honest read may_leave keeper)
-book-over is_ready honest read may_leave keeper (Ok book) journal taken rows crash ready again = record { journal = journal; taken = taken; rows = rows; crash = crash; ready = ready; again = again }
-book-over is_ready honest read may_leave keeper (Err error) journal taken rows crash ready again = tt
+pub refused-as : (shard shard' book book' : ℕ → Type 0) → ((n : ℕ) → shard n → shard' n) → ((n : ℕ) → book n → book' n)
+    → (error : OpenError) → IsRefusedFor shard book error → IsRefusedFor shard' book' error
+refused-as shard shard' book book' s b Memory why = tt
+refused-as shard shard' book book' s b (Shard n) why = s n why
+refused-as shard shard' book book' s b (Book n) why = b n why
+
+-- one part was not opened, over the keeper with this number
+pub refused-part : {K : Type 0} (cannot : PlaceView → K → Type 0) (refusal : ℕ → OpenError) (keepers : List K) (n : ℕ) (keeper : K) (place : PlaceView) (error : OpenError)
+    → n < length keepers → ((d : K) → get_or keepers n d ≡ keeper) → place ≡ record { number = n; count = length keepers }
+    → (error ≡ Memory) ⊎ ((error ≡ refusal place.number) × cannot place keeper)
+    → (error ≡ Memory) ⊎ ((m : ℕ) × (error ≡ refusal m) × CannotAt cannot keepers m)
+refused-part cannot refusal keepers n keeper place error l is at (inl none) = inl none
+refused-part {K = K} cannot refusal keepers n keeper place error l is at (inr (names, why)) = inr (
+  n,
+  names ∙ ap (λ (p : PlaceView). refusal p.number) at,
+  (l, λ d. subst (λ (k : K). cannot (record { number = n; count = length keepers }) k) (sym (is d)) (subst (λ (p : PlaceView). cannot p keeper) at why)),
+)

@@ -1,9 +1,7 @@
 -- What the rooms of several shards show.
-use Rattle.std.proofs.Common.{◌≡◌, ℕ, ◌+◌, ◌<◌, ◌≤◌, Bool, true, false, IsTrue, List, [], ◌∷◌, length, get_or, Some, None, refl, sym, ◌∙◌, ap, subst, arith, inl, inr, append-nil}
+use Rattle.std.proofs.Common.{◌≡◌, ℕ, ◌<◌, ◌≤◌, Bool, true, false, IsTrue, List, [], ◌∷◌, length, get_or, Some, None, refl, sym, ◌∙◌, ap, subst, arith, append-nil}
 use Rattle.std.specs.Prelude.{All, Ok, Err, if◌then◌else◌}
 use Rattle.std.proofs.lemmas.Bool.{false≢true, eqb-true}
-use Rattle.std.proofs.lemmas.List.{get_or_default}
-use Rattle.std.proofs.Math.Nat.{eq-or-lt_of_le}
 use Rattle.mx_keeper.specs.Places.{place_number, is_at}
 use Rattle.mx_receipt.specs.Receipt.{Kept}
 use Rattle.mx_room.specs.Offer.{Offered}
@@ -52,7 +50,7 @@ not_found_alone (ask.MakeJoin r user versions) origin now e = absurd (cc e)
 abbrev pub NoneShown : {K : Type 0} → List (ShardView K) → ℕ → List ℕ → ℕ → Query → Type 0
 NoneShown {K = K} shards n origin now query = (k : ℕ) (d : ShardView K) → k < n → (room : List ℕ) → answer (record_of (get_or shards k d).journal room) (to_ask origin now query) ≡ ToAsked (Err NotFound)
 
-not_shown : (rows : List ℕ → List Kept) (c : Call) (b : Answer) → tells_shown b ≡ false → IsShown rows c b → (room : List ℕ) → answer (rows room) c ≡ ToAsked (Err NotFound)
+pub not_shown : (rows : List ℕ → List Kept) (c : Call) (b : Answer) → tells_shown b ≡ false → IsShown rows c b → (room : List ℕ) → answer (rows room) c ≡ ToAsked (Err NotFound)
 not_shown rows c (ToAsked (Ok reply)) h shown room = absurd (false≢true (sym h))
 not_shown rows c (ToAsked (Err denied)) h shown room = shown.1 room
 not_shown rows c NotHosted h shown room = absurd shown
@@ -65,16 +63,6 @@ not_shown rows c (ToJoined r) h shown room = absurd shown
 -- of a query by an id alone a shard tells what some room of it shows
 pub alone_shown : (rows : List ℕ → List Kept) (origin : List ℕ) (now : ℕ) (q : Query) (a : Answer) → room_named q ≡ None → IsAnswer rows (to_ask origin now q) (room_named q) a → IsShown rows (to_ask origin now q) a
 alone_shown rows origin now q a alone told = subst (λ named. IsAnswer rows (to_ask origin now q) named a) alone told
-
-pub none-more : {K : Type 0} (shards : List (ShardView K)) (n : ℕ) (shard : ShardView K) (origin : List ℕ) (now : ℕ) (query : Query) (a : Answer) → n < length shards → shard ≡ get_or shards n shard → NoneShown shards n origin now query → tells_shown a ≡ false →
-    IsShown (record_of shard.journal) (to_ask origin now query) a → NoneShown shards (n + 1) origin now query
-none-more {K = K} shards n shard origin now query a l is none hidden told = λ k d h room.
-    elim (eq-or-lt_of_le (let le : k ≤ n = omega arith in le)) [
-      | inl same ↦
-          let here : get_or shards k d ≡ shard = ap (λ i. get_or shards i d) same ∙ get_or_default shards n d shard l ∙ sym is in
-          ap (λ (s : ShardView K). answer (record_of s.journal room) (to_ask origin now query)) here ∙ not_shown (record_of shard.journal) (to_ask origin now query) a hidden told room
-      | inr lt ↦ none k d lt room
-    ]
 
 -- where no room of any shard shows it, no room does
 pub none-shown : {K : Type 0} (shards : List (ShardView K)) (n : ℕ) (origin : List ℕ) (now : ℕ) (query : Query) → ArePlaced (shard_places shards) → length shards ≤ n → NoneShown shards n origin now query →

@@ -1,5 +1,5 @@
 -- What is left of a server that is stopped, and what is told of an event that is sent again.
-use Rattle.std.proofs.Common.{◌≡◌, ◌<◌, ◌≤◌, ◌+◌, ◌⊎◌, inl, inr, ℕ, Bool, true, false, cond, List, [], ◌∷◌, ◌++◌, length, map, get_or, Option, Some, None, refl, sym, ap, ◌∙◌, arith}
+use Rattle.std.proofs.Common.{◌≡◌, ◌<◌, ◌+◌, ◌⊎◌, inl, inr, ℕ, Bool, cond, List, [], ◌∷◌, ◌++◌, length, Option, Some, None, sym, ap, ◌∙◌, arith}
 use Rattle.std.specs.Prelude.{nat_lt, bytes_eq, if◌then◌else◌}
 use Rattle.std.specs.List.{position, position_or_len}
 use Rattle.std.proofs.lemmas.Bool.{lt-ltb}
@@ -10,11 +10,9 @@ use Rattle.mx_graph.specs.Record.{Row, no_row, place_of}
 use Rattle.mx_receipt.specs.Receipt.{Kept, rows_of, kept_at, is_rejected}
 use Rattle.mx_access.specs.Acl.{acl_allows}
 use Rattle.mx_room.specs.Offer.{Offered, allowed_outcome, new_outcome, offer_outcome, as_kept}
-use Rattle.mx_room.specs.declared.outcomes.Outcome.{Outcome}
 use Rattle.mx_room.specs.declared.outcomes.Outcome.TheVariants as outcome
 use Rattle.mx_room.specs.declared.outcomes.Refusal.TheVariants.{AccessList}
 use Rattle.mx_world.specs.Crashes.{Leaves}
-use Rattle.mx_world.specs.Replies.{outcome_in}
 use Rattle.mx_world.specs.Stops.{LeavesRows, KnownEventsKeepTheirVerdicts}
 
 -- ---- what is left

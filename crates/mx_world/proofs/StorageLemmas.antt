@@ -11,6 +11,7 @@ use Rattle.mx_keeper.specs.declared.refusals.CallError.{CallError}
 use Rattle.mx_keeper.specs.declared.refusals.CallError.TheVariants.{Storage}
 use Rattle.mx_room.specs.Offer.{Offered}
 use Rattle.mx_room.specs.Queries.{room_named}
+use Rattle.mx_shard.specs.LoneRoom.{Call, to_ask}
 use Rattle.mx_shard.specs.View.{ShardView}
 use Rattle.mx_book.specs.declared.transaction_keys.TransactionKey.{TransactionKey}
 use Rattle.mx_pdu.specs.Event.{room_of}
@@ -104,14 +105,6 @@ named-fails refused failed views n v name is l at h = λ e.
     subst (λ i. Fails refused failed (get_or views i e) (get_or views i e)) is
     (let here : refused (get_or views n e) ≡ true = ap refused (get_or_default views n e v l ∙ sym at) ∙ h in (here, inl here))
 
--- one of them was refused
-pub some-fails : {V : Type 0} (refused : V → Bool) (failed : V → ℕ) (views : List V) (n : ℕ) (v : V) → v ≡ get_or views n v → n < length views → refused v ≡ true → SomeFails refused failed views views
-some-fails refused failed views n v is l h = (
-  n,
-  l,
-  λ d. (let here : refused (get_or views n d) ≡ true = ap refused (get_or_default views n d v l ∙ sym is) ∙ h in (here, inl here)),
-)
-
 -- ---- since an earlier moment
 
 at-since : {V : Type 0} (refused : V → Bool) (failed : V → ℕ) (a b c : List V) (name : List ℕ) → AllLast refused failed a b → AllLast refused failed b c → FailsAt refused failed b c name → FailsAt refused failed a c name
@@ -126,9 +119,10 @@ next-since : {K : Type 0} (f : K → ℕ) (a b c : List (ShardView K)) (rest : L
 next-since f a b c [] h k x = x
 next-since f a b c (o ∷ rest) h k x = at-since (λ shard. shard.is_refused) (λ shard. f shard.keeper) a b c (room_of o.pdu) h k x
 
-ask-since : {K : Type 0} (f : K → ℕ) (a b c : List (ShardView K)) (room : Option (List ℕ)) → ShardsLast f a b → ShardsLast f b c → AskFails f b c room → AskFails f a c room
-ask-since f a b c None h k x = some-since (λ shard. shard.is_refused) (λ shard. f shard.keeper) a b c h k x
-ask-since f a b c (Some room) h k x = at-since (λ shard. shard.is_refused) (λ shard. f shard.keeper) a b c room h k x
+ask-since : {K : Type 0} (f : K → ℕ) (a b c : List (ShardView K)) (call : Call) (room : Option (List ℕ))
+    → ShardsLast f a b → ShardsLast f b c → AskFails f b c call room → AskFails f a c call room
+ask-since f a b c call None h k x = (some-since (λ shard. shard.is_refused) (λ shard. f shard.keeper) a b c h k x.0, x.1)
+ask-since f a b c call (Some room) h k x = at-since (λ shard. shard.is_refused) (λ shard. f shard.keeper) a b c room h k x
 
 pub failure-since : {K L : Type 0} (f : K → ℕ) (g : L → ℕ) (status : TransactionKey → Status) (a b c : WorldView K L) (step : Step) → ShardsLast f a.shards b.shards → BooksLast g a.books b.books → ShardsLast f b.shards c.shards → BooksLast g b.books c.books →
     IsStorageFailure f g status b c step → IsStorageFailure f g status a c step
@@ -137,7 +131,7 @@ failure-since f g status a b c (Join origin o) s t s' t' x = at-since (λ shard.
 failure-since f g status a b c (Open p events) s t s' t' x = at-since (λ book. book.is_refused) (λ book. g book.keeper) a.books b.books c.books p.origin t t' x
 failure-since f g status a b c (Next p) s t s' t' x = next-since f a.shards b.shards c.shards (rest_of (status p)) s s' x
 failure-since f g status a b c (Close p) s t s' t' x = at-since (λ book. book.is_refused) (λ book. g book.keeper) a.books b.books c.books p.origin t t' x
-failure-since f g status a b c (Ask origin now q) s t s' t' x = ask-since f a.shards b.shards c.shards (room_named q) s s' x
+failure-since f g status a b c (Ask origin now q) s t s' t' x = ask-since f a.shards b.shards c.shards (to_ask origin now q) (room_named q) s s' x
 
 -- the step that stops a run
 pub run-failure : {K L : Type 0} (f : K → ℕ) (g : L → ℕ) (a b c : WorldView K L) (steps : List Step) (n m : ℕ) (x d : Step) → n ≡ m → m < length steps → x ≡ get_or steps m x → IsAfter (start a) (take m steps) b →
@@ -188,9 +182,10 @@ next_any : {K L : Type 0} (f : K → ℕ) (old new : WorldView K L) (rest : List
 next_any f old new [] some lasts h = absurd h
 next_any f old new (o ∷ rest) some lasts h = shard_any f old new (room_of o.pdu) some lasts h
 
-ask_any : {K L : Type 0} (f : K → ℕ) (old new : WorldView K L) (room : Option (List ℕ)) → 0 < length old.shards → ShardsLast f old.shards new.shards → AskFails f old.shards new.shards room → IsTrue (is_refused new)
-ask_any f old new (Some room) some lasts h = shard_any f old new room some lasts h
-ask_any f old new None some lasts (n, l, x) =
+ask_any : {K L : Type 0} (f : K → ℕ) (old new : WorldView K L) (call : Call) (room : Option (List ℕ))
+    → 0 < length old.shards → ShardsLast f old.shards new.shards → AskFails f old.shards new.shards call room → IsTrue (is_refused new)
+ask_any f old new call (Some room) some lasts h = shard_any f old new room some lasts h
+ask_any f old new call None some lasts ((n, l, x), others) =
     in_shards (list_any (λ shard. shard.is_refused) new.shards) (list_any (λ book. book.is_refused) new.books)
     (any-at (λ shard. shard.is_refused) (λ shard. f shard.keeper) old.shards new.shards n lasts.long l x)
 
@@ -201,7 +196,7 @@ refused-any f g status old new (Join origin o) s b own h = shard_any f old new (
 refused-any f g status old new (Open p events) s b own h = book_any g old new p.origin b own.books_last h
 refused-any f g status old new (Next p) s b own h = next_any f old new (rest_of (status p)) s own.shards_last h
 refused-any f g status old new (Close p) s b own h = book_any g old new p.origin b own.books_last h
-refused-any f g status old new (Ask origin now q) s b own h = ask_any f old new (room_named q) s own.shards_last h
+refused-any f g status old new (Ask origin now q) s b own h = ask_any f old new (to_ask origin now q) (room_named q) s own.shards_last h
 
 -- what holds of the parts holds of the server
 pub of_parts : {W : Type 0} (P : W → W → Type 0) (w w' u u' : W) → u ≡ w → u' ≡ w' → P u u' → P w w'

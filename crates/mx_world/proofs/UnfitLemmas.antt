@@ -4,24 +4,25 @@ use Rattle.std.specs.Prelude.{Option, Some}
 use Rattle.mx_keeper.specs.Places.{PlaceView}
 use Rattle.mx_shard.specs.Journal.{CanReopen}
 use Rattle.mx_shard.proofs.LegalLaws.{legal-start}
-use Rattle.mx_world.specs.Parts.{SomeFilled}
-use Rattle.mx_world.specs.Reopening.{AreOver, SomeCannotReopen}
-use Rattle.mx_world.specs.Storage.{SomeUnfit}
+use Rattle.mx_world.specs.Parts.{FilledAt}
+use Rattle.mx_world.specs.Reopening.{AreOver, CannotReopenAt}
+use Rattle.mx_world.specs.Storage.{UnfitAt}
 
 module _ {K Row : Type 0} (is_ready honest : K → Type 0) (read : K → Option (List Row)) (keepers : List K) where
   -- over a keeper with no rows one could be opened
-  pub some-unfit : (can : PlaceView → List Row → Type 0) → ((place : PlaceView) → can place []) → SomeCannotReopen can is_ready honest read keepers → SomeUnfit is_ready honest read keepers
-  some-unfit can fine (n, l, why) = (n, l, λ d ready honestly none. why d ready honestly [] none (fine (record { number = n; count = length keepers })))
+  pub closed-unfit : (can : PlaceView → List Row → Type 0) → ((place : PlaceView) → can place []) → (n : ℕ)
+      → CannotReopenAt can is_ready honest read keepers n → UnfitAt is_ready honest read keepers n
+  closed-unfit can fine n (l, why) = (l, λ d ready honestly none. why d ready honestly [] none (fine (record { number = n; count = length keepers })))
 
   same_rows : (xs ys : List Row) → Some xs ≡ Some ys → xs ≡ ys
   same_rows xs ys e = cc
 
   -- what has an entry was opened over a keeper with a row
-  pub some-filled : {V Entry : Type 0} (keeper_of : V → K) (journal : V → List Entry) (stored : List Entry → List Row) (reopened : List Row → List Entry) → reopened [] ≡ [] → (K → V) → (views : List V) → length views ≡ length keepers
+  pub filled-unfit : {V Entry : Type 0} (keeper_of : V → K) (journal : V → List Entry) (stored : List Entry → List Row) (reopened : List Row → List Entry)
+      → reopened [] ≡ [] → (K → V) → (views : List V) → length views ≡ length keepers
       → AreOver (λ keeper view. (journal view ≡ reopened (stored (journal view))) × (honest (keeper_of view) → honest keeper × (read keeper ≡ Some (stored (journal view)))) × (is_ready keeper → honest keeper → honest (keeper_of view))) keepers views
-      → SomeFilled (λ view. journal view ≡ []) views → SomeUnfit is_ready honest read keepers
-  some-filled {V = V} keeper_of journal stored reopened start any views long over (n, l, filled) = (
-    n,
+      → (n : ℕ) → FilledAt (λ view. journal view ≡ []) views n → UnfitAt is_ready honest read keepers n
+  filled-unfit {V = V} keeper_of journal stored reopened start any views long over n (l, filled) = (
     omega (arith, l, long),
     λ d ready honestly is.
         let view : V = get_or views n (any d) in

@@ -32,6 +32,6 @@ pub record IsSoundBook {L : Type 0} (honest open_ : L → Type 0) (read : L → 
   pub legal : IsTrue (is_legal book.journal)
   pub rows : book.is_refused ≡ false → honest book.keeper → open_ book.keeper × (read book.keeper ≡ Some (book_rows book.journal))
 
--- some view of these is not so
-abbrev pub SomeFilled : {V : Type 0} → (V → Type 0) → List V → Type 0
-SomeFilled {V = V} is_blank views = (n : ℕ) × (n < length views) × ((d : V) → ¬ (is_blank (get_or views n d)))
+-- the view with this number is not so
+abbrev pub FilledAt : {V : Type 0} → (V → Type 0) → List V → ℕ → Type 0
+FilledAt {V = V} is_blank views n = (n < length views) × ((d : V) → ¬ (is_blank (get_or views n d)))

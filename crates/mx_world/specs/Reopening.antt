@@ -9,6 +9,10 @@ use Rattle.mx_book.specs.Journal.{hold_of, is_legal, can_reopen, stored as store
 use Rattle.mx_book.specs.View.{BookView}
 use Rattle.mx_book.specs.declared.entries.BookEntry.{BookEntry}
 use Rattle.mx_book.specs.declared.transaction_keys.TransactionKey.{TransactionKey}
+use Rattle.mx_keeper.specs.declared.refusals.CallError.{CallError}
+use Rattle.mx_keeper.specs.declared.refusals.CallError.TheVariants as call
+use Rattle.mx_world.specs.declared.open_errors.OpenError.{OpenError}
+use Rattle.mx_world.specs.declared.open_errors.OpenError.TheVariants.{Memory, Shard, Book}
 
 -- ---- what is opened, by what its keeper tells
 
@@ -45,15 +49,26 @@ AreOver {K = K} {V = V} is keepers views = (n : ℕ) (k : K) (v : V) → n < len
 abbrev pub CannotReopen : {K Row : Type 0} → (List Row → Type 0) → (K → Type 0) → (K → Type 0) → (K → Option (List Row)) → K → Type 0
 CannotReopen {Row = Row} can is_ready honest read keeper = is_ready keeper → honest keeper → (rows : List Row) → read keeper ≡ Some rows → ¬ (can rows)
 
--- for some keeper of these there is a reason at the place with its number
-abbrev pub SomeCannot : {K : Type 0} → (PlaceView → K → Type 0) → List K → Type 0
-SomeCannot {K = K} cannot keepers =
-    (n : ℕ) × (n < length keepers) × ((d : K) → cannot (record { number = n; count = length keepers }) (get_or keepers n d))
+-- so it is with the keeper with this number, at the place with that number
+abbrev pub CannotAt : {K : Type 0} → (PlaceView → K → Type 0) → List K → ℕ → Type 0
+CannotAt {K = K} cannot keepers n =
+    (n < length keepers) × ((d : K) → cannot (record { number = n; count = length keepers }) (get_or keepers n d))
 
--- over some keeper of these nothing can be opened at the place with its number
-abbrev pub SomeCannotReopen : {K Row : Type 0} → (PlaceView → List Row → Type 0) → (K → Type 0) → (K → Type 0) → (K → Option (List Row)) → List K → Type 0
-SomeCannotReopen can is_ready honest read keepers = SomeCannot (λ place. CannotReopen (can place) is_ready honest read) keepers
+abbrev pub CannotReopenAt : {K Row : Type 0} → (PlaceView → List Row → Type 0) → (K → Type 0) → (K → Type 0) → (K → Option (List Row)) → List K → ℕ → Type 0
+CannotReopenAt can is_ready honest read keepers n = CannotAt (λ place. CannotReopen (can place) is_ready honest read) keepers n
 
 -- a book at this place can have these rows
 abbrev pub CanReopenBook : PlaceView → List BookRow → Type 0
 CanReopenBook place rows = IsTrue (can_reopen place rows)
+
+-- why no server was opened: of the keeper that is named, among those for shards or those for books, and of no other
+abbrev pub IsRefusedFor : (ℕ → Type 0) → (ℕ → Type 0) → OpenError → Type 0
+IsRefusedFor shard book Memory = Unit {0}
+IsRefusedFor shard book (Shard n) = shard n
+IsRefusedFor shard book (Book n) = book n
+
+-- as an error of a call
+abbrev pub cause_of : OpenError → CallError
+cause_of Memory = call.Memory
+cause_of (Shard n) = call.Storage
+cause_of (Book n) = call.Storage

@@ -1,12 +1,11 @@
 -- What is left of a server that is stopped, and what it tells once it is opened again (our own).
-use Rattle.std.specs.Prelude.{ℕ, ◌≡◌, ◌⊎◌, false, if◌then◌else◌, List, ◌++◌, get_or, Option, Some}
+use Rattle.std.specs.Prelude.{ℕ, ◌≡◌, ◌⊎◌, false, if◌then◌else◌, List, ◌++◌, Option, Some}
 use Rattle.mx_graph.specs.Record.{place_of}
 use Rattle.mx_receipt.specs.Receipt.{Kept, rows_of, kept_at}
 use Rattle.mx_access.specs.Acl.{acl_allows}
 use Rattle.mx_keeper.specs.declared.rows.ShardRow.{ShardRow}
 use Rattle.mx_keeper.specs.declared.rows.BookRow.{BookRow}
 use Rattle.mx_room.specs.Offer.{Offered}
-use Rattle.mx_room.specs.declared.outcomes.Outcome.{Outcome}
 use Rattle.mx_room.specs.declared.outcomes.Outcome.TheVariants as outcome
 use Rattle.mx_room.specs.declared.outcomes.Refusal.TheVariants.{AccessList}
 use Rattle.mx_shard.specs.Journal.{stored as stored_events}
@@ -14,9 +13,8 @@ use Rattle.mx_shard.specs.View.{ShardView}
 use Rattle.mx_book.specs.Journal.{stored as stored_replies}
 use Rattle.mx_book.specs.View.{BookView}
 use Rattle.mx_book.specs.declared.transaction_keys.TransactionKey.{TransactionKey}
-use Rattle.mx_world.specs.Crashes.{CrashLeaves, rows_called, rows_ended, step_call, step_entry}
+use Rattle.mx_world.specs.Crashes.{rows_called, rows_ended, step_call, step_entry}
 use Rattle.mx_world.specs.Replies.{Status, outcome_in}
-use Rattle.mx_world.specs.View.{WorldView}
 use Rattle.mx_world.specs.declared.steps.Step.{Step}
 
 -- ---- what a crash leaves of a shard or a book that was refused for nothing at an earlier moment

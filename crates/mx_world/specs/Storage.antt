@@ -1,11 +1,15 @@
 -- Want of storage: for which shard or book a step is refused, and what becomes of the others (our own).
-use Rattle.std.specs.Prelude.{ℕ, ◌≡◌, ◌≢◌, ◌<◌, ◌≤◌, ◌⊎◌, Bool, true, List, [], ◌∷◌, length, get_or, Option, Some, None}
+use Rattle.std.specs.Prelude.{ℕ, ◌≡◌, ◌≢◌, ◌<◌, ◌≤◌, ◌⊎◌, Bool, true, false, List, [], ◌∷◌, length, get_or, All, Option, Some, None, Err}
 use Rattle.mx_keeper.specs.Keeping.{Rose}
 use Rattle.mx_keeper.specs.Places.{place_number}
 use Rattle.mx_pdu.specs.Event.{room_of}
 use Rattle.mx_room.specs.Offer.{Offered}
 use Rattle.mx_room.specs.Queries.{room_named}
+use Rattle.mx_room.specs.declared.queries.Denied.TheVariants.{NotFound}
+use Rattle.mx_shard.specs.LoneRoom.{Call, to_ask, answer}
+use Rattle.mx_shard.specs.Journal.{record_of}
 use Rattle.mx_shard.specs.View.{ShardView}
+use Rattle.mx_shard.specs.declared.answers.Answer.TheVariants.{ToAsked}
 use Rattle.mx_book.specs.View.{BookView}
 use Rattle.mx_book.specs.declared.transaction_keys.TransactionKey.{TransactionKey}
 use Rattle.mx_world.specs.Replies.{Status}
@@ -75,20 +79,28 @@ abbrev pub NextFails : {K : Type 0} → (K → ℕ) → List (ShardView K) → L
 NextFails failed olds news [] = ⊥
 NextFails failed olds news (o ∷ rest) = ShardFails failed olds news (room_of o.pdu)
 
--- the shard of the room that a query names fails; for a query by an id alone some shard does
-abbrev pub AskFails : {K : Type 0} → (K → ℕ) → List (ShardView K) → List (ShardView K) → Option (List ℕ) → Type 0
-AskFails failed olds news None = SomeShardFails failed olds news
-AskFails failed olds news (Some room) = ShardFails failed olds news room
+-- no room of a shard shows what is asked
+abbrev pub ShowsNothing : {K : Type 0} → Call → ShardView K → Type 0
+ShowsNothing call shard = (room : List ℕ) → answer (record_of shard.journal room) call ≡ ToAsked (Err NotFound)
+
+-- no shard shows it but one that is refused
+abbrev pub OthersShowNothing : {K : Type 0} → Call → List (ShardView K) → Type 0
+OthersShowNothing call shards = All (λ shard. shard.is_refused ≡ false → ShowsNothing call shard) shards
+
+-- the shard of the room that a query names fails; for a query by an id alone some shard does, and no other one shows it
+abbrev pub AskFails : {K : Type 0} → (K → ℕ) → List (ShardView K) → List (ShardView K) → Call → Option (List ℕ) → Type 0
+AskFails failed olds news call None = SomeShardFails failed olds news × OthersShowNothing call news
+AskFails failed olds news call (Some room) = ShardFails failed olds news room
 
 -- the step's own shard or book fails: that of its room, or of its transaction's server; for a query by an id alone some
--- shard. The status is that before the step.
+-- shard, and no other one shows it. The status is that before the step.
 abbrev pub IsStorageFailure : {K L : Type 0} → (K → ℕ) → (L → ℕ) → (TransactionKey → Status) → WorldView K L → WorldView K L → Step → Type 0
 IsStorageFailure f g status old new (Host o) = ShardFails f old.shards new.shards (room_of o.pdu)
 IsStorageFailure f g status old new (Join origin o) = ShardFails f old.shards new.shards (room_of o.pdu)
 IsStorageFailure f g status old new (Open p events) = BookFails g old.books new.books p.origin
 IsStorageFailure f g status old new (Next p) = NextFails f old.shards new.shards (rest_of (status p))
 IsStorageFailure f g status old new (Close p) = BookFails g old.books new.books p.origin
-IsStorageFailure f g status old new (Ask origin now q) = AskFails f old.shards new.shards (room_named q)
+IsStorageFailure f g status old new (Ask origin now q) = AskFails f old.shards new.shards (to_ask origin now q) (room_named q)
 
 -- the room whose shard a step may change, and the server whose book it may
 abbrev pub own_room : (TransactionKey → Status) → Step → Option (List ℕ)
@@ -115,7 +127,6 @@ pub record ChangesOwn {K L : Type 0} (f : K → ℕ) (g : L → ℕ) (status : T
 abbrev pub IsUnfit : {K Row : Type 0} → (K → Type 0) → (K → Type 0) → (K → Option (List Row)) → K → Type 0
 IsUnfit is_ready honest rows keeper = is_ready keeper → honest keeper → rows keeper ≢ Some []
 
--- some keeper of these is
-abbrev pub SomeUnfit : {K Row : Type 0} → (K → Type 0) → (K → Type 0) → (K → Option (List Row)) → List K → Type 0
-SomeUnfit {K = K} is_ready honest rows keepers =
-    (n : ℕ) × (n < length keepers) × ((d : K) → IsUnfit is_ready honest rows (get_or keepers n d))
+-- the keeper with this number is
+abbrev pub UnfitAt : {K Row : Type 0} → (K → Type 0) → (K → Type 0) → (K → Option (List Row)) → List K → ℕ → Type 0
+UnfitAt {K = K} is_ready honest rows keepers n = (n < length keepers) × ((d : K) → IsUnfit is_ready honest rows (get_or keepers n d))

@@ -7,6 +7,7 @@ mod books;
 mod callers;
 mod losses;
 mod numbering;
+mod open_errors;
 mod orders;
 mod parts;
 mod reopening;
@@ -27,6 +28,7 @@ pub use mx_room::{
     Denied, EventIdList, EventList, Moment, NotARoom, Outcome, Query, QueryReply, Refusal,
 };
 pub use mx_shard::Answer;
+pub use open_errors::OpenError;
 pub use orders::agreeing_orders_answer_alike;
 pub use runs::{RunError, agreeing_runs_answer_alike, run};
 pub use steps::{Step, StepReply};

@@ -1,5 +1,5 @@
 // The server.
-ghost use Rattle.std.specs.Prelude.{◌≡◌, ◌++◌, ◌∷◌, ◌≤◌, ◌⊎◌, ℕ, List, [], Some, true, false, length, map, get_or, All, IfOk, OnOk, OnErr, IsTrue};
+ghost use Rattle.std.specs.Prelude.{◌≡◌, ◌++◌, ◌∷◌, ◌≤◌, ℕ, List, [], None, Some, length, map, get_or, All, IfErr, IfOk, IfSome, OnOk, OnErr, IsTrue};
 ghost use Rattle.mx_shard.specs.LoneRoom.{to_ask, call_room};
 ghost use Rattle.mx_shard.specs.Shown.{IsAnswer};
 ghost use Rattle.mx_book.specs.Journal.{IsEnded};
@@ -9,15 +9,16 @@ ghost use Rattle.mx_world.specs.Calls.{Start, record_after};
 ghost use Rattle.mx_world.specs.Replies.{unopened, status_after, IsReply};
 ghost use Rattle.mx_world.specs.Moves.{RecordsMove, StatusesMove, after_abandon};
 ghost use Rattle.mx_world.specs.Worlds.{shard_journals, book_journals, records_of, statuses_of, records_in, status_in, none_open, is_refused, AtTransaction, Stays, Moves, IsAfter};
-ghost use Rattle.mx_world.specs.Storage.{IsStorageFailure, ChangesOwn, OnlyAt, SomeUnfit};
+ghost use Rattle.mx_world.specs.Storage.{IsStorageFailure, ChangesOwn, OnlyAt, UnfitAt};
 ghost use Rattle.mx_world.specs.Crashes.{CrashLeaves, at_error};
-ghost use Rattle.mx_world.specs.Parts.{shard_places, book_places, ArePlaced, IsSoundShard, IsSoundBook, SomeFilled};
+ghost use Rattle.mx_world.specs.Parts.{shard_places, book_places, ArePlaced, IsSoundShard, IsSoundBook, FilledAt};
 ghost use Rattle.mx_shard.specs.Journal.{CanReopen};
-ghost use Rattle.mx_world.specs.Reopening.{AreOver, IsReopenedShard, IsReopenedBook, SomeCannotReopen, CanReopenBook};
+ghost use Rattle.mx_world.specs.Reopening.{AreOver, IsReopenedShard, IsReopenedBook, CannotReopenAt, CanReopenBook, IsRefusedFor};
 ghost use Rattle.mx_world.specs.Inside.{IsSound};
 
 use crate::losses::lost_of_book;
-use crate::parts::{have_no_entry, parts_are_sound};
+use crate::open_errors::OpenError;
+use crate::parts::{first_filled, parts_are_sound};
 use crate::reopening::reopened_parts;
 use crate::rooms::{ask_in, host_in, send_in};
 use crate::steps::{Step, StepReply};
@@ -60,13 +61,13 @@ impl<K: Keeper<Row = ShardRow>, L: Keeper<Row = BookRow>> World<K, L> {
     /// A server that hosts no room and knows of no transaction, with a shard over each of the first keepers and a book
     /// over each of the others.
     ///
-    /// `Memory` where no memory is left. `Storage` where a keeper failed, or has rows or what does not read as
-    /// rows. A refused call drops the keepers.
+    /// `Memory` where no memory is left. `Shard` or `Book`, with the number of the keeper, where it failed, or has rows or
+    /// what does not read as rows. A refused call drops the keepers.
     pub fn new(
         alloc: Global,
         shard_keepers: Vec<K>,
         book_keepers: Vec<L>,
-    ) -> Result<World<K, L>, CallError>
+    ) -> Result<World<K, L>, OpenError>
         requires some_shard { 1 ≤ length shard_keepers.items }
         requires few_shards { length shard_keepers.items ≤ MOST_PLACES }
         requires some_book { 1 ≤ length book_keepers.items }
@@ -77,29 +78,29 @@ impl<K: Keeper<Row = ShardRow>, L: Keeper<Row = BookRow>> World<K, L> {
         ensures shards { IfOk result (λ world. length world.shards ≡ length shard_keepers.items) }
         ensures books { IfOk result (λ world. length world.books ≡ length book_keepers.items) }
 
-        // One of the keepers tells why: where it is ready and honest, it has rows or what does not read as rows.
-        ensures storage { result ≡ Err CallError.Storage → SomeUnfit K.is_ready K.is_honest K.rows shard_keepers.items
-            ⊎ SomeUnfit L.is_ready L.is_honest L.rows book_keepers.items }
+        // The keeper that is named tells why: where it is ready and honest, it has rows or what does not read as rows.
+        ensures refused { IfErr result (IsRefusedFor (UnfitAt K.is_ready K.is_honest K.rows shard_keepers.items)
+            (UnfitAt L.is_ready L.is_honest L.rows book_keepers.items)) }
     {
         let world = World::reopen(alloc, shard_keepers, book_keepers)?;
-        if !world.is_blank() {
-            return Err(CallError::Storage);
+        match world.filled_part() {
+            Some(error) => Err(error),
+            None => Ok(world),
         }
-        Ok(world)
     }
 
     /// A server over keepers that may have rows: with a shard over each of the first ones, of the rooms that its rows make,
     /// and a book over each of the others, of the replies that it has rows of. No transaction is open.
     ///
     /// Each event is judged again by those before it of its room; neither signatures, content hashes nor access control
-    /// lists are asked again. `Memory` where no memory is left. `Storage` where a keeper failed, where what it has does
-    /// not read as rows, or where no shard or book at its place has such rows, as with another number of keepers. A
-    /// refused call drops the keepers.
+    /// lists are asked again. `Memory` where no memory is left. `Shard` or `Book`, with the number of the keeper, where it
+    /// failed, where what it has does not read as rows, or where no shard or book at its place has such rows, as with
+    /// another number of keepers. A refused call drops the keepers.
     pub fn reopen(
         alloc: Global,
         shard_keepers: Vec<K>,
         book_keepers: Vec<L>,
-    ) -> Result<World<K, L>, CallError>
+    ) -> Result<World<K, L>, OpenError>
         requires some_shard { 1 ≤ length shard_keepers.items }
         requires few_shards { length shard_keepers.items ≤ MOST_PLACES }
         requires some_book { 1 ≤ length book_keepers.items }
@@ -110,9 +111,10 @@ impl<K: Keeper<Row = ShardRow>, L: Keeper<Row = BookRow>> World<K, L> {
         // The entries of each are those of the rows of its keeper.
         ensures shard_rows { IfOk result (λ world. AreOver (IsReopenedShard K.is_ready K.is_honest K.rows K.may_leave) shard_keepers.items world.shards) }
         ensures book_rows { IfOk result (λ world. AreOver (IsReopenedBook L.is_ready L.is_honest L.rows L.may_leave) book_keepers.items world.books) }
-        // One of the keepers tells why: where it is ready and honest, no shard or book at its place has its rows.
-        ensures storage { result ≡ Err CallError.Storage → SomeCannotReopen CanReopen K.is_ready K.is_honest K.rows shard_keepers.items
-            ⊎ SomeCannotReopen CanReopenBook L.is_ready L.is_honest L.rows book_keepers.items }
+        // The keeper that is named tells why: where it is ready and honest, no shard or book at its place has its rows.
+        ensures refused { IfErr result
+            (IsRefusedFor (CannotReopenAt CanReopen K.is_ready K.is_honest K.rows shard_keepers.items)
+            (CannotReopenAt CanReopenBook L.is_ready L.is_honest L.rows book_keepers.items)) }
     {
         let shards = reopened_parts::<Shard<K>>(alloc, shard_keepers)?;
         let books = reopened_parts::<Book<L>>(alloc, book_keepers)?;
@@ -176,13 +178,14 @@ impl<K: Keeper<Row = ShardRow>, L: Keeper<Row = BookRow>> World<K, L> {
     ///
     /// `Memory` where no memory is left. `Storage` where what keeps the rows of the step's own shard or book failed, now
     /// or before: the shard of the event's room, or of the room that a query names, the book of the transaction's server,
-    /// or, for a query by an event's id alone, any shard. A step that is refused changes no journal, and so no
-    /// room's record, and no transaction's status.
+    /// or, for a query by an event's id alone, some shard, where no other one shows the event. A step that is refused
+    /// changes no journal, and so no room's record, and no transaction's status.
     pub fn step(&mut self, alloc: Global, step: &Step) -> Result<StepReply, CallError>
         ensures next { IfOk result (λ reply. (s : Start) (earlier : List Step) → IsAfter s earlier self.old →
             IsReply (record_after s earlier) (status_after s earlier) step.now reply × IsAfter s (earlier ++ step.now ∷ []) self.new) }
         ensures err { OnErr result (Stays self.old self.new) }
-        // Its own shard or book is refused, and was before, or its keeper's count of failures rose in this step.
+        // Its own shard or book is refused, and was before, or its keeper's count of failures rose in this step. For a query
+        // by an event's id alone it is any shard, and no other one shows the event.
         ensures storage { result ≡ Err CallError.Storage → IsStorageFailure K.failed L.failed (status_in self.old) self.old self.new step.now }
         ensures refused { result ≡ Err CallError.Storage → IsTrue (is_refused self.new) }
         // It changes no other, and what is refused stays so.
@@ -224,13 +227,20 @@ impl<K: Keeper<Row = ShardRow>, L: Keeper<Row = BookRow>> World<K, L> {
         lost_of_book(alloc, &self.shards, &self.books, book)
     }
 
-    // Whether no shard and no book has an entry.
-    fn is_blank(&self) -> bool
-        ensures shards { result ≡ true → All (λ shard. shard.journal ≡ []) self.now.shards }
-        ensures books { result ≡ true → All (λ book. book.journal ≡ []) self.now.books }
-        ensures filled { result ≡ false → SomeFilled (λ shard. shard.journal ≡ []) self.now.shards ⊎ SomeFilled (λ book. book.journal ≡ []) self.now.books }
+    // Which shard has an entry, or which book, if one has: the first one.
+    fn filled_part(&self) -> Option<OpenError>
+        ensures shards { result ≡ None → All (λ shard. shard.journal ≡ []) self.now.shards }
+        ensures books { result ≡ None → All (λ book. book.journal ≡ []) self.now.books }
+        ensures filled { IfSome result (IsRefusedFor (FilledAt (λ shard. shard.journal ≡ []) self.now.shards)
+            (FilledAt (λ book. book.journal ≡ []) self.now.books)) }
     {
-        have_no_entry(&self.shards) && have_no_entry(&self.books)
+        match first_filled(&self.shards) {
+            Some(number) => Some(OpenError::Shard(number)),
+            None => match first_filled(&self.books) {
+                Some(number) => Some(OpenError::Book(number)),
+                None => None,
+            },
+        }
     }
 
     // One step, told by what is kept.

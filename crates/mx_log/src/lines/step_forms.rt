@@ -4,10 +4,13 @@ ghost use Rattle.serde_json.specs.Data.{object};
 ghost use Rattle.serde_json.specs.View.{view, members_view};
 ghost use Rattle.mx_log.specs.Lines as definition;
 ghost use Rattle.mx_log.specs.LinesShown.{line_shown};
-ghost use Rattle.mx_pdu.specs.Offers.{offer_by};
+ghost use Rattle.mx_pdu.specs.Offers.{Judge, offer_by};
+ghost use Rattle.mx_event_reading.specs.BodiesRead.{AreOffered, object_of};
 
 use crate::lines::Line;
 use crate::lines::keys::{TRANSACTION_KEYS, has_only, key_in};
+use mx_body::MOST_EVENTS;
+use mx_event_reading::EventsRead;
 use mx_pdu::Verifier;
 use mx_requests::{events_in, well_formed};
 use mx_world::{Step, TransactionKey};
@@ -78,6 +81,24 @@ fn opening<V: Verifier>(
 {
     match events_in(alloc, events, verifier)? {
         Some(events) => Ok(Line::Step(Step::Open(key, events))),
+        None => Ok(Line::Bad),
+    }
+}
+
+/// The line that opens the transaction that it names, with these events.
+pub(crate) fn open_read(alloc: Global, read: EventsRead) -> Result<Line, AllocError>
+    ensures { IfOk result (λ line. (judges : Judge) → AreOffered judges read.events.items → line_shown line
+        ≡ definition.open_form (offer_by judges) (object_of read)) }
+{
+    let EventsRead { events, others } = read;
+    if !has_only(&others, &OPEN_KEYS) {
+        return Ok(Line::Bad);
+    }
+    if events.len() > MOST_EVENTS {
+        return Ok(Line::Bad);
+    }
+    match key_in(alloc, &others)? {
+        Some(key) => Ok(Line::Step(Step::Open(key, events))),
         None => Ok(Line::Bad),
     }
 }

@@ -7,7 +7,8 @@ ghost use Rattle.mx_body.specs.Bodies.{texts_of};
 ghost use Rattle.mx_redact.specs.Fields.{field as field_of, is_none_or};
 ghost use Rattle.mx_requests.specs.BodyEvents.{AreEventsOf, IsEventOf, IsFaultOf, offered_if_formed, offered_in};
 ghost use Rattle.mx_requests.specs.Requests as definition;
-ghost use Rattle.mx_pdu.specs.Offers.{offer_by};
+ghost use Rattle.mx_pdu.specs.Offers.{Judge, offer_by};
+ghost use Rattle.mx_event_reading.specs.BodiesRead.{AreOffered, object_of};
 
 use crate::faults::Fault;
 use json::Scratch;
@@ -15,6 +16,7 @@ use mx_body::{
     BodyError, MOST_EPHEMERAL_EVENTS, MOST_EVENTS, body_value, event_text, transaction_texts,
 };
 use mx_canon::check;
+use mx_event_reading::{BodyRead, EventsRead, read_body};
 use mx_pdu::{Offered, PduError, TextError, Verifier};
 use mx_redact::field;
 use serde_json::{Map, Value};
@@ -36,9 +38,9 @@ const LONGEST_VALUE: usize = 65_536;
 /// [`MOST_EPHEMERAL_EVENTS`]. `NotJson` as for a body; `Memory`. Source: the Matrix specification, Server-Server API,
 /// `PUT /_matrix/federation/v1/send/{txnId}`.
 ///
-/// A body of at most [`LONGEST_VALUE`] bytes is read to its value, and the events are taken out of that. Of a longer one
-/// no value is made, and of its events one at a time. One contract says of both ways which events they give. The
-/// scratch is kept from body to body.
+/// A body of at most [`LONGEST_VALUE`] bytes whose events all come in canonical JSON is read to these, and another
+/// one to its value, out of which the events are taken. Of a longer one no value is made, and of its events one at a time.
+/// One contract says of all ways which events they give. The scratch is kept from body to body.
 pub(crate) fn transaction_events<V: Verifier>(
     alloc: Global,
     scratch: &mut Scratch,
@@ -52,9 +54,15 @@ pub(crate) fn transaction_events<V: Verifier>(
     if body.len() > LONGEST_VALUE {
         return events_by_texts(alloc, scratch, body, verifier);
     }
-    let value = value_of_body(alloc, scratch, body)?;
-    let events = events_of_value(alloc, value, verifier)?;
-    Ok(events)
+    match read_body(alloc, scratch, verifier, body) {
+        Ok(BodyRead::Events(read)) => Ok(events_read(read)),
+        Ok(BodyRead::Value(value)) => {
+            let events = events_of_value(alloc, value, verifier)?;
+            Ok(events)
+        }
+        Err(BodyError::Memory) => Err(Fault::Memory),
+        Err(BodyError::NotJson) => Err(Fault::NotJson),
+    }
 }
 
 /// The event that a body is JSON for, as it is offered; none where it is malformed.
@@ -123,6 +131,21 @@ fn events_of_members<V: Verifier>(
         Some(events) => events_in(alloc, events, verifier),
         None => Ok(None),
     }
+}
+
+// The events of a transaction that were read; none where it is no transaction.
+fn events_read(read: EventsRead) -> Option<Vec<Offered>>
+    ensures { (judges : Judge) → AreOffered judges read.events.items → option_map (λ events. events.items) result
+        ≡ option_map (map (offer_by judges)) (definition.events_in (object_of read)) }
+{
+    let EventsRead { events, others } = read;
+    if !has_few_ephemeral_events(&others) {
+        return None;
+    }
+    if events.len() > MOST_EVENTS {
+        return None;
+    }
+    Some(events)
 }
 
 fn has_few_ephemeral_events(members: &Map<String, Value>) -> bool

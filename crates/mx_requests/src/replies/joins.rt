@@ -4,9 +4,8 @@ ghost use Rattle.mx_canon.specs.Canonical.{canonical_text};
 ghost use Rattle.mx_requests.specs.JoinReplies as definition;
 ghost use Rattle.mx_requests.specs.RepliesShown.{reply_shown};
 
-use crate::faults::{Denial, Fault};
+use crate::faults::Fault;
 use crate::replies::pieces::{write_event, write_events};
-use crate::replies::queries::denied_fault;
 use crate::replies::{ReplyBody, WireReply, fault_reply};
 use mx_canon::{TextBuffer, TextSink, write_key, write_string};
 use mx_ident::ServerName;
@@ -26,7 +25,7 @@ pub fn join_reply(
     ensures { IfOk result (λ made. reply_shown made ≡ definition.join_reply name.now reply) }
 {
     match reply {
-        JoinReply::NotOffered => fault_reply(alloc, denied_fault(Denied::OtherServer)),
+        JoinReply::NotOffered => fault_reply(alloc, Fault::Denied(Denied::OtherServer)),
         JoinReply::Offered { outcome, joined } => match joined {
             Some(joined) => {
                 let body = joined_body(alloc, name, &joined)?;
@@ -48,7 +47,7 @@ pub(crate) fn outcome_fault(outcome: Outcome) -> Fault
 {
     match outcome {
         Outcome::Kept(verdict) | Outcome::Known(verdict) => verdict_fault(verdict),
-        Outcome::Refused(refusal) => Fault::Forbidden(Denial::Refusal(refusal)),
+        Outcome::Refused(refusal) => Fault::Refused(refusal),
     }
 }
 
@@ -56,8 +55,8 @@ fn verdict_fault(verdict: Verdict) -> Fault
     ensures { result ≡ definition.verdict_fault verdict }
 {
     match verdict {
-        Verdict::Accepted => Fault::NotFound,
-        Verdict::SoftFailed(rule) | Verdict::Rejected(rule) => Fault::Forbidden(Denial::Rule(rule)),
+        Verdict::Accepted => Fault::Denied(Denied::NotFound),
+        Verdict::SoftFailed(rule) | Verdict::Rejected(rule) => Fault::Denied(Denied::Rule(rule)),
     }
 }
 

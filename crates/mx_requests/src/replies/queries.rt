@@ -6,7 +6,7 @@ ghost use Rattle.mx_canon.specs.Canonical.{canonical_text};
 ghost use Rattle.mx_requests.specs.ReplyBodies as definition;
 ghost use Rattle.mx_requests.specs.RepliesShown.{reply_shown};
 
-use crate::faults::{Denial, Fault};
+use crate::faults::Fault;
 use crate::replies::pieces::{events_length, ids_length, write_events, write_ids, write_number};
 use crate::replies::{ReplyBody, WireReply, fault_reply};
 use mx_auth::RoomVersion;
@@ -44,23 +44,7 @@ pub fn query_reply(
                 body: ReplyBody::Made(body),
             })
         }
-        Err(denied) => fault_reply(alloc, denied_fault(denied)),
-    }
-}
-
-/// The fault of a query that is denied so. It takes no memory.
-///
-/// Source: the Matrix specification, Server-Server API, "Standard error response" and "Joining Rooms".
-pub(crate) fn denied_fault(denied: Denied) -> Fault
-    ensures { result ≡ definition.denied_fault denied }
-{
-    match denied {
-        Denied::AccessList => Fault::Forbidden(Denial::ServerAcl),
-        Denied::NotInRoom => Fault::Forbidden(Denial::NotInRoom),
-        Denied::NotFound => Fault::NotFound,
-        Denied::OtherServer => Fault::Forbidden(Denial::UserOfAnotherServer),
-        Denied::WrongVersion(version) => Fault::IncompatibleVersion(version),
-        Denied::Rule(rule) => Fault::Forbidden(Denial::Rule(rule)),
+        Err(denied) => fault_reply(alloc, Fault::Denied(denied)),
     }
 }
 

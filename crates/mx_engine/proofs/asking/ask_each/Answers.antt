@@ -1,11 +1,11 @@
-use Rattle.std.proofs.Common.{◌≡◌, ◌<◌, ◌≤◌, ◌+◌, ◌∙◌, ap, length, set, sym, subst, arith, Some, Ok}
+use Rattle.std.proofs.Common.{◌≡◌, ◌<◌, ◌+◌, ◌∙◌, ap, length, set, sym, subst, arith, Some, Ok}
 use Rattle.std.proofs.lemmas.List.{length-map, length-set}
 use Rattle.mx_dock.specs.Dock.{own}
 use Rattle.mx_shard.specs.LoneRoom.{to_ask}
 use Rattle.mx_engine.specs.Berths.{views_of}
 use Rattle.mx_engine.specs.Calling.{IsAskTurn}
 use Rattle.mx_engine.proofs.TurnLemmas.{told_nothing, nothing_refl}
-use Rattle.mx_engine.proofs.AskingLemmas.{same_refl, same_trans, same_nothing, nothing_trans, shown_found, shows_here, AreAsked, asked_none, asked_more, found_some, never_storage, all_refused, all_unshown}
+use Rattle.mx_engine.proofs.AskingLemmas.{same_refl, same_trans, same_nothing, nothing_trans, shown_found, shows_here, AreAsked, asked_none, asked_more, found_some}
 use Rattle.mx_engine.proofs.BerthLemmas.{seated_set}
 use Rattle.mx_engine.proofs.asking.ask_each.Goals as goal
 
@@ -14,15 +14,9 @@ loop-number-init g c = record {
   seated = c.requires.seated;
   same = same_refl (views_of c.args.berths.now.items);
   nothing = nothing_refl (views_of c.args.berths.now.items);
-  within = omega arith;
   asked = asked_none (to_ask c.args.question.now.origin.now c.args.question.now.moment c.args.question.now.query.now)
       (views_of c.args.berths.now.items);
 }
-
-pub returns-in_err-answer-clause-storage : goal.returns-in_err-answer-clause-storage
-returns-in_err-answer-clause-storage g c = λ is.
-    absurd (never_storage c.ask_one-asked.result c.from_residual.result c.in_err-answer.field-0.0 c.from_residual.ensures.1
-    (sym c.found.ensures ∙ c.in_err-answer.was) is)
 
 pub returns-in_err-answer-clause-same : goal.returns-in_err-answer-clause-same
 returns-in_err-answer-clause-same g c =
@@ -62,7 +56,6 @@ loop-number-preserved g c =
       same = same_trans (views_of c.args.berths.now.items) (views_of berths) _ c.loop-number.invariant.same
           (same_nothing (views_of berths) _ change);
       nothing = nothing_trans (views_of c.args.berths.now.items) (views_of berths) _ c.loop-number.invariant.nothing change;
-      within = omega (arith, c.loop-number-test.true);
       asked = subst (AreAsked call (views_of (set berths n c.ask_one-asked.new.berth)) (n + 1))
           (sym c.is_refused_by_now-is_refused.ensures)
           (asked_more call berths n c.index_mut-berth.result.now c.ask_one-asked.new.berth c.loop-number.is_refused
@@ -70,26 +63,12 @@ loop-number-preserved g c =
           (sym c.found.ensures ∙ c.in_ok-answer.was ∙ ap Ok c.in_default.is));
     }
 
-pub returns-then-is_refused-clause-storage : goal.returns-then-is_refused-clause-storage
-returns-then-is_refused-clause-storage g c = λ is.
-    let call = to_ask c.args.question.now.origin.now c.args.question.now.moment c.args.question.now.query.now in
-    let views = views_of c.loop-number.berths.items in
-    let long : length views ≡ length c.args.docks.now = length-map c.loop-number.berths.items own
-    ∙ c.loop-number.invariant.seated.same in
-    let past = c.loop-number-test.false in
-    let within : c.loop-number.number ≤ length c.args.docks.now = c.loop-number.invariant.within in
-    all_refused call views c.loop-number.number c.loop-number.is_refused c.loop-number.invariant.asked
-    (omega (arith, long, past)) (omega (arith, long, within)) c.if-is_refused.true
-
 pub returns-clause-shown : goal.returns-clause-shown
-returns-clause-shown g c =
-    let call = to_ask c.args.question.now.origin.now c.args.question.now.moment c.args.question.now.query.now in
-    let views = views_of c.loop-number.berths.items in
-    let long : length views ≡ length c.args.docks.now = length-map c.loop-number.berths.items own
-    ∙ c.loop-number.invariant.seated.same in
+returns-clause-shown g c = λ n l.
+    let long : length (views_of c.loop-number.berths.items) ≡ length c.args.docks.now =
+    length-map c.loop-number.berths.items own ∙ c.loop-number.invariant.seated.same in
     let past = c.loop-number-test.false in
-    all_unshown call views c.loop-number.number c.loop-number.is_refused c.loop-number.invariant.asked
-    (omega (arith, long, past)) c.if-is_refused.false
+    c.loop-number.invariant.asked c.if-is_refused.false n (omega (arith, l, long, past))
 
 pub returns-in-Some-clause-same : goal.returns-in-Some-clause-same
 returns-in-Some-clause-same g c =

@@ -8,7 +8,8 @@ use denote.Struct.Field.{row_field}
 use mir.Syntax.{Sym}
 use Rattle.std.specs.Prelude.{codes}
 use Rattle.std.proofs.Common.{◌∷◌, []}
-use Rattle.std.proofs.Crossing.{Arc-send}
+use Rattle.std.proofs.Crossing.{Arc-send, frees, send}
+use Rattle.json.proofs.scratch.Scratch.TheSendSync as scratch
 use Rattle.mx_server.specs.contracts.serving.serve_by as contract
 use Rattle.mx_server.specs.contracts.workers.Handler as handler
 use Rattle.mx_server.specs.contracts.workers.Worker as worker
@@ -27,7 +28,10 @@ captured_send ν A B a b = declared_send (type_at ν (A ∷ B ∷ [])) (as_row_s
 handler_send : (F C : RattleType) → IsSend F → IsSend C → IsSend (handler.the_row F C)
 handler_send F C f c = declared_send (handler.the_type F C) (
   Arc-send _ reader_send reader_sync,
-  (desk_thread.the_send, (as_row_send (row_field C) c, (as_row_send (row_field F) f, (search sendable depth 20, tt)))),
+  (
+    scratch.the_send _ _ send frees,
+    (desk_thread.the_send, (as_row_send (row_field C) c, (as_row_send (row_field F) f, (search sendable depth 20, tt)))),
+  ),
 )
 
 abbrev closure : Sym

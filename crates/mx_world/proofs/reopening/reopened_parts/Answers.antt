@@ -1,9 +1,11 @@
-use Rattle.std.proofs.Common.{◌≡◌, ◌+◌, ◌∙◌, ◌++◌, ◌∷◌, [], length, drop, Err, sym, ap, subst, arith}
+use Rattle.std.proofs.Common.{◌≡◌, ◌⊎◌, ℕ, ◌+◌, ◌∙◌, ◌++◌, ◌∷◌, [], length, drop, sym, ap, arith}
 use Rattle.std.proofs.lemmas.List.{length_push}
-use Rattle.mx_keeper.specs.Places.{PlaceView}
 use Rattle.mx_world.proofs.MakingLemmas.{numbered-none, numbered-more, placed-all, taken_first, taken_more}
-use Rattle.mx_world.proofs.ReopeningLemmas.{over-none, over-more, over-all}
-use Rattle.mx_world.proofs.RefusalLemmas.{is-storage}
+use Rattle.mx_world.specs.Reopening.{CannotAt}
+use Rattle.mx_world.specs.declared.open_errors.OpenError.{OpenError}
+use Rattle.mx_world.specs.declared.open_errors.OpenError.TheVariants.{Memory}
+use Rattle.mx_world.proofs.ReopeningLemmas.{over-none, over-more, over-all, refused-part}
+use Rattle.mx_world.proofs.RefusalLemmas.{handed-on}
 use Rattle.mx_world.proofs.reopening.reopened_parts.Goals as goal
 
 pub loop-keeper-init : goal.loop-keeper-init
@@ -48,15 +50,13 @@ returns-clause-over g c =
     let all : length c.loop-keeper.parts.items ≡ length c.args.keepers.items = omega (arith, c.in-None.ensures.steps.0, c.loop-keeper.invariant.long, c.loop-keeper.invariant.all) in
     over-all g.P.Part.is_over c.args.keepers.items c.loop-keeper.parts.items all c.loop-keeper.invariant.over
 
-pub returns-in_err-part-clause-storage : goal.returns-in_err-part-clause-storage
-returns-in_err-part-clause-storage g c = λ is.
+pub returns-in_err-part-clause-refused : goal.returns-in_err-part-clause-refused
+returns-in_err-part-clause-refused g c =
     let taken = taken_first c.args.keepers.items _ (length c.loop-keeper.parts.items) c.in-Some.keeper (sym c.loop-keeper.invariant.left ∙ c.in-Some.ensures.steps.0) in
     let number : c.len.result ≡ length c.loop-keeper.parts.items = c.len.ensures ∙ c.loop-keeper.parts.ok.0 in
     let place : c.new-place.result ≡ record { number = length c.loop-keeper.parts.items; count = length c.args.keepers.items }
-    = (λ i. record { number = (c.new-place.ensures.number ∙ number) i; count = (c.new-place.ensures.count ∙ c.loop-keeper.invariant.all) i }) in (
-      length c.loop-keeper.parts.items,
-      taken.0,
-      λ d. subst (g.P.Part.cannot (record { number = length c.loop-keeper.parts.items; count = length c.args.keepers.items })) (sym (taken.1 d))
-          (subst (λ (p : PlaceView). g.P.Part.cannot p c.in-Some.keeper) place
-          (c.in_err-part.ensures.storage (ap (λ e. Err e) (is-storage c.from_residual.result c.in_err-part.field-0.0 c.from_residual.ensures.1 is)))),
-    )
+    = (λ i. record { number = (c.new-place.ensures.number ∙ number) i; count = (c.new-place.ensures.count ∙ c.loop-keeper.invariant.all) i }) in
+    let Why : OpenError → Type 0 = λ error. (error ≡ Memory) ⊎ ((n : ℕ) × (error ≡ g.P.Part.refusal n) × CannotAt g.P.Part.cannot c.args.keepers.items n) in
+    handed-on c.from_residual.result c.in_err-part.field-0.0 Why c.from_residual.ensures.1
+    (refused-part g.P.Part.cannot g.P.Part.refusal c.args.keepers.items (length c.loop-keeper.parts.items) c.in-Some.keeper
+    c.new-place.result c.in_err-part.field-0.0 taken.0 taken.1 place c.in_err-part.ensures.refused)

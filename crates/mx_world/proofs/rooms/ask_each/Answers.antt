@@ -1,24 +1,37 @@
-use Rattle.std.proofs.Common.{◌∙◌, sym, ap, Err}
+use Rattle.std.proofs.Common.{◌∙◌, ap, subst, IsTrue, Ok}
+use Rattle.std.specs.Prelude.{IfSome}
 use Rattle.mx_shard.specs.Journal.{record_of}
-use Rattle.mx_world.proofs.RoomLemmas.{alone_shown, none-more, none-shown, shown-in}
-use Rattle.mx_world.proofs.StorageLemmas.{some-fails}
-use Rattle.mx_world.proofs.RefusalLemmas.{is-storage}
+use Rattle.mx_shard.specs.LoneRoom.{to_ask}
+use Rattle.mx_shard.specs.Shown.{IsShown}
+use Rattle.mx_shard.specs.Told.{tells_shown}
+use Rattle.mx_world.proofs.RoomLemmas.{none-shown, shown-in}
+use Rattle.mx_world.proofs.AskingLemmas.{asked-none, asked-more, none-asked, some-asked}
 use Rattle.mx_world.proofs.rooms.ask_each.Goals as goal
+
+pub loop-shard-init : goal.loop-shard-init
+loop-shard-init g c = asked-none c.args.shards.now (to_ask c.args.origin.now c.args.now c.args.query.now)
 
 pub loop-shard-preserved : goal.loop-shard-preserved
 loop-shard-preserved g c =
-    none-more c.args.shards.now c.loop-shard.shard-index c.shard-item.result c.args.origin.now c.args.now c.args.query.now c.in_ok-answer.answer c.loop-shard-test.true c.shard-item.is c.loop-shard.invariant (sym c.is_shown.ensures ∙ c.if-is_shown.false)
-    (alone_shown (record_of c.shard-item.result.journal) c.args.origin.now c.args.now c.args.query.now c.in_ok-answer.answer c.requires.alone c.in_ok-answer.ensures.reply)
+    asked-more c.args.shards.now (to_ask c.args.origin.now c.args.now c.args.query.now) c.loop-shard.shard-index c.shard-item.result
+    c.loop-shard.is_refused c.ask_one.new.is_refused c.loop-shard-test.true c.shard-item.is c.loop-shard.invariant
+    (c.ask_one.ensures.unshown (c.in_ok-found.was ∙ ap Ok c.in_default.is)) c.in_ok-found.ensures.noted
 
-pub returns-then-is_shown-clause-reply : goal.returns-then-is_shown-clause-reply
-returns-then-is_shown-clause-reply g c =
-    shown-in c.args.shards.now c.loop-shard.shard-index c.shard-item.result c.args.origin.now c.args.now c.args.query.now c.in_ok-answer.answer c.requires.alone c.requires.placed c.loop-shard-test.true c.shard-item.is c.in_ok-answer.ensures.here (sym c.is_shown.ensures ∙ c.if-is_shown.true)
-    (alone_shown (record_of c.shard-item.result.journal) c.args.origin.now c.args.now c.args.query.now c.in_ok-answer.answer c.requires.alone c.in_ok-answer.ensures.reply)
+pub returns-in-Some-clause-reply : goal.returns-in-Some-clause-reply
+returns-in-Some-clause-reply g c =
+    let found = subst
+    (λ found. IfSome found (λ a. IsTrue (tells_shown a)
+    × IsShown (record_of c.shard-item.result.journal) (to_ask c.args.origin.now c.args.now c.args.query.now) a))
+    c.in-Some.is c.in_ok-found.ensures.shown in
+    shown-in c.args.shards.now c.loop-shard.shard-index c.shard-item.result c.args.origin.now c.args.now c.args.query.now c.in-Some.answer
+    c.requires.alone c.requires.placed c.loop-shard-test.true c.shard-item.is c.ask_one.ensures.here found.0 found.1
 
 pub returns-clause-reply : goal.returns-clause-reply
-returns-clause-reply g c = none-shown c.args.shards.now c.loop-shard.shard-index c.args.origin.now c.args.now c.args.query.now c.requires.placed c.loop-shard-test.false c.loop-shard.invariant
+returns-clause-reply g c =
+    none-shown c.args.shards.now c.loop-shard.shard-index c.args.origin.now c.args.now c.args.query.now c.requires.placed c.loop-shard-test.false
+    (none-asked c.args.shards.now c.loop-shard.shard-index c.args.origin.now c.args.now c.args.query.now c.loop-shard.is_refused c.loop-shard.invariant c.if-is_refused.false)
 
-pub returns-in_err-answer-clause-storage : goal.returns-in_err-answer-clause-storage
-returns-in_err-answer-clause-storage g c = λ is.
-    some-fails (λ shard. shard.is_refused) (λ shard. g.K.Keeper.failed shard.keeper) c.args.shards.now c.loop-shard.shard-index c.shard-item.result c.shard-item.is c.loop-shard-test.true
-    (c.in_err-answer.ensures.storage.0 (ap (λ e. Err e) (is-storage c.from_residual.result c.in_err-answer.field-0.0 c.from_residual.ensures.1 is)))
+pub returns-then-is_refused-clause-storage : goal.returns-then-is_refused-clause-storage
+returns-then-is_refused-clause-storage g c = λ _.
+    some-asked g.K.Keeper.failed c.args.shards.now (to_ask c.args.origin.now c.args.now c.args.query.now) c.loop-shard.shard-index
+    c.loop-shard.is_refused c.loop-shard-test.false c.loop-shard.invariant c.if-is_refused.true
