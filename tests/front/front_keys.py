@@ -13,7 +13,7 @@ from typing import Any
 
 from front_servers import (
     AUTHORITY, FEDERATION, KEYS, OTHER, SIGNATURE, Peer, World, a_message, authorization, in_a_world, is_unsigned, now,
-    published, sealed, signature_of, told, wait_for,
+    published, sealed, signature_of, told,
 )
 from event_logs import NAME
 from matrix_events import Json, content_hash, id_of, without
@@ -126,8 +126,10 @@ def bad_key_servers(world: World) -> None:
     assert time.monotonic() - started < 40
     for name in names:
         assert is_unsigned(replies[name], "no key"), (name, replies[name])
-        (line,) = [it for it in world.front.said if it.startswith("keys of %s.example:" % name)]
+        line = world.front.wait_for_line("keys of %s.example:" % name)
         assert CAUSES.get(name, "") in line, line
+    asked = [it.split(":")[0] for it in world.front.said if it.startswith("keys of ")]
+    assert len(asked) == len(set(asked)), asked
     for peer in peers.values():
         peer.close()
 
@@ -192,7 +194,7 @@ def unheard(world: World) -> None:
     with world.connect() as client:
         client.sendall(b"\x00\xff\r\n\r\n")
         client.recv(65536)
-    wait_for(lambda: any("Bad" in it for it in world.front.said))
+    world.front.wait_for_line("Bad")
     assert len(world.front.said) == 1, world.front.said
     with open("/dev/full", "wb") as full:
         world.start_front(said=full)

@@ -4,7 +4,7 @@ import json
 
 from front_servers import (
     FEDERATION, KEYS, NO_REPLY, OTHER, SIGNATURE, World, a_message, accepted, authorization, in_a_world, is_refused,
-    is_unsigned, signature_of, told, wait_for,
+    is_unsigned, signature_of, told,
 )
 from event_logs import NAME, quoted
 from matrix_events import B, canonical, content_hash, id_of, join
@@ -36,7 +36,7 @@ def wrong_key(world: World) -> None:
     assert is_unsigned(world.send("t1", [], key=KEYS["b.example"]))
     assert is_unsigned(world.send("t1", [], key=generate_signing_key("2")), "no key ed25519:2")
     assert world.send("t1", [])[0] == 200
-    assert any("send/t1" in it for it in world.front.said), world.front.said
+    world.front.wait_for_line("send/t1")
 
 
 @in_a_world
@@ -141,7 +141,7 @@ def targets_of_other_forms(world: World) -> None:
     for target in ("/_matrix/federation/v1/%73end/t1", "/_matrix/federation/v1/send/t1/", "/_matrix/federation/v1/send/",
                    "/_matrix/federation/v2/send_join/x", "/_matrix/federation/v1/../v1/send/t1", "/x"):
         assert is_refused(world.ask("PUT", target, "a.example", {"pdus": []}), 404, "M_UNRECOGNIZED"), target
-        wait_for(lambda: "PUT %s: unknown path" % target in world.front.said)
+        world.front.wait_for_line("PUT %s: unknown path" % target)
     for target in ("http://x/_matrix/federation/v1/event/$x", "/_matrix/client/versions", "*"):
         assert is_refused(world.ask("GET", target, "a.example"), 404, "M_UNRECOGNIZED"), target
     path = "/_matrix/federation/v1/event/%2Fa%2f%21"
@@ -159,7 +159,7 @@ def hub_that_is_down(world: World) -> None:
     port = world.hub.port
     world.hub.stop()
     assert world.send("t1", [made]) == NO_REPLY
-    wait_for(lambda: any("server behind" in it for it in world.front.said))
+    world.front.wait_for_line("server behind")
     world.hub = Server(world.folder / "hub", port=port, hosts=[host_line(world.base.create)])
     assert world.send("t1", [made]) == (200, accepted([made]))
 

@@ -110,7 +110,7 @@ def gap_that_does_not_heal(world: World) -> None:
     assert world.ask("GET", FEDERATION + "v1/event/" + quoted(id_of(unasked)), "b.example")[0] == 404
     asked = len(world.a.asked)
     assert asked <= 6, world.a.asked
-    assert any("did not come" in it for it in world.front.said), world.front.said
+    world.front.wait_for_line("did not come")
     assert told(world.send("t2", events[2:])) == missing
     assert len(world.a.asked) == asked
     assert world.send("t3", events) == (200, accepted(events))
@@ -126,7 +126,7 @@ def gap_without_end(world: World) -> None:
     world.a.answers[FEDERATION + "v1/get_missing_events"] = lambda _: (404, {})
     assert told(world.send("t1", events[-1:])) == (200, {"pdus": {id_of(events[-1]): error("missing events")}})
     assert 290 <= len(world.a.asked) <= 302, len(world.a.asked)
-    assert any("1 did not come" in it for it in world.front.said), world.front.said[-3:]
+    world.front.wait_for_line("1 did not come")
 
 
 @in_a_world

@@ -224,6 +224,11 @@ class Front:
         for line in self.process.stderr or []:
             self.said.append(line.decode().rstrip("\n"))
 
+    def wait_for_line(self, about: str) -> str:
+        """The first line with these words in it, once it has been read: a reply may come before it is."""
+        wait_for(lambda: any(about in it for it in self.said))
+        return next(it for it in self.said if about in it)
+
     def stop(self) -> None:
         """Ends the front, which says of no exception that it has not foreseen."""
         self.process.terminate()

@@ -70,12 +70,7 @@ pub fn parse(alloc: Global, words: &[String]) -> Result<Invocation, CommandLineE
         .about("A Matrix federation room server")
         .version(VERSION)
         .subcommand_required(true)
-        .subcommand(check_words(alloc)?)?
-        .subcommand(replay_words(alloc)?)?
-        .subcommand(serve_words(alloc)?)?
-        .subcommand(audit_words(alloc)?)?
-        .subcommand(migrate_words(alloc)?)?
-        .subcommand(log_words(alloc)?)?;
+        .subcommands(subcommands(alloc)?)?;
     match program.try_get_matches_from(words) {
         Ok(matches) => {
             let command = chosen(alloc, &matches)?;
@@ -91,6 +86,17 @@ pub fn parse(alloc: Global, words: &[String]) -> Result<Invocation, CommandLineE
         }
         Err(error) => Err(CommandLineError::Misused(refusal(alloc, &error)?)),
     }
+}
+
+fn subcommands<'a>(alloc: Global) -> Result<Vec<clap::Command<'a>>, AllocError> {
+    let mut subcommands = Vec::with_capacity(alloc, 6)?;
+    subcommands.push(check_words(alloc)?)?;
+    subcommands.push(replay_words(alloc)?)?;
+    subcommands.push(serve_words(alloc)?)?;
+    subcommands.push(audit_words(alloc)?)?;
+    subcommands.push(migrate_words(alloc)?)?;
+    subcommands.push(log_words(alloc)?)?;
+    Ok(subcommands)
 }
 
 // The file that a subcommand is to read.

@@ -15,18 +15,19 @@ fn file_word<'a>(alloc: Global) -> Arg<'a> {
 }
 
 pub(crate) fn check_words<'a>(alloc: Global) -> Result<clap::Command<'a>, AllocError> {
+    let explain = flag_word(alloc, "explain").help(
+        "Say in a second line which field of a refused event has which fault",
+    );
+    let strict = flag_word(alloc, "strict").help(
+        "End with status 1 where the content hash does not hold",
+    );
+    let words = vec![in alloc; file_word(alloc), explain, strict]?;
     clap::Command::new(alloc, "check")
         .about(
             "Reads one event, and prints its ID, whether its content hash holds, and its canonical text",
         )
         .after_help("Example: mx_federd check event.json\nPage: docs/LOG.md")
-        .arg(file_word(alloc))?
-        .arg(flag_word(alloc, "explain").help(
-            "Say in a second line which field of a refused event has which fault",
-        ))?
-        .arg(flag_word(alloc, "strict").help(
-            "End with status 1 where the content hash does not hold",
-        ))
+        .args(words)
 }
 
 fn name_word<'a>(alloc: Global) -> Arg<'a> {
@@ -55,24 +56,52 @@ fn shards_word<'a>(alloc: Global) -> Arg<'a> {
 }
 
 pub(crate) fn replay_words<'a>(alloc: Global) -> Result<clap::Command<'a>, AllocError> {
+    let strict = flag_word(alloc, "strict").help(
+        "End with status 1 at the first bad line, and say its number and fault",
+    );
+    let words = vec![in alloc;
+        file_word(alloc),
+        name_word(alloc),
+        shards_word(alloc),
+        strict,
+    ]?;
     clap::Command::new(alloc, "replay")
         .about("Reads a log, and prints what a server answers to each line")
         .after_help("Example: mx_federd replay --name hub.example log.jsonl\nPage: docs/LOG.md")
-        .arg(file_word(alloc))?
-        .arg(name_word(alloc))?
-        .arg(shards_word(alloc))?
-        .arg(flag_word(alloc, "strict").help(
-            "End with status 1 at the first bad line, and say its number and fault",
-        ))
+        .args(words)
 }
 
 pub(crate) fn serve_words<'a>(alloc: Global) -> Result<clap::Command<'a>, AllocError> {
+    let words = serving_words(alloc)?;
+    clap::Command::new(alloc, "serve")
+        .about("Answers other servers' requests on 127.0.0.1")
+        .after_help(
+            "Example: mx_federd serve --name hub.example --data /var/lib/mx_federd --rooms rooms.jsonl\nPage: docs/OPERATION.md",
+        )
+        .args(words)
+}
+
+fn serving_words<'a>(alloc: Global) -> Result<Vec<Arg<'a>>, AllocError> {
+    let mut words = hosting_words(alloc)?;
+    words.append(&mut bounding_words(alloc)?)?;
+    words.append(&mut storing_words(alloc)?)?;
+    words.append(&mut watching_words(alloc)?)?;
+    Ok(words)
+}
+
+// The words that say who is served, over which files and at which port.
+fn hosting_words<'a>(alloc: Global) -> Result<Vec<Arg<'a>>, AllocError> {
     let data = text_word(alloc, "data", "DIR").required(true).help(
         "The directory of the server's files, which is made where it is not there",
     );
     let port = number_word(alloc, "port", "8008", 0, 65_535)
         .value_name("PORT")
         .help("The port on 127.0.0.1; 0 takes a free one");
+    Ok(vec![in alloc; name_word(alloc), data, port]?)
+}
+
+// The words that bound what a server takes of the machine.
+fn bounding_words<'a>(alloc: Global) -> Result<Vec<Arg<'a>>, AllocError> {
     let threads = number_word(alloc, "threads", "1", 1, 64)
         .value_name("1-64")
         .help(
@@ -88,6 +117,11 @@ pub(crate) fn serve_words<'a>(alloc: Global) -> Result<clap::Command<'a>, AllocE
         .help(
             "How many MB (1,000,000 bytes) of requests and replies may be held for clients; past that long ones wait, and who takes nothing for longest is closed",
         );
+    Ok(vec![in alloc; threads, shards_word(alloc), connections, memory]?)
+}
+
+// The words that say which rooms are hosted at the start, and what a server does where its files fail.
+fn storing_words<'a>(alloc: Global) -> Result<Vec<Arg<'a>>, AllocError> {
     let rooms = text_word(alloc, "rooms", "FILE")
         .visible_alias("host")?
         .help("A file of lines of a log, each of which hosts a room at the start");
@@ -97,29 +131,11 @@ pub(crate) fn serve_words<'a>(alloc: Global) -> Result<clap::Command<'a>, AllocE
     let accept = flag_word(alloc, "accept-loss").help(
         "Start although answered rows are lost: events in no file, fewer rows than there were, a damaged write-ahead log; standard error tells which",
     );
-    let command = clap::Command::new(alloc, "serve")
-        .about("Answers other servers' requests on 127.0.0.1")
-        .after_help(
-            "Example: mx_federd serve --name hub.example --data /var/lib/mx_federd --rooms rooms.jsonl\nPage: docs/OPERATION.md",
-        )
-        .arg(name_word(alloc))?
-        .arg(data)?
-        .arg(port)?
-        .arg(threads)?
-        .arg(shards_word(alloc))?
-        .arg(connections)?
-        .arg(memory)?
-        .arg(rooms)?
-        .arg(stop)?
-        .arg(accept)?;
-    with_watching_words(alloc, command)
+    Ok(vec![in alloc; rooms, stop, accept]?)
 }
 
 // The words by which an operator sees what a server does: its log, and the port that tells how it is.
-fn with_watching_words<'a>(
-    alloc: Global,
-    command: clap::Command<'a>,
-) -> Result<clap::Command<'a>, AllocError> {
+fn watching_words<'a>(alloc: Global) -> Result<Vec<Arg<'a>>, AllocError> {
     let log = text_word(alloc, "log", "FILE").help(
         "A file to whose end a line is written for each request that was answered and for what happened; - is standard error",
     );
@@ -135,7 +151,7 @@ fn with_watching_words<'a>(
         .action(ArgAction::Set)
         .value_parser(ValueParser::unsigned(1, 65_535))
         .help("A port on 127.0.0.1 that tells how the server is, at /health and /metrics");
-    command.arg(log)?.arg(level)?.arg(form)?.arg(admin)
+    Ok(vec![in alloc; log, level, form, admin]?)
 }
 
 // How much a line of a log may have to matter, and as what it may be written.
@@ -158,18 +174,6 @@ fn text_word<'a>(alloc: Global, name: &'a str, value: &'a str) -> Arg<'a> {
         .action(ArgAction::Set)
 }
 
-// The options that each ask a question: at most one of them is given.
-fn questions<'a>(alloc: Global) -> Result<ArgGroup<'a>, AllocError> {
-    ArgGroup::new(alloc, "question")
-        .arg("event")?
-        .arg("state-before")?
-        .arg("state-after")?
-        .arg("resolution")?
-        .arg("at")?
-        .arg("dot")?
-        .arg("html")
-}
-
 // An option that is asked of an event, and of several where it is given several times.
 fn question_word<'a>(alloc: Global, name: &'a str) -> Arg<'a> {
     Arg::new(alloc, name)
@@ -179,19 +183,50 @@ fn question_word<'a>(alloc: Global, name: &'a str) -> Arg<'a> {
         .action(ArgAction::Append)
 }
 
-// Where the events are: in the log of a server with a name, or in a directory.
-fn named_sources<'a>(alloc: Global) -> Result<ArgGroup<'a>, AllocError> {
-    ArgGroup::new(alloc, "named source")
-        .arg("name")?
-        .arg("data")
+// At most one of the options that each ask a question is given. The events are in a directory, or else in the log in a
+// file, which may be of a server with a name.
+fn audit_groups<'a>(alloc: Global) -> Result<Vec<ArgGroup<'a>>, AllocError> {
+    let questions = [
+        "event",
+        "state-before",
+        "state-after",
+        "resolution",
+        "at",
+        "dot",
+        "html",
+    ];
+    let mut groups = Vec::new(alloc);
+    groups.push(group_of(alloc, "question", &questions)?)?;
+    groups.push(group_of(alloc, "named source", &["name", "data"])?)?;
+    groups.push(group_of(alloc, "source", &["file", "data"])?)?;
+    Ok(groups)
 }
 
-// Where the events are: in the log in a file, or in a directory.
-fn sources<'a>(alloc: Global) -> Result<ArgGroup<'a>, AllocError> {
-    ArgGroup::new(alloc, "source").arg("file")?.arg("data")
+fn group_of<'a>(
+    alloc: Global,
+    name: &'a str,
+    words: &[&'a str],
+) -> Result<ArgGroup<'a>, AllocError> {
+    ArgGroup::new(alloc, name).args(words)
 }
 
 pub(crate) fn audit_words<'a>(alloc: Global) -> Result<clap::Command<'a>, AllocError> {
+    let mut words = audited_words(alloc)?;
+    words.append(&mut question_words(alloc)?)?;
+    let groups = audit_groups(alloc)?;
+    clap::Command::new(alloc, "audit")
+        .about(
+            "Tells of each event of a room why it was accepted, soft failed, rejected or refused, and what its states are",
+        )
+        .after_help(
+            "Example: mx_federd log events.json | mx_federd audit --room '!r:a.example'\nPage: docs/AUDIT.md",
+        )
+        .args(words)?
+        .groups(groups)
+}
+
+// The words that say which room is audited, and where its events are.
+fn audited_words<'a>(alloc: Global) -> Result<Vec<Arg<'a>>, AllocError> {
     let name = text_word(alloc, "name", "SERVER").help(
         "The name of the server that answers the log, where a line of it is a request",
     );
@@ -201,32 +236,23 @@ pub(crate) fn audit_words<'a>(alloc: Global) -> Result<clap::Command<'a>, AllocE
     let room = text_word(alloc, "room", "ROOM_ID")
         .required(true)
         .help("The ID of the room");
-    clap::Command::new(alloc, "audit")
-        .about(
-            "Tells of each event of a room why it was accepted, soft failed, rejected or refused, and what its states are",
-        )
-        .after_help(
-            "Example: mx_federd log events.json | mx_federd audit --room '!r:a.example'\nPage: docs/AUDIT.md",
-        )
-        .arg(file_word(alloc))?
-        .arg(name)?
-        .arg(data)?
-        .arg(room)?
-        .arg(shards_word(alloc))?
-        .arg(question_word(alloc, "event").help("The IDs of the events to tell of"))?
-        .arg(question_word(alloc, "state-before").help("IDs of events: the state before each"))?
-        .arg(question_word(alloc, "state-after").help("IDs of events: the state after each"))?
-        .arg(question_word(alloc, "resolution").help(
-            "IDs of events: how the states after the prev events of each were resolved",
-        ))?
-        .arg(question_word(alloc, "at").help(
-            "IDs of events: the line of each, the states before and after it, and the resolution",
-        ))?
-        .arg(flag_word(alloc, "dot").help("The room as a graph for Graphviz"))?
-        .arg(flag_word(alloc, "html").help("The room as a page for a browser"))?
-        .group(questions(alloc)?)?
-        .group(named_sources(alloc)?)?
-        .group(sources(alloc)?)
+    Ok(vec![in alloc; file_word(alloc), name, data, room, shards_word(alloc)]?)
+}
+
+// The words that each ask a question.
+fn question_words<'a>(alloc: Global) -> Result<Vec<Arg<'a>>, AllocError> {
+    let event = question_word(alloc, "event").help("The IDs of the events to tell of");
+    let before = question_word(alloc, "state-before").help("IDs of events: the state before each");
+    let after = question_word(alloc, "state-after").help("IDs of events: the state after each");
+    let resolution = question_word(alloc, "resolution").help(
+        "IDs of events: how the states after the prev events of each were resolved",
+    );
+    let at = question_word(alloc, "at").help(
+        "IDs of events: the line of each, the states before and after it, and the resolution",
+    );
+    let dot = flag_word(alloc, "dot").help("The room as a graph for Graphviz");
+    let html = flag_word(alloc, "html").help("The room as a page for a browser");
+    Ok(vec![in alloc; event, before, after, resolution, at, dot, html]?)
 }
 
 pub(crate) fn log_words<'a>(alloc: Global) -> Result<clap::Command<'a>, AllocError> {
@@ -239,26 +265,24 @@ pub(crate) fn log_words<'a>(alloc: Global) -> Result<clap::Command<'a>, AllocErr
     let missing = flag_word(alloc, "missing").help(
         "Tell all IDs that are cited and not there, and not the first ten alone",
     );
+    let words = vec![in alloc; file_word(alloc), room, origin, missing]?;
     clap::Command::new(alloc, "log")
         .about(
             "Reads events of a room as other servers export them, in any order, and prints a log of them",
         )
         .after_help("Example: mx_federd log events.json > log.jsonl\nPage: docs/LOG.md")
-        .arg(file_word(alloc))?
-        .arg(room)?
-        .arg(origin)?
-        .arg(missing)
+        .args(words)
 }
 
 pub(crate) fn migrate_words<'a>(alloc: Global) -> Result<clap::Command<'a>, AllocError> {
     let data = text_word(alloc, "data", "DIR")
         .required(true)
         .help("The directory of the files of a server that is stopped");
+    let words = vec![in alloc; data, shards_word(alloc)]?;
     clap::Command::new(alloc, "migrate")
         .about(
             "Brings the file of each shard to the current layout, and prints how many rows it has",
         )
         .after_help("Example: mx_federd migrate --data /var/lib/mx_federd\nPage: docs/FILES.md")
-        .arg(data)?
-        .arg(shards_word(alloc))
+        .args(words)
 }

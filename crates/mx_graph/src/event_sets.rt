@@ -1,6 +1,6 @@
 // Sets of events, and their events as rising lists.
 ghost use Rattle.std.specs.Prelude.{◌≡◌, IfOk, ℕ};
-ghost use Rattle.std.specs.BTreeSet.{IsOrdered, contains};
+ghost use Rattle.std.specs.BTreeSet.{contains};
 ghost use Rattle.std.specs.Ordering.{nat_cmp};
 ghost use Rattle.mx_graph.specs.Edges.{Rises};
 ghost use Rattle.mx_graph.specs.Record.{is_in};
@@ -10,13 +10,15 @@ use std::alloc::{AllocError, Global};
 use std::collections::BTreeSet;
 
 /// These events, each once, rising: what is in the list is in the answer, and nothing else. The time is that of the
-/// list, times a logarithm. The one error is that no memory is left.
+/// list, times a logarithm where it does not rise already. The one error is that no memory is left.
 pub fn rising(alloc: Global, events: &[EventNo]) -> Result<Vec<EventNo>, AllocError>
     ensures rises { IfOk result (λ found. Rises found.items) }
     ensures same { IfOk result (λ found. (p : ℕ) → is_in found.items p ≡ is_in events.now p) }
 {
-    let set = set_of(alloc, events)?;
-    let found = list_of(alloc, &set)?;
+    let mut found = Vec::new(alloc);
+    found.extend_from_slice(events)?;
+    found.sort_unstable();
+    found.dedup();
     Ok(found)
 }
 
@@ -29,16 +31,4 @@ pub fn set_of(alloc: Global, events: &[EventNo]) -> Result<BTreeSet<EventNo>, Al
         set.insert(*event)?;
     }
     Ok(set)
-}
-
-fn list_of(alloc: Global, set: &BTreeSet<EventNo>) -> Result<Vec<EventNo>, AllocError>
-    ensures all { IfOk result (λ found. found.items ≡ set.now.keys) }
-    ensures ordered { IsOrdered nat_cmp set.now }
-{
-    let _ = set.len();
-    let mut found = Vec::new(alloc);
-    for event in set {
-        found.push(*event)?;
-    }
-    Ok(found)
 }
