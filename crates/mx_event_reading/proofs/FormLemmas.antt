@@ -9,12 +9,45 @@ use Rattle.serde_json.specs.Read.{max_depth}
 use Rattle.mx_canon.specs.Canonical.{is_canonical}
 use Rattle.mx_ident.specs.Identifier.{is_event_id, is_room_id, is_user_id, room_id_error, user_id_error, event_id_error}
 use Rattle.mx_pdu.specs.Event.{room_of, sender_of, state_key_of, content_of, prev_ids, auth_ids, depth_of, timestamp_of, redacts_of}
-use Rattle.mx_pdu.specs.Format.{has_fields, is_id, is_id_or_long, is_short, is_within_limits}
+use Rattle.mx_pdu.specs.Format.{has_fields, is_depth, is_id, is_id_or_long, is_short, is_within_limits}
 use Rattle.mx_pdu.proofs.FormatLemmas.{get_member-canonical}
 use Rattle.mx_redact.specs.Fields.{field, is_none_or, item_list, kind, text_field, value_at}
 use Rattle.mx_event_reading.specs.InOrder.{strings}
 use Rattle.mx_event_reading.specs.EventRead.{event_members}
 use Rattle.mx_event_reading.proofs.FieldLemmas.{common-id, common-short, ids-are, ids-short, ids-count, integer-is, depth-is}
+
+-- what is read of an event
+pub record Fields : Type 0 where
+  pub kind_of : List ℕ
+  pub state_key : Option (List ℕ)
+  pub room : List ℕ
+  pub sender : List ℕ
+  pub prev : List (List ℕ)
+  pub auth : List (List ℕ)
+  pub redacts : Option (List ℕ)
+  pub depth : ℕ
+  pub time : ℤ
+  pub content : Data
+  pub hash : Option (List ℕ)
+  pub signatures : Data
+  pub depth_there : Option Data
+
+abbrev pub fields_in : Data → Fields
+fields_in e = record {
+  kind_of = kind e;
+  state_key = state_key_of e;
+  room = room_of e;
+  sender = sender_of e;
+  prev = prev_ids e;
+  auth = auth_ids e;
+  redacts = redacts_of e;
+  depth = depth_of e;
+  time = timestamp_of e;
+  content = content_of e;
+  hash = text_field (codes "sha256") (value_at (codes "hashes") e);
+  signatures = value_at (codes "signatures") e;
+  depth_there = field (codes "depth") e;
+}
 
 module _ (auth prev : List (List ℕ)) (depth time : ℤ) (hash room sender type : List ℕ) (sigs content : Members) where
   abbrev pub all : Option (List ℕ) → Option Data → Option Data → Data
@@ -23,142 +56,32 @@ module _ (auth prev : List (List ℕ)) (depth time : ℤ) (hash room sender type
 
   -- ---- the fields
 
-  pub record IsAt (key : Option (List ℕ)) (e : Data) : Type 0 where
-    pub kind_is : kind e ≡ type
-    pub state_key_is : state_key_of e ≡ key
-    pub room_is : room_of e ≡ room
-    pub sender_is : sender_of e ≡ sender
-    pub prev_is : prev_ids e ≡ filter_map as_str (item_list (strings prev))
-    pub auth_is : auth_ids e ≡ filter_map as_str (item_list (strings auth))
-    pub redacts_is : redacts_of e ≡ None
-    pub depth_is : depth_of e ≡ unwrap_or (as_u64 (of_integer depth)) 0
-    pub time_is : timestamp_of e ≡ unwrap_or (as_integer (of_integer time)) (pos 0)
-    pub content_is : content_of e ≡ object content
-    pub hash_is : text_field (codes "sha256") (value_at (codes "hashes") e) ≡ Some hash
-    pub signatures_is : value_at (codes "signatures") e ≡ object sigs
-    pub depth_there : field (codes "depth") e ≡ Some (number (of_integer depth))
+  abbrev pub these : Option (List ℕ) → Fields
+  these key = record {
+    kind_of = type;
+    state_key = key;
+    room = room;
+    sender = sender;
+    prev = filter_map as_str (item_list (strings prev));
+    auth = filter_map as_str (item_list (strings auth));
+    redacts = None;
+    depth = unwrap_or (as_u64 (of_integer depth)) 0;
+    time = unwrap_or (as_integer (of_integer time)) (pos 0);
+    content = object content;
+    hash = Some hash;
+    signatures = object sigs;
+    depth_there = Some (number (of_integer depth));
+  }
 
-  pub fields-at : (key : Option (List ℕ)) (origin unsigned : Option Data) → IsAt key (all key origin unsigned)
-  fields-at None None None = record {
-    kind_is = refl;
-    state_key_is = refl;
-    room_is = refl;
-    sender_is = refl;
-    prev_is = refl;
-    auth_is = refl;
-    redacts_is = refl;
-    depth_is = refl;
-    time_is = refl;
-    content_is = refl;
-    hash_is = refl;
-    signatures_is = refl;
-    depth_there = refl;
-  }
-  fields-at None None (Some u) = record {
-    kind_is = refl;
-    state_key_is = refl;
-    room_is = refl;
-    sender_is = refl;
-    prev_is = refl;
-    auth_is = refl;
-    redacts_is = refl;
-    depth_is = refl;
-    time_is = refl;
-    content_is = refl;
-    hash_is = refl;
-    signatures_is = refl;
-    depth_there = refl;
-  }
-  fields-at None (Some o) None = record {
-    kind_is = refl;
-    state_key_is = refl;
-    room_is = refl;
-    sender_is = refl;
-    prev_is = refl;
-    auth_is = refl;
-    redacts_is = refl;
-    depth_is = refl;
-    time_is = refl;
-    content_is = refl;
-    hash_is = refl;
-    signatures_is = refl;
-    depth_there = refl;
-  }
-  fields-at None (Some o) (Some u) = record {
-    kind_is = refl;
-    state_key_is = refl;
-    room_is = refl;
-    sender_is = refl;
-    prev_is = refl;
-    auth_is = refl;
-    redacts_is = refl;
-    depth_is = refl;
-    time_is = refl;
-    content_is = refl;
-    hash_is = refl;
-    signatures_is = refl;
-    depth_there = refl;
-  }
-  fields-at (Some k) None None = record {
-    kind_is = refl;
-    state_key_is = refl;
-    room_is = refl;
-    sender_is = refl;
-    prev_is = refl;
-    auth_is = refl;
-    redacts_is = refl;
-    depth_is = refl;
-    time_is = refl;
-    content_is = refl;
-    hash_is = refl;
-    signatures_is = refl;
-    depth_there = refl;
-  }
-  fields-at (Some k) None (Some u) = record {
-    kind_is = refl;
-    state_key_is = refl;
-    room_is = refl;
-    sender_is = refl;
-    prev_is = refl;
-    auth_is = refl;
-    redacts_is = refl;
-    depth_is = refl;
-    time_is = refl;
-    content_is = refl;
-    hash_is = refl;
-    signatures_is = refl;
-    depth_there = refl;
-  }
-  fields-at (Some k) (Some o) None = record {
-    kind_is = refl;
-    state_key_is = refl;
-    room_is = refl;
-    sender_is = refl;
-    prev_is = refl;
-    auth_is = refl;
-    redacts_is = refl;
-    depth_is = refl;
-    time_is = refl;
-    content_is = refl;
-    hash_is = refl;
-    signatures_is = refl;
-    depth_there = refl;
-  }
-  fields-at (Some k) (Some o) (Some u) = record {
-    kind_is = refl;
-    state_key_is = refl;
-    room_is = refl;
-    sender_is = refl;
-    prev_is = refl;
-    auth_is = refl;
-    redacts_is = refl;
-    depth_is = refl;
-    time_is = refl;
-    content_is = refl;
-    hash_is = refl;
-    signatures_is = refl;
-    depth_there = refl;
-  }
+  pub fields-are : (key : Option (List ℕ)) (origin unsigned : Option Data) → fields_in (all key origin unsigned) ≡ these key
+  fields-are None None None = refl
+  fields-are None None (Some u) = refl
+  fields-are None (Some o) None = refl
+  fields-are None (Some o) (Some u) = refl
+  fields-are (Some k) None None = refl
+  fields-are (Some k) None (Some u) = refl
+  fields-are (Some k) (Some o) None = refl
+  fields-are (Some k) (Some o) (Some u) = refl
 
   -- ---- the format
 
@@ -218,38 +141,28 @@ module _ (auth prev : List (List ℕ)) (depth time : ℤ) (hash room sender type
       exact : (key : Option (List ℕ)) (origin unsigned : Option Data) → is_canonical (all key origin unsigned) ≡ true
           → is_canonical (number (of_integer depth)) ≡ true
       exact key origin unsigned canonical =
-          let there = (fields-at key origin unsigned).depth_there in
+          let there = ap (λ f. f.depth_there) (fields-are key origin unsigned) in
           sym (ap (is_none_or is_canonical) there) ∙ get_member-canonical (codes "depth")
           (event_members auth prev depth time hash room sender type (object sigs) key content origin unsigned) canonical
+
+      within-limits : (key : Option (List ℕ)) (origin unsigned : Option Data) → IfSome key (λ k. length k ≤ 255)
+          → is_depth (number (of_integer depth)) ≡ true → nat_le (nesting (all key origin unsigned)) max_depth ≡ true
+          → is_within_limits (all key origin unsigned) ≡ true
+      within-limits None None None few z n = rw (a-few, a-short, z, p-few, p-short, r-short, s-short, t-short, n) refl
+      within-limits None None (Some u) few z n = rw (a-few, a-short, z, p-few, p-short, r-short, s-short, t-short, n) refl
+      within-limits None (Some o) None few z n = rw (a-few, a-short, z, p-few, p-short, r-short, s-short, t-short, n) refl
+      within-limits None (Some o) (Some u) few z n = rw (a-few, a-short, z, p-few, p-short, r-short, s-short, t-short, n) refl
+      within-limits (Some k) None None few z n =
+          rw (a-few, a-short, z, p-few, p-short, r-short, s-short, le-leb (length k) 255 few, t-short, n) refl
+      within-limits (Some k) None (Some u) few z n =
+          rw (a-few, a-short, z, p-few, p-short, r-short, s-short, le-leb (length k) 255 few, t-short, n) refl
+      within-limits (Some k) (Some o) None few z n =
+          rw (a-few, a-short, z, p-few, p-short, r-short, s-short, le-leb (length k) 255 few, t-short, n) refl
+      within-limits (Some k) (Some o) (Some u) few z n =
+          rw (a-few, a-short, z, p-few, p-short, r-short, s-short, le-leb (length k) 255 few, t-short, n) refl
 
       pub within : (key : Option (List ℕ)) (origin unsigned : Option Data) → IfSome key (λ k. length k ≤ 255)
           → is_canonical (all key origin unsigned) ≡ true → nat_le (nesting (all key origin unsigned)) max_depth ≡ true
           → is_within_limits (all key origin unsigned) ≡ true
-      within None None None few c n =
-          let z = depth-is depth low (exact None None None c) in
-          rw (a-few, a-short, z, p-few, p-short, r-short, s-short, t-short, n) refl
-      within None None (Some u) few c n =
-          let z = depth-is depth low (exact None None (Some u) c) in
-          rw (a-few, a-short, z, p-few, p-short, r-short, s-short, t-short, n) refl
-      within None (Some o) None few c n =
-          let z = depth-is depth low (exact None (Some o) None c) in
-          rw (a-few, a-short, z, p-few, p-short, r-short, s-short, t-short, n) refl
-      within None (Some o) (Some u) few c n =
-          let z = depth-is depth low (exact None (Some o) (Some u) c) in
-          rw (a-few, a-short, z, p-few, p-short, r-short, s-short, t-short, n) refl
-      within (Some k) None None few c n =
-          let z = depth-is depth low (exact (Some k) None None c) in
-          let y = le-leb (length k) 255 few in
-          rw (a-few, a-short, z, p-few, p-short, r-short, s-short, y, t-short, n) refl
-      within (Some k) None (Some u) few c n =
-          let z = depth-is depth low (exact (Some k) None (Some u) c) in
-          let y = le-leb (length k) 255 few in
-          rw (a-few, a-short, z, p-few, p-short, r-short, s-short, y, t-short, n) refl
-      within (Some k) (Some o) None few c n =
-          let z = depth-is depth low (exact (Some k) (Some o) None c) in
-          let y = le-leb (length k) 255 few in
-          rw (a-few, a-short, z, p-few, p-short, r-short, s-short, y, t-short, n) refl
-      within (Some k) (Some o) (Some u) few c n =
-          let z = depth-is depth low (exact (Some k) (Some o) (Some u) c) in
-          let y = le-leb (length k) 255 few in
-          rw (a-few, a-short, z, p-few, p-short, r-short, s-short, y, t-short, n) refl
+      within key origin unsigned few c n =
+          within-limits key origin unsigned few (depth-is depth low (exact key origin unsigned c)) n

@@ -1,6 +1,6 @@
 -- What was read is a well-formed event, and its text reads as it.
-use Rattle.std.proofs.Common.{◌≡◌, ◌≤◌, ℕ, List, Bool, true, false, pos, length, Option, Some, None, IfSome, Bor, option_map, refl, ap, ◌∙◌, arith, subst}
-use Rattle.std.specs.Prelude.{if◌then◌else◌, int_le, nat_le}
+use Rattle.std.proofs.Common.{◌≡◌, ◌≤◌, ℕ, List, Bool, true, false, length, Option, Some, None, IfSome, Bor, option_map, refl, sym, ap, ◌∙◌, arith, subst}
+use Rattle.std.specs.Prelude.{if◌then◌else◌, nat_le}
 use Rattle.std.proofs.lemmas.Bool.{le-leb}
 use Rattle.std.specs.Str.{is_utf8}
 use Rattle.json.specs.Token.{Token}
@@ -14,7 +14,7 @@ use Rattle.mx_pdu.specs.declared.assembling.EventParts.{EventParts}
 use Rattle.mx_redact.specs.declared.places.MemberPlace.{MemberPlace}
 use Rattle.mx_body.proofs.BackLemmas.{canonical-back}
 use Rattle.mx_body.proofs.ReadableLemmas.{KeysRise-readable}
-use Rattle.mx_event_reading.specs.EventRead.{IsEventRead, members_of}
+use Rattle.mx_event_reading.specs.EventRead.{IsEventRead, KeepsLimits, members_of}
 use Rattle.mx_event_reading.specs.declared.events.FieldsRead.{FieldsRead}
 use Rattle.mx_event_reading.specs.declared.open_texts.OpenText.{OpenText}
 use Rattle.mx_event_reading.proofs.FormLemmas.{has-fields, within}
@@ -43,10 +43,15 @@ module _ (f : FieldsRead) (text : OpenText) (old new : List Token) (m : IsEventR
       let back = canonical-back (object event_read) m.read.readable m.read.canonical (omega arith) in
       read-by (canonical_text (object event_read)) (object event_read) (is_utf8 (canonical_text (object event_read))) back
 
-  pub event-formed : length text.bytes.items ≤ 65536 → is_room_id f.room_id.now ≡ true → is_user_id f.sender.now ≡ true
-      → length f.kind.now ≤ 255 → IfSome f.state_key (λ key. length key.now ≤ 255) → int_le (pos 0) f.depth ≡ true
+  -- what the text was read for
+  pub event-same : (bytes : List ℕ) (d : Data) → bytes ≡ text.bytes.items → read bytes ≡ Some d → d ≡ object event_read
+  event-same bytes d same reads =
+      let some : Some d ≡ Some (object event_read) = sym reads ∙ ap read (same ∙ m.text_is) ∙ event-reads in
+      cc
+
+  pub event-formed : is_room_id f.room_id.now ≡ true → is_user_id f.sender.now ≡ true → KeepsLimits f text
       → is_well_formed (object event_read) ≡ true
-  event-formed few room sender short key low =
+  event-formed room sender (few, short, key, low) =
       let state_key = option_map (λ key. key.now) f.state_key in
       let sigs = member f.signature.server.now (object (member f.signature.key.now (string f.signature.text.now) no_members)) no_members in
       let nest : nat_le (nesting (object event_read)) max_depth ≡ true =

@@ -1,5 +1,5 @@
 -- An event, as it is read member by member. Only the crate's private clauses cite it.
-use Rattle.std.specs.Prelude.{◌≡◌, ℕ, ◌<◌, ◌≤◌, ℤ, IsTrue, List, codes, length, Option, None, Some, option_map}
+use Rattle.std.specs.Prelude.{◌≡◌, ℕ, ◌<◌, ◌≤◌, ℤ, pos, int_le, true, IsTrue, List, codes, length, Option, None, Some, IfSome, option_map}
 use Rattle.std.specs.List.{list_all}
 use Rattle.json.specs.Token.{Token}
 use Rattle.json.specs.Json.{value}
@@ -59,3 +59,9 @@ pub record IsEventRead (f : FieldsRead) (text : OpenText) (old new : List Token)
   pub prev_are : IsTrue (list_all is_event_id f.prev_events.items)
   pub few_prev : length f.prev_events.items ≤ 20
   pub shorter : length new < length old
+
+-- within the limits that its text, its type, its state key and its depth have
+abbrev pub KeepsLimits : FieldsRead → OpenText → Type 0
+KeepsLimits f text =
+    (length text.bytes.items ≤ 65536) × (length f.kind.now ≤ 255) × IfSome f.state_key (λ key. length key.now ≤ 255)
+    × (int_le (pos 0) f.depth ≡ true)

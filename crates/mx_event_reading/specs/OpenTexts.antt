@@ -1,15 +1,38 @@
 -- The canonical text of an object so far, and what a member adds to it. Only the crate's private clauses cite it.
-use Rattle.std.specs.Prelude.{◌≡◌, ℕ, ◌+◌, ◌<◌, Bool, true, false, if◌then◌else◌, List, [], ◌∷◌, ◌++◌, length, IsUtf8, Option, None, Some, option_map}
+use Rattle.std.specs.Prelude.{◌≡◌, ℕ, ◌+◌, ◌<◌, Bool, true, false, if◌then◌else◌, List, [], ◌∷◌, ◌++◌, codes, length, IsUtf8, Option, None, Some, option_map}
 use Rattle.json.specs.Json.{read_key, value}
 use Rattle.json.specs.Token.{Token, begin_object}
 use Rattle.serde_json.specs.Data.{Data}
 use Rattle.serde_json.specs.Read.{of_json, converted}
 use Rattle.mx_canon.specs.Canonical.{canonical_text}
 use Rattle.mx_redact.specs.declared.event_keys.EventKey.{EventKey}
+use Rattle.mx_redact.specs.declared.event_keys.EventKey.TheVariants.{AuthEvents, Content, Depth, EventId, Hashes, Membership, Origin, OriginServerTs, PrevEvents}
+use Rattle.mx_redact.specs.declared.event_keys.EventKey.TheVariants.{PrevState, Redacts, RoomId, Sender, Signatures, StateKey, Kind, Unsigned, Other}
 use Rattle.mx_redact.specs.declared.places.MemberPlace.{MemberPlace}
 use Rattle.mx_event_reading.specs.InOrder.{ReadsCanonical, key_text}
 use Rattle.mx_event_reading.specs.declared.open_texts.MemberStart.{MemberStart}
 use Rattle.mx_event_reading.specs.declared.open_texts.OpenText.{OpenText}
+
+-- the name that a key stands for
+abbrev pub member_name : EventKey → List ℕ
+member_name AuthEvents = codes "auth_events"
+member_name Content = codes "content"
+member_name Depth = codes "depth"
+member_name EventId = codes "event_id"
+member_name Hashes = codes "hashes"
+member_name Membership = codes "membership"
+member_name Origin = codes "origin"
+member_name OriginServerTs = codes "origin_server_ts"
+member_name PrevEvents = codes "prev_events"
+member_name PrevState = codes "prev_state"
+member_name Redacts = codes "redacts"
+member_name RoomId = codes "room_id"
+member_name Sender = codes "sender"
+member_name Signatures = codes "signatures"
+member_name StateKey = codes "state_key"
+member_name Kind = codes "type"
+member_name Unsigned = codes "unsigned"
+member_name Other = []
 
 abbrev pub next_of : OpenText → Option (List ℕ)
 next_of text = option_map (λ key. key.now) text.next

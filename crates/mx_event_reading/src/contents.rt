@@ -1,12 +1,12 @@
 // Objects in an event, appended as they are read.
-ghost use Rattle.std.specs.Prelude.{◌≡◌, ◌<◌, ℕ, IfOk, OnOk, length};
-ghost use Rattle.json.specs.Json.{value};
+ghost use Rattle.std.specs.Prelude.{◌≡◌, ◌<◌, ◌≤◌, ◌++◌, ◌∷◌, [], ℕ, IfOk, OnOk, None, Some, length};
+ghost use Rattle.json.specs.Json.{read_key, value};
 ghost use Rattle.serde_json.specs.Data.{Members, member, no_members, object, string};
 ghost use Rattle.serde_json.specs.Read.{of_json, converted};
 ghost use Rattle.serde_json.specs.View.{view, members_view};
 ghost use Rattle.mx_redact.specs.Redaction.{members_where};
 ghost use Rattle.mx_pdu.specs.RuleContent.{is_rule_key as is_in_rules};
-ghost use Rattle.mx_event_reading.specs.Contents.{AppendsMember, signed};
+ghost use Rattle.mx_event_reading.specs.Contents.{AppendsMember, IsFirstKey, signed};
 ghost use Rattle.mx_event_reading.specs.InOrder.{IsAppended};
 
 use crate::in_order::{AppendError, append_key, append_text, append_value, is_above};
@@ -140,19 +140,9 @@ pub(crate) fn append_one_text<'a>(
         (converted of_json (value depth reader.old)) reader.new out.old.items out.new.items) }
     ensures shorter { OnOk result (length reader.new < length reader.old) }
 {
-    let Some(Token::BeginObject) = reader.next() else {
-        return Err(AppendError::NotInOrder);
-    };
-    let Some(key) = reader.next_key()? else {
-        return Err(AppendError::NotInOrder);
-    };
-    out.push(b'{')?;
-    append_key(alloc, out, false, key)?;
+    let key = open_object(alloc, reader, out)?;
     let text = append_text(alloc, reader, out)?;
-    if reader.next_key()?.is_some() {
-        return Err(AppendError::NotInOrder);
-    }
-    out.push(b'}')?;
+    close_object(reader, out)?;
     Ok(OneText { key, text })
 }
 
@@ -181,22 +171,45 @@ pub(crate) fn append_signature<'a>(
         (converted of_json (value depth reader.old)) reader.new out.old.items out.new.items) }
     ensures shorter { OnOk result (length reader.new < length reader.old) }
 {
-    let Some(Token::BeginObject) = reader.next() else {
-        return Err(AppendError::NotInOrder);
-    };
-    let Some(server) = reader.next_key()? else {
-        return Err(AppendError::NotInOrder);
-    };
-    out.push(b'{')?;
-    append_key(alloc, out, false, server)?;
+    let server = open_object(alloc, reader, out)?;
     let one = append_one_text(alloc, reader, out)?;
-    if reader.next_key()?.is_some() {
-        return Err(AppendError::NotInOrder);
-    }
-    out.push(b'}')?;
+    close_object(reader, out)?;
     Ok(OneSignature {
         server,
         key: one.key,
         text: one.text,
     })
+}
+
+// What stands before the value of the next value's first member, an object's: its key.
+fn open_object<'a>(
+    alloc: Global,
+    reader: &mut Reader<'a>,
+    out: &mut Vec<u8>,
+) -> Result<&'a str, AppendError>
+    ensures ok { IfOk result (λ key. IsFirstKey key.now reader.old reader.new out.old.items out.new.items) }
+    ensures shorter { OnOk result (length reader.new < length reader.old) }
+{
+    let Some(Token::BeginObject) = reader.next() else {
+        return Err(AppendError::NotInOrder);
+    };
+    let Some(key) = reader.next_key()? else {
+        return Err(AppendError::NotInOrder);
+    };
+    out.push(b'{')?;
+    append_key(alloc, out, false, key)?;
+    Ok(key)
+}
+
+// What stands behind the value of an object's last member.
+fn close_object(reader: &mut Reader<'_>, out: &mut Vec<u8>) -> Result<(), AppendError>
+    ensures read { OnOk result (read_key reader.old ≡ Some (None, reader.new)) }
+    ensures bytes { OnOk result (out.new.items ≡ out.old.items ++ 125 ∷ []) }
+    ensures shorter { OnOk result (length reader.new ≤ length reader.old) }
+{
+    if reader.next_key()?.is_some() {
+        return Err(AppendError::NotInOrder);
+    }
+    out.push(b'}')?;
+    Ok(())
 }

@@ -13,7 +13,7 @@ ghost use Rattle.mx_pdu.specs.RuleContent.{is_rule_key};
 ghost use Rattle.mx_redact.specs.Redaction.{members_where};
 ghost use Rattle.mx_event_reading.specs.Contents.{signed};
 ghost use Rattle.mx_event_reading.specs.InOrder.{ReadsCanonical};
-ghost use Rattle.mx_event_reading.specs.EventRead.{IsEventRead, members_of};
+ghost use Rattle.mx_event_reading.specs.EventRead.{IsEventRead, KeepsLimits, members_of};
 ghost use Rattle.mx_event_reading.specs.OpenTexts.{IsOpened};
 
 use crate::contents::OneSignature;
@@ -69,10 +69,7 @@ pub(crate) fn read_event<V: Verifier>(
 {
     let mut text = open_text(alloc, reader)?;
     let fields = read_fields(alloc, reader, &mut text)?;
-    if text.bytes.len() > LONGEST {
-        return Err(AppendError::NotInOrder);
-    }
-    if !keeps_limits(&fields) {
+    if !keeps_limits(&fields, &text) {
         return Err(AppendError::NotInOrder);
     }
     let Ok(whole) = String::from_utf8(text.bytes) else {
@@ -92,39 +89,19 @@ fn read_fields<'a>(
     ensures { IfOk result (λ fields. (old : List Token) → IsOpened old reader.old text.old
         → IsEventRead fields text.new old reader.new) }
 {
-    let auth_events = ids_member(
-        alloc,
-        reader,
-        text,
-        EventKey::AuthEvents,
-        "auth_events",
-        MOST_AUTH_EVENTS,
-    )?;
+    let auth_events = ids_member(alloc, reader, text, EventKey::AuthEvents, MOST_AUTH_EVENTS)?;
     let content = content_member(alloc, reader, text)?;
-    let depth = integer_member(alloc, reader, text, EventKey::Depth, "depth")?;
+    let depth = integer_member(alloc, reader, text, EventKey::Depth)?;
     let hash = hash_member(alloc, reader, text)?;
-    any_member_if(alloc, reader, text, EventKey::Origin, "origin")?;
-    let origin_server_ts = integer_member(
-        alloc,
-        reader,
-        text,
-        EventKey::OriginServerTs,
-        "origin_server_ts",
-    )?;
-    let prev_events = ids_member(
-        alloc,
-        reader,
-        text,
-        EventKey::PrevEvents,
-        "prev_events",
-        MOST_PREV_EVENTS,
-    )?;
-    let room_id = text_member(alloc, reader, text, EventKey::RoomId, "room_id")?;
-    let sender = text_member(alloc, reader, text, EventKey::Sender, "sender")?;
+    any_member_if(alloc, reader, text, EventKey::Origin)?;
+    let origin_server_ts = integer_member(alloc, reader, text, EventKey::OriginServerTs)?;
+    let prev_events = ids_member(alloc, reader, text, EventKey::PrevEvents, MOST_PREV_EVENTS)?;
+    let room_id = text_member(alloc, reader, text, EventKey::RoomId)?;
+    let sender = text_member(alloc, reader, text, EventKey::Sender)?;
     let signature = signature_member(alloc, reader, text)?;
-    let state_key = text_member_if(alloc, reader, text, EventKey::StateKey, "state_key")?;
-    let kind = text_member(alloc, reader, text, EventKey::Kind, "type")?;
-    any_member_if(alloc, reader, text, EventKey::Unsigned, "unsigned")?;
+    let state_key = text_member_if(alloc, reader, text, EventKey::StateKey)?;
+    let kind = text_member(alloc, reader, text, EventKey::Kind)?;
+    any_member_if(alloc, reader, text, EventKey::Unsigned)?;
     close_text(text)?;
     Ok(FieldsRead {
         auth_events,
@@ -141,11 +118,13 @@ fn read_fields<'a>(
     })
 }
 
-fn keeps_limits(fields: &FieldsRead<'_>) -> bool
-    ensures { result ≡ true → (length fields.now.kind.now ≤ 255) × IfSome fields.now.state_key (λ key. length key.now ≤ 255)
-        × (int_le (pos 0) fields.now.depth ≡ true) }
+fn keeps_limits(fields: &FieldsRead<'_>, text: &OpenText<'_>) -> bool
+    ensures { result ≡ true → KeepsLimits fields.now text.now }
 {
-    is_short(fields.state_key) && fields.kind.len() <= LONGEST_FIELD && fields.depth >= 0
+    text.bytes.len() <= LONGEST
+        && is_short(fields.state_key)
+        && fields.kind.len() <= LONGEST_FIELD
+        && fields.depth >= 0
 }
 
 fn is_short(text: Option<&str>) -> bool

@@ -5,6 +5,7 @@
 mod contents;
 mod events;
 mod in_order;
+mod member_names;
 mod numbers;
 mod objects;
 mod open_texts;

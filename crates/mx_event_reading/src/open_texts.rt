@@ -1,5 +1,5 @@
 // The canonical text of an object, put together as its members are read.
-ghost use Rattle.std.specs.Prelude.{◌≡◌, ◌<◌, ◌≤◌, ◌++◌, ◌∷◌, [], ℕ, IfOk, IsTrue, IsUtf8, OnOk, Option, None, Some, codes, length, option_map, true};
+ghost use Rattle.std.specs.Prelude.{◌≡◌, ◌<◌, ◌≤◌, ◌++◌, ◌∷◌, [], ℕ, IfOk, IsTrue, OnOk, Option, None, Some, codes, length, option_map, true};
 ghost use Rattle.std.specs.List.{list_all};
 ghost use Rattle.mx_ident.specs.Identifier.{is_event_id};
 ghost use Rattle.serde_json.specs.Data.{Data, Members, array, member, no_members, number, object, string};
@@ -8,13 +8,14 @@ ghost use Rattle.serde_json.specs.View.{members_view};
 ghost use Rattle.mx_pdu.specs.RuleContent.{is_rule_key};
 ghost use Rattle.mx_redact.specs.Redaction.{members_where};
 ghost use Rattle.mx_event_reading.specs.InOrder.{strings};
-ghost use Rattle.mx_event_reading.specs.OpenTexts.{IsBegun, IsEnded, IsMember, IsMemberIf, IsOpened, is_later as is_later_in, next_of, start_of as start_in};
+ghost use Rattle.mx_event_reading.specs.OpenTexts.{IsBegun, IsEnded, IsMember, IsMemberIf, IsOpened, is_later as is_later_in, member_name, next_of, start_of as start_in};
 ghost use Rattle.mx_event_reading.specs.Contents.{signed};
 
 use crate::contents::{OneSignature, append_content, append_one_text, append_signature};
 use crate::in_order::{
     AppendError, append_event_ids, append_integer, append_key, append_text, append_value,
 };
+use crate::member_names::name_of;
 use json::{Reader, Token};
 use mx_ident::EventId;
 use mx_redact::{EventKey, MemberPlace};
@@ -66,20 +67,20 @@ pub(crate) fn open_text<'a>(
     })
 }
 
-// The key of a member, which has this name.
+// What stands before a member's value, where the member is the next.
 fn begin_member(
     alloc: Global,
     text: &mut OpenText<'_>,
-    name: &str,
+    key: EventKey,
 ) -> Result<MemberStart, AppendError>
-    ensures { IfOk result (IsBegun name.now text.old text.new) }
+    ensures { IfOk result (IsBegun (member_name key) text.old text.new) }
 {
-    if !is_next(text, name) {
+    if !is_next(text, key) {
         return Err(AppendError::NotInOrder);
     }
     let start = start_of(text);
     let later = is_later(text);
-    append_key(alloc, &mut text.bytes, later, name)?;
+    append_key(alloc, &mut text.bytes, later, name_of(key))?;
     Ok(MemberStart {
         start,
         value: text.bytes.len(),
@@ -129,32 +130,30 @@ pub(crate) fn text_member<'a>(
     reader: &mut Reader<'a>,
     text: &mut OpenText<'a>,
     key: EventKey,
-    name: &str,
 ) -> Result<&'a str, AppendError>
     ensures { IfOk result (λ found. (depth : ℕ) →
-        IsMember key name.now depth (string found.now) text.old text.new reader.old reader.new) }
+        IsMember key (member_name key) depth (string found.now) text.old text.new reader.old reader.new) }
 {
-    let begun = begin_member(alloc, text, name)?;
+    let begun = begin_member(alloc, text, key)?;
     let found = append_text(alloc, reader, &mut text.bytes)?;
     end_member(reader, text, key, begun)?;
     Ok(found)
 }
 
-/// The next member, whose value is a text, where it has this name; else nothing is read.
+/// The next member, whose value is a text, where it is this one; else nothing is read.
 pub(crate) fn text_member_if<'a>(
     alloc: Global,
     reader: &mut Reader<'a>,
     text: &mut OpenText<'a>,
     key: EventKey,
-    name: &str,
 ) -> Result<Option<&'a str>, AppendError>
-    ensures { IfOk result (λ found. (depth : ℕ) → IsMemberIf key name.now depth
+    ensures { IfOk result (λ found. (depth : ℕ) → IsMemberIf key (member_name key) depth
         (option_map string (option_map (λ text. text.now) found)) text.old text.new reader.old reader.new) }
 {
-    if !is_next(text, name) {
+    if !is_next(text, key) {
         return Ok(None);
     }
-    let found = text_member(alloc, reader, text, key, name)?;
+    let found = text_member(alloc, reader, text, key)?;
     Ok(Some(found))
 }
 
@@ -164,12 +163,11 @@ pub(crate) fn integer_member<'a>(
     reader: &mut Reader<'a>,
     text: &mut OpenText<'a>,
     key: EventKey,
-    name: &str,
 ) -> Result<i64, AppendError>
     ensures { IfOk result (λ found. (depth : ℕ) →
-        IsMember key name.now depth (number (of_integer found)) text.old text.new reader.old reader.new) }
+        IsMember key (member_name key) depth (number (of_integer found)) text.old text.new reader.old reader.new) }
 {
-    let begun = begin_member(alloc, text, name)?;
+    let begun = begin_member(alloc, text, key)?;
     let found = append_integer(reader, &mut text.bytes)?;
     end_member(reader, text, key, begun)?;
     Ok(found)
@@ -181,32 +179,30 @@ pub(crate) fn ids_member<'a>(
     reader: &mut Reader<'a>,
     text: &mut OpenText<'a>,
     key: EventKey,
-    name: &str,
     most: usize,
 ) -> Result<Vec<EventId>, AppendError>
     ensures member { IfOk result (λ found. (depth : ℕ) → 0 < depth →
-        IsMember key name.now depth (array (strings found.items)) text.old text.new reader.old reader.new) }
+        IsMember key (member_name key) depth (array (strings found.items)) text.old text.new reader.old reader.new) }
     ensures ids { IfOk result (λ found. IsTrue (list_all is_event_id found.items)) }
     ensures count { IfOk result (λ found. length found.items ≤ most) }
 {
-    let begun = begin_member(alloc, text, name)?;
+    let begun = begin_member(alloc, text, key)?;
     let found = append_event_ids(alloc, reader, &mut text.bytes, most)?;
     end_member(reader, text, key, begun)?;
     Ok(found)
 }
 
-/// The next member, where it has this name; else nothing is read.
+/// The next member, where it is this one; else nothing is read.
 pub(crate) fn any_member_if<'a>(
     alloc: Global,
     reader: &mut Reader<'a>,
     text: &mut OpenText<'a>,
     key: EventKey,
-    name: &str,
 ) -> Result<(), AppendError>
-    ensures { OnOk result ((d : Option Data) × IsMemberIf key name.now 124 d text.old text.new reader.old reader.new) }
+    ensures { OnOk result ((d : Option Data) × IsMemberIf key (member_name key) 124 d text.old text.new reader.old reader.new) }
 {
-    if is_next(text, name) {
-        any_member(alloc, reader, text, key, name)?;
+    if is_next(text, key) {
+        any_member(alloc, reader, text, key)?;
     }
     Ok(())
 }
@@ -216,23 +212,21 @@ fn any_member<'a>(
     reader: &mut Reader<'a>,
     text: &mut OpenText<'a>,
     key: EventKey,
-    name: &str,
 ) -> Result<(), AppendError>
-    ensures { OnOk result ((d : Data) × IsMember key name.now 124 d text.old text.new reader.old reader.new) }
+    ensures { OnOk result ((d : Data) × IsMember key (member_name key) 124 d text.old text.new reader.old reader.new) }
 {
-    let begun = begin_member(alloc, text, name)?;
+    let begun = begin_member(alloc, text, key)?;
     append_value(alloc, reader, MEMBER_DEPTH, &mut text.bytes)?;
     end_member(reader, text, key, begun)?;
     Ok(())
 }
 
-// Whether the next member has this name.
-fn is_next(text: &OpenText<'_>, name: &str) -> bool
-    ensures named { result ≡ true → next_of text.now ≡ Some name.now }
-    ensures utf8 { IsUtf8 name.now }
+// Whether this member is the next.
+fn is_next(text: &OpenText<'_>, key: EventKey) -> bool
+    ensures { result ≡ true → next_of text.now ≡ Some (member_name key) }
 {
     match text.next {
-        Some(key) => key == name,
+        Some(name) => name == name_of(key),
         None => false,
     }
 }
@@ -259,7 +253,7 @@ pub(crate) fn content_member<'a>(
     ensures { IfOk result (λ known. (ms : Members) × (members_where is_rule_key ms ≡ members_view known.entries)
         × IsMember EventKey.Content (codes "content") 124 (object ms) text.old text.new reader.old reader.new) }
 {
-    let begun = begin_member(alloc, text, "content")?;
+    let begun = begin_member(alloc, text, EventKey::Content)?;
     let known = append_content(alloc, reader, &mut text.bytes)?;
     end_member(reader, text, EventKey::Content, begun)?;
     Ok(known)
@@ -274,7 +268,7 @@ pub(crate) fn hash_member<'a>(
     ensures { IfOk result (λ hash. IsMember EventKey.Hashes (codes "hashes") 124
         (object (member (codes "sha256") (string hash.now) no_members)) text.old text.new reader.old reader.new) }
 {
-    let begun = begin_member(alloc, text, "hashes")?;
+    let begun = begin_member(alloc, text, EventKey::Hashes)?;
     let one = append_one_text(alloc, reader, &mut text.bytes)?;
     if one.key == "sha256" {
         end_member(reader, text, EventKey::Hashes, begun)?;
@@ -292,7 +286,7 @@ pub(crate) fn signature_member<'a>(
     ensures { IfOk result (λ one. IsMember EventKey.Signatures (codes "signatures") 124 (signed one) text.old text.new
         reader.old reader.new) }
 {
-    let begun = begin_member(alloc, text, "signatures")?;
+    let begun = begin_member(alloc, text, EventKey::Signatures)?;
     let found = append_signature(alloc, reader, &mut text.bytes)?;
     end_member(reader, text, EventKey::Signatures, begun)?;
     Ok(found)

@@ -78,6 +78,7 @@ pub fn append_event_ids(
     append_ids(alloc, reader, out, most)
 }
 
+// What comes behind the opening bracket. An event keeps the ids, so they have no room to spare.
 fn append_ids(
     alloc: Global,
     reader: &mut Reader<'_>,
@@ -103,6 +104,7 @@ fn append_ids(
         later = true;
     }
     out.push(b']')?;
+    ids.shrink_to_fit();
     Ok(ids)
 }
 

@@ -1,22 +1,13 @@
-use Rattle.std.proofs.Common.{◌≡◌, ◌-◌, ◌++◌, ◌∷◌, Some, None, false, ap, ◌∙◌, arith}
-use Rattle.json.specs.Json.{read_key}
-use Rattle.json.specs.Token as spec
+use Rattle.std.proofs.Common.{◌-◌, arith}
 use Rattle.serde_json.specs.Data.{member, no_members, object, string}
-use Rattle.mx_event_reading.specs.InOrder.{key_text}
 use Rattle.mx_event_reading.proofs.ContentLemmas.{one_member}
 use Rattle.mx_event_reading.proofs.contents.append_signature.Goals as goal
 
 pub returns-clause-ok : goal.returns-clause-ok
 returns-clause-ok c = λ depth some.
-    let ts = c.next.new.self in
-    let k = c.in-Some.server.now in
-    let s = c.next_key.new.self in
-    let r = c.append_one_text.new.reader in
-    let rest = c.next_key-2.new.self in
-    let first : c.args.reader.now ≡ spec.begin_object ∷ ts = grind arith in
-    let named : read_key ts ≡ Some (Some k, s) = grind arith in
-    let over : read_key r ≡ Some (None, rest) = grind arith in
-    let begun = c.in_ok-append_key.ensures.ok ∙ ap (λ x. x ++ key_text false k) c.in_ok-push.ensures.items in
-    rw first (one_member depth ts s r rest k (object (member c.in_ok-one.one.key.now (string c.in_ok-one.one.text.now) no_members)) c.args.out.now.items c.append_key.new.out.items
-    c.append_one_text.new.out.items c.push-2.new.self.items (omega arith) named c.append_key.ensures.utf8 begun
-    (c.in_ok-one.ensures.ok (depth - 1) (omega arith)) c.in_ok-one.ensures.shorter over c.in_ok-push-2.ensures.items)
+    let one = c.in_ok-one.one in
+    one_member depth c.args.reader.now c.open_object.new.reader c.append_one_text.new.reader c.close_object.new.reader
+    c.in_ok-server.server.now (object (member one.key.now (string one.text.now) no_members)) c.args.out.now.items
+    c.open_object.new.out.items c.append_one_text.new.out.items c.close_object.new.out.items (omega arith)
+    c.in_ok-server.ensures.ok (c.in_ok-one.ensures.ok (depth - 1) (omega arith)) c.in_ok-one.ensures.shorter
+    c.in_ok-close_object.ensures.read c.in_ok-close_object.ensures.bytes

@@ -50,7 +50,8 @@ returns-clause-ok c =
     let first = c.args.reader.now in
     let before = c.args.out.now.items in
     let r = c.take_end_array.new.self in
-    let over : after_end_array l.reader ≡ Some r = grind arith in (
+    let over : after_end_array l.reader ≡ Some r = grind arith in
+    rw c.shrink_to_fit.ensures.items (
       λ depth. strings_end first l.reader l.ids.items l.later before l.out.items read r depth over,
       c.in_ok-push-2.ensures.items ∙ strings_text first l.reader l.ids.items l.later before l.out.items read,
     )
