@@ -351,4 +351,5 @@ def main():
         measures[options.what](options, Path(folder))
 
 
-main()
+if __name__ == "__main__":
+    main()
