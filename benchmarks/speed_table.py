@@ -40,6 +40,8 @@ MEMORY_EVENTS = (10_000, 40_000)
 MANY_MEMBERS = 5_000
 # How many queries of a kind are asked, and of those whose reply grows with the room.
 ASKED = {"event": 200, "make_join": 200, "event_auth": 200, "state": 20}
+# The rows whose instructions a profile tells.
+ROWS = (*PLAIN_SHAPES, "put", *ASKED, "check")
 # How often a time is taken.
 RUNS = 5
 # The least share of a row's instructions with which a library or a function stands in a profile.
@@ -202,7 +204,10 @@ def main() -> None:
     options = parser.parse_args()
     program = options.program.resolve()
     if options.profile:
-        print_profiles(program, options.profile.split(","), options.events, options.members)
+        rows = options.profile.split(",")
+        if unknown := [row for row in rows if row not in ROWS]:
+            parser.error(f"no such row: {', '.join(unknown)}; there are {', '.join(ROWS)}")
+        print_profiles(program, rows, options.events, options.members)
         return
     print("| | this server | plain server | times |\n|---|---|---|---|")
     instruction_rows(program, options.events, options.members)
