@@ -183,37 +183,33 @@ fn question_word<'a>(alloc: Global, name: &'a str) -> Arg<'a> {
         .action(ArgAction::Append)
 }
 
-// At most one of the options that each ask a question is given. The events are in a directory, or else in the log in a
-// file, which may be of a server with a name.
-fn audit_groups<'a>(alloc: Global) -> Result<Vec<ArgGroup<'a>>, AllocError> {
-    let questions = [
-        "event",
-        "state-before",
-        "state-after",
-        "resolution",
-        "at",
-        "dot",
-        "html",
-    ];
-    let mut groups = Vec::new(alloc);
-    groups.push(group_of(alloc, "question", &questions)?)?;
-    groups.push(group_of(alloc, "named source", &["name", "data"])?)?;
-    groups.push(group_of(alloc, "source", &["file", "data"])?)?;
-    Ok(groups)
+// The options that each ask a question: at most one of them is given.
+fn questions<'a>(alloc: Global) -> Result<ArgGroup<'a>, AllocError> {
+    ArgGroup::new(alloc, "question")
+        .arg("event")?
+        .arg("state-before")?
+        .arg("state-after")?
+        .arg("resolution")?
+        .arg("at")?
+        .arg("dot")?
+        .arg("html")
 }
 
-fn group_of<'a>(
-    alloc: Global,
-    name: &'a str,
-    words: &[&'a str],
-) -> Result<ArgGroup<'a>, AllocError> {
-    ArgGroup::new(alloc, name).args(words)
+// Where the events are: in the log of a server with a name, or in a directory.
+fn named_sources<'a>(alloc: Global) -> Result<ArgGroup<'a>, AllocError> {
+    ArgGroup::new(alloc, "named source")
+        .arg("name")?
+        .arg("data")
+}
+
+// Where the events are: in the log in a file, or in a directory.
+fn sources<'a>(alloc: Global) -> Result<ArgGroup<'a>, AllocError> {
+    ArgGroup::new(alloc, "source").arg("file")?.arg("data")
 }
 
 pub(crate) fn audit_words<'a>(alloc: Global) -> Result<clap::Command<'a>, AllocError> {
     let mut words = audited_words(alloc)?;
     words.append(&mut question_words(alloc)?)?;
-    let groups = audit_groups(alloc)?;
     clap::Command::new(alloc, "audit")
         .about(
             "Tells of each event of a room why it was accepted, soft failed, rejected or refused, and what its states are",
@@ -222,7 +218,9 @@ pub(crate) fn audit_words<'a>(alloc: Global) -> Result<clap::Command<'a>, AllocE
             "Example: mx_federd log events.json | mx_federd audit --room '!r:a.example'\nPage: docs/AUDIT.md",
         )
         .args(words)?
-        .groups(groups)
+        .group(questions(alloc)?)?
+        .group(named_sources(alloc)?)?
+        .group(sources(alloc)?)
 }
 
 // The words that say which room is audited, and where its events are.
