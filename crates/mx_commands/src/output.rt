@@ -106,7 +106,6 @@ impl From<LinesError> for Failure {
     fn from(error: LinesError) -> Failure {
         match error {
             LinesError::Memory => Failure::Memory,
-            LinesError::Storage => Failure::Storage,
             LinesError::Read | LinesError::Write => Failure::ReadOrWrite,
         }
     }

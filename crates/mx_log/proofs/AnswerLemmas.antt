@@ -19,7 +19,8 @@ use Rattle.mx_requests.specs.declared.faults.Fault.{Fault}
 use Rattle.mx_log.proofs.CallStepLemmas.{none_done, one_done}
 
 -- a line with no steps
-pub nothing_done : {K L : Type 0} (offer : Event → Offered) (server : List ℕ) (line : Line) (output : List ℕ) (s : Start) (earlier : List Step) (w : WorldView K L) → [] ≡ line_steps offer server line None → output ≡ line_output offer server line [] → IsAfter s earlier w → IsDone offer server line output s earlier w
+pub nothing_done : {K L : Type 0} (offer : Event → Offered) (server : List ℕ) (line : Line) (output : List ℕ) (s : Start) (earlier : List Step) (w : WorldView K L)
+    → [] ≡ line_steps offer server line None → output ≡ line_output offer server line [] → IsAfter s earlier w → IsDone offer server line output s earlier w
 nothing_done offer server line output s earlier w none is now = record {
   steps = [];
   replies = [];
@@ -29,7 +30,8 @@ nothing_done offer server line output s earlier w none is now = record {
 }
 
 -- a line of one step
-pub step_done : {K L : Type 0} (offer : Event → Offered) (server : List ℕ) (x : Step) (r : StepReply) (s : Start) (earlier : List Step) (w : WorldView K L) → IsTaken s earlier x r w → IsDone offer server (step_line (step_shown x)) (step_output r) s earlier w
+pub step_done : {K L : Type 0} (offer : Event → Offered) (server : List ℕ) (x : Step) (r : StepReply) (s : Start) (earlier : List Step) (w : WorldView K L)
+    → IsTaken s earlier x r w → IsDone offer server (step_line (step_shown x)) (step_output r) s earlier w
 step_done offer server x r s earlier w taken = record {
   steps = x ∷ [];
   replies = r ∷ [];
@@ -39,13 +41,17 @@ step_done offer server x r s earlier w taken = record {
 }
 
 -- a request with a fault
-pub fault_done : {K L : Type 0} (offer : Event → Offered) (server : List ℕ) (now : ℕ) (r : Request) (f : Fault) (response : Response) (s : Start) (earlier : List Step) (w : WorldView K L) → call_under offer server r ≡ Err f → response ≡ failure f → IsAfter s earlier w → IsDone offer server (call_line now r) (response_output response) s earlier w
+pub fault_done : {K L : Type 0} (offer : Event → Offered) (server : List ℕ) (now : ℕ) (r : Request) (f : Fault) (response : Response) (s : Start) (earlier : List Step)
+    (w : WorldView K L) → call_under offer server r ≡ Err f → response ≡ failure f → IsAfter s earlier w
+    → IsDone offer server (call_line now r) (response_output response) s earlier w
 fault_done offer server now r f response s earlier w e is after =
     nothing_done offer server (call_line now r) (response_output response) s earlier w (ap (λ c. call_steps now c None) (sym e))
     (ap response_output (is ∙ ap (λ c. call_reply server now c []) (sym e))) after
 
 -- a request that makes a call
-pub called_done : {K L : Type 0} (offer : Event → Offered) (server : List ℕ) (now : ℕ) (r : Request) (call : Call) (response : Response) (s : Start) (earlier : List Step) (w : WorldView K L) → call_under offer server r ≡ Ok call → IsCalled server now call response s earlier w → IsDone offer server (call_line now r) (response_output response) s earlier w
+pub called_done : {K L : Type 0} (offer : Event → Offered) (server : List ℕ) (now : ℕ) (r : Request) (call : Call) (response : Response) (s : Start)
+    (earlier : List Step) (w : WorldView K L) → call_under offer server r ≡ Ok call → IsCalled server now call response s earlier w
+    → IsDone offer server (call_line now r) (response_output response) s earlier w
 called_done offer server now r call response s earlier w e called = record {
   steps = called.steps;
   replies = called.replies;

@@ -10,7 +10,7 @@ use Rattle.mx_world.specs.declared.steps.Step.TheVariants.{Host, Open, Next, Clo
 use Rattle.mx_world.specs.declared.steps.StepReply.{StepReply}
 use Rattle.mx_world.specs.declared.steps.StepReply.TheVariants.{OfRoom, Opened, Replayed, Busy, NotOpen, NoMore, OfEvent, MoreLeft, Closed}
 use Rattle.mx_requests.specs.Calls.{Call}
-use Rattle.mx_log.specs.LineRuns.{AreDone, AreFollowed, AreTaken, AreTakenFrom, AreTurned, IsCalled, IsTaken, nexts}
+use Rattle.mx_log.specs.LineRuns.{AreDone, AreTaken, AreTakenFrom, AreTurned, IsCalled, IsTaken, nexts}
 use Rattle.mx_step_replies.specs.Steps.{first_step, reply_to, step_shown, StepView, open_step, next_step, close_step}
 use Rattle.mx_log.specs.LineSteps.{first_of, following, last_of, once_open, steps_from, turns}
 use Rattle.mx_pdu.specs.declared.offering.Offered.{Offered}
@@ -24,7 +24,8 @@ pub one_done : {K L : Type 0} (s : Start) (earlier : List Step) (x : Step) (r : 
 one_done s earlier x r w taken = record { count = refl; replied = (taken.is_reply, tt); after = taken.after }
 
 -- a step and those after it
-pub then_done : {K L : Type 0} (s : Start) (earlier steps : List Step) (replies : List StepReply) (x : Step) (r : StepReply) (w w' : WorldView K L) → IsTaken s earlier x r w → AreDone (earlier ++ x ∷ []) steps replies s w' → AreDone earlier (x ∷ steps) (r ∷ replies) s w'
+pub then_done : {K L : Type 0} (s : Start) (earlier steps : List Step) (replies : List StepReply) (x : Step) (r : StepReply) (w w' : WorldView K L)
+    → IsTaken s earlier x r w → AreDone (earlier ++ x ∷ []) steps replies s w' → AreDone earlier (x ∷ steps) (r ∷ replies) s w'
 then_done s earlier steps replies x r w w' taken rest = record {
   count = ap suc rest.count;
   replied = (taken.is_reply, rest.replied);
@@ -32,7 +33,8 @@ then_done s earlier steps replies x r w w' taken rest = record {
 }
 
 -- steps and one after them
-pub done_more : {K L : Type 0} (s : Start) (earlier steps : List Step) (replies : List StepReply) (x : Step) (r : StepReply) (w w' : WorldView K L) → AreDone earlier steps replies s w → IsTaken s (earlier ++ steps) x r w' → AreDone earlier (steps ++ x ∷ []) (replies ++ r ∷ []) s w'
+pub done_more : {K L : Type 0} (s : Start) (earlier steps : List Step) (replies : List StepReply) (x : Step) (r : StepReply) (w w' : WorldView K L)
+    → AreDone earlier steps replies s w → IsTaken s (earlier ++ steps) x r w' → AreDone earlier (steps ++ x ∷ []) (replies ++ r ∷ []) s w'
 done_more s earlier steps replies x r w w' before taken = record {
   count = omega (arith, before.count, length-append replies (r ∷ []), length-append steps (x ∷ []));
   replied = replies_append s earlier steps (x ∷ []) replies (r ∷ []) before.replied (taken.is_reply, tt);
@@ -51,7 +53,8 @@ turns_so_many key (o ∷ os) = ap (λ l. next_step key ∷ l) (turns_so_many key
 pub none_taken : {K L : Type 0} (key : TransactionKey) (s : Start) (earlier : List Step) (w : WorldView K L) → IsAfter s earlier w → AreTaken key 0 s earlier w
 none_taken key s earlier w now = record { steps = []; replies = []; shown = refl; done = none_done s earlier w now }
 
-pub taken_more : {K L : Type 0} (key : TransactionKey) (n : ℕ) (s : Start) (earlier : List Step) (r : StepReply) (w w' : WorldView K L) (before : AreTaken key n s earlier w) → IsTaken s (earlier ++ before.steps) (Next key) r w' → AreTaken key (suc n) s earlier w'
+pub taken_more : {K L : Type 0} (key : TransactionKey) (n : ℕ) (s : Start) (earlier : List Step) (r : StepReply) (w w' : WorldView K L)
+    (before : AreTaken key n s earlier w) → IsTaken s (earlier ++ before.steps) (Next key) r w' → AreTaken key (suc n) s earlier w'
 taken_more key n s earlier r w w' before taken = record {
   steps = before.steps ++ Next key ∷ [];
   replies = before.replies ++ r ∷ [];
@@ -64,11 +67,12 @@ last_at [] r = refl
 last_at (a ∷ []) r = refl
 last_at (a ∷ b ∷ rs) r = last_at (b ∷ rs) r
 
-pub last_more : (r : StepReply) (rs : List StepReply) → 0 < length rs → last_of (r ∷ rs) ≡ last_of rs
+last_more : (r : StepReply) (rs : List StepReply) → 0 < length rs → last_of (r ∷ rs) ≡ last_of rs
 last_more r [] some = absurd (omega (arith, some))
 last_more r (a ∷ rs) some = refl
 
-pub all_turned : {K L : Type 0} (key : TransactionKey) (n : ℕ) (s : Start) (earlier : List Step) (r : StepReply) (w w' : WorldView K L) (before : AreTaken key n s earlier w) → IsTaken s (earlier ++ before.steps) (Close key) r w' → AreTurned key n r s earlier w'
+pub all_turned : {K L : Type 0} (key : TransactionKey) (n : ℕ) (s : Start) (earlier : List Step) (r : StepReply) (w w' : WorldView K L)
+    (before : AreTaken key n s earlier w) → IsTaken s (earlier ++ before.steps) (Close key) r w' → AreTurned key n r s earlier w'
 all_turned key n s earlier r w w' before taken = record {
   steps = before.steps ++ Close key ∷ [];
   replies = before.replies ++ r ∷ [];
@@ -79,19 +83,6 @@ all_turned key n s earlier r w w' before taken = record {
 
 one-close : (key : TransactionKey) (n : ℕ) → 0 < length (nexts key n ++ close_step key ∷ [])
 one-close key n = rw (length-append (nexts key n) (close_step key ∷ [])) (omega arith)
-
--- an opening that was answered so, with its turns and its close
-pub opened_followed : {K L : Type 0} (key : TransactionKey) (n count : ℕ) (last : StepReply) (s : Start) (earlier : List Step) (w : WorldView K L) → AreTurned key count last s earlier w → AreFollowed key count (Opened n) last s earlier w
-opened_followed key n count last s earlier w turned =
-    let many : length turned.replies ≡ length (nexts key count ++ close_step key ∷ []) =
-    turned.done.count ∙ sym (length-map turned.steps step_shown) ∙ ap length turned.shown in
-    record {
-      steps = turned.steps;
-      replies = turned.replies;
-      shown = turned.shown;
-      done = turned.done;
-      is_last = turned.is_last ∙ sym (last_more (Opened n) turned.replies (rw many (one-close key count)));
-    }
 
 nothing_once_open : (r : StepReply) (steps : List StepView) → ((n : ℕ) → r ≢ Opened n) → once_open (Some r) steps ≡ []
 nothing_once_open (OfRoom a) steps other = refl
@@ -104,16 +95,6 @@ nothing_once_open (OfEvent t) steps other = refl
 nothing_once_open (MoreLeft n) steps other = refl
 nothing_once_open (Closed b) steps other = refl
 
--- nothing follows an opening that was answered otherwise
-pub nothing_followed : {K L : Type 0} (key : TransactionKey) (count : ℕ) (r : StepReply) (s : Start) (earlier : List Step) (w : WorldView K L) → ((n : ℕ) → r ≢ Opened n) → IsAfter s earlier w → AreFollowed key count r r s earlier w
-nothing_followed key count r s earlier w other now = record {
-  steps = [];
-  replies = [];
-  shown = sym (nothing_once_open r (nexts key count ++ close_step key ∷ []) other);
-  done = none_done s earlier w now;
-  is_last = refl;
-}
-
 once_open-none : (r : StepReply) → once_open (Some r) [] ≡ []
 once_open-none (OfRoom a) = refl
 once_open-none (Opened n) = refl
@@ -125,7 +106,7 @@ once_open-none (OfEvent t) = refl
 once_open-none (MoreLeft n) = refl
 once_open-none (Closed b) = refl
 
-pub following-none : (x : Step) → ((key : TransactionKey) (events : _) → x ≢ Open key events) → following (step_shown x) ≡ []
+following-none : (x : Step) → ((key : TransactionKey) (events : _) → x ≢ Open key events) → following (step_shown x) ≡ []
 following-none (Host o) other = refl
 following-none (Open key events) other = absurd (other key events refl)
 following-none (Next key) other = refl
@@ -133,29 +114,46 @@ following-none (Close key) other = refl
 following-none (Join origin o) other = refl
 following-none (Ask origin now q) other = refl
 
--- an opening and what follows it
-pub opening_taken : {K L : Type 0} (x : Step) (r : StepReply) (key : TransactionKey) (events : List Offered) (last : StepReply) (s : Start) (earlier : List Step) (w w' : WorldView K L) → step_shown x ≡ open_step key events → IsTaken s earlier x r w → AreFollowed key (length events) r last s (earlier ++ x ∷ []) w' → AreTakenFrom (step_shown x) last s earlier w'
-opening_taken x r key events last s earlier w w' is taken followed = record {
-  steps = x ∷ followed.steps;
-  replies = r ∷ followed.replies;
-  shown = ap (λ l. step_shown x ∷ l)
-      (followed.shown ∙ ap (once_open (Some r)) (turns_so_many key events ∙ ap following (sym is)));
-  done = then_done s earlier followed.steps followed.replies x r w w' taken followed.done;
-  is_last = followed.is_last;
-}
+-- an opening that was answered so, with the turns of its events and its close
+pub opening_taken : {K L : Type 0} (x : Step) (n : ℕ) (key : TransactionKey) (events : List Offered) (last : StepReply) (s : Start) (earlier : List Step) (w w' : WorldView K L)
+    → step_shown x ≡ open_step key events → IsTaken s earlier x (Opened n) w → AreTurned key (length events) last s (earlier ++ x ∷ []) w'
+    → AreTakenFrom (step_shown x) last s earlier w'
+opening_taken x n key events last s earlier w w' is taken turned =
+    let many : length turned.replies ≡ length (nexts key (length events) ++ close_step key ∷ []) =
+    turned.done.count ∙ sym (length-map turned.steps step_shown) ∙ ap length turned.shown in
+    record {
+      steps = x ∷ turned.steps;
+      replies = Opened n ∷ turned.replies;
+      shown = ap (λ l. step_shown x ∷ l) (turned.shown ∙ turns_so_many key events ∙ ap following (sym is));
+      done = then_done s earlier turned.steps turned.replies x (Opened n) w w' taken turned.done;
+      is_last = turned.is_last ∙ sym (last_more (Opened n) turned.replies (rw many (one-close key (length events))));
+    }
 
--- a first step that opens nothing
-pub only_taken : {K L : Type 0} (x : Step) (r : StepReply) (s : Start) (earlier : List Step) (w : WorldView K L) → following (step_shown x) ≡ [] → IsTaken s earlier x r w → AreTakenFrom (step_shown x) r s earlier w
+-- a first step that nothing follows
+only_taken : {K L : Type 0} (x : Step) (r : StepReply) (s : Start) (earlier : List Step) (w : WorldView K L)
+    → once_open (Some r) (following (step_shown x)) ≡ [] → IsTaken s earlier x r w → AreTakenFrom (step_shown x) r s earlier w
 only_taken x r s earlier w none taken = record {
   steps = x ∷ [];
   replies = r ∷ [];
-  shown = ap (λ l. step_shown x ∷ l) (sym (ap (once_open (Some r)) none ∙ once_open-none r));
+  shown = ap (λ l. step_shown x ∷ l) (sym none);
   done = one_done s earlier x r w taken;
   is_last = refl;
 }
 
+-- one that opens no transaction
+pub other_taken : {K L : Type 0} (x : Step) (r : StepReply) (s : Start) (earlier : List Step) (w : WorldView K L)
+    → ((key : TransactionKey) (events : _) → x ≢ Open key events) → IsTaken s earlier x r w → AreTakenFrom (step_shown x) r s earlier w
+other_taken x r s earlier w other taken = only_taken x r s earlier w (ap (once_open (Some r)) (following-none x other) ∙ once_open-none r) taken
+
+-- one by which none came to be open
+pub closed_taken : {K L : Type 0} (x : Step) (r : StepReply) (s : Start) (earlier : List Step) (w : WorldView K L) → ((n : ℕ) → r ≢ Opened n)
+    → IsTaken s earlier x r w → AreTakenFrom (step_shown x) r s earlier w
+closed_taken x r s earlier w other taken = only_taken x r s earlier w (nothing_once_open r (following (step_shown x)) other) taken
+
 -- a call by its first step
-pub taken_called : {K L : Type 0} (server : List ℕ) (now : ℕ) (call : Call) (first : StepView) (last : StepReply) (response : Response) (s : Start) (earlier : List Step) (w : WorldView K L) → first ≡ first_step now call → AreTakenFrom first last s earlier w → response ≡ reply_to server first last → IsCalled server now call response s earlier w
+pub taken_called : {K L : Type 0} (server : List ℕ) (now : ℕ) (call : Call) (first : StepView) (last : StepReply) (response : Response) (s : Start)
+    (earlier : List Step) (w : WorldView K L) → first ≡ first_step now call → AreTakenFrom first last s earlier w → response ≡ reply_to server first last
+    → IsCalled server now call response s earlier w
 taken_called server now call first last response s earlier w is taken written = record {
   steps = taken.steps;
   replies = taken.replies;

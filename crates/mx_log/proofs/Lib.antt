@@ -5,6 +5,8 @@ pub mod RefusalLineLemmas
 pub mod LineReadingLemmas
 pub mod LineRunLemmas
 pub mod CallStepLemmas
+pub mod GivenUpLemmas
+pub mod MemoryWorldLemmas
 pub mod LogLemmas
 pub mod LogServerLemmas
 pub mod TextMemberLemmas

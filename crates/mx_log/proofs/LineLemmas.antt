@@ -32,7 +32,8 @@ hosts offer d event only at =
     has_form "step event" d (option_map (host_of offer) (field (codes "event") d)) only
     ∙ ap (λ o. or_bad (option_map (host_of offer) o)) at
 
-pub opens : (offer : Event → Offered) (d : Data) (key : TransactionKey) (events : Option Data) → has_only "step origin txn pdus" d ≡ true → key_in d ≡ Some key → field (codes "pdus") d ≡ events
+pub opens : (offer : Event → Offered) (d : Data) (key : TransactionKey) (events : Option Data) → has_only "step origin txn pdus" d ≡ true
+    → key_in d ≡ Some key → field (codes "pdus") d ≡ events
     → open_form offer d ≡ or_bad (option_map (opening key) (option_and_then (events_of offer) events))
 opens offer d key events only named at =
     has_form "step origin txn pdus" d (open_in offer d) only

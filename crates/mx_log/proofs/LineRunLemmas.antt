@@ -29,7 +29,8 @@ appends_none None = tt
 appends_none (Some a) = sym (append-nil a)
 
 -- replies to steps, and to those after them
-pub replies_append : (s : Start) (earlier steps later : List Step) (replies more : List StepReply) → AreReplies s earlier steps replies → AreReplies s (earlier ++ steps) later more → AreReplies s earlier (steps ++ later) (replies ++ more)
+pub replies_append : (s : Start) (earlier steps later : List Step) (replies more : List StepReply) → AreReplies s earlier steps replies
+    → AreReplies s (earlier ++ steps) later more → AreReplies s earlier (steps ++ later) (replies ++ more)
 replies_append s earlier [] later [] more first next =
     let P : List Step → Type 0 = λ e. AreReplies s e later more in subst P (append-nil earlier) next
 replies_append s earlier [] later (r ∷ rs) more first next = absurd first
@@ -38,7 +39,8 @@ replies_append s earlier (x ∷ xs) later (r ∷ rs) more first next =
     let P : List Step → Type 0 = λ e. AreReplies s e later more in
     (first.0, replies_append s (earlier ++ x ∷ []) xs later rs more first.1 (subst P (sym (append_assoc earlier (x ∷ []) xs)) next))
 
-exchanges_more : (offer : Event → Offered) (server : List ℕ) (xs : List Exchange) (x : Exchange) → AreExchanges offer server xs → IsExchange offer server x → AreExchanges offer server (xs ++ x ∷ [])
+exchanges_more : (offer : Event → Offered) (server : List ℕ) (xs : List Exchange) (x : Exchange) → AreExchanges offer server xs
+    → IsExchange offer server x → AreExchanges offer server (xs ++ x ∷ [])
 exchanges_more offer server [] x all one = (one, tt)
 exchanges_more offer server (y ∷ ys) x all one = (all.0, exchanges_more offer server ys x all.1 one)
 
@@ -58,7 +60,9 @@ none_so_far offer server start w now = record {
 }
 
 -- one line more
-pub one_more : {K L : Type 0} (offer : Event → Offered) (server : List ℕ) (start : Start) (lines : List (List ℕ)) (written line output : List ℕ) (w w' : WorldView K L) (before : AreRunSoFar offer server start lines written w) → IsDone offer server (read_line offer line) output start (flat_map (λ x. x.steps) before.exchanges) w' → AreRunSoFar offer server start (lines ++ line ∷ []) (written ++ (output ++ 10 ∷ [])) w'
+pub one_more : {K L : Type 0} (offer : Event → Offered) (server : List ℕ) (start : Start) (lines : List (List ℕ)) (written line output : List ℕ) (w w' : WorldView K L)
+    (before : AreRunSoFar offer server start lines written w) → IsDone offer server (read_line offer line) output start (flat_map (λ x. x.steps) before.exchanges) w'
+    → AreRunSoFar offer server start (lines ++ line ∷ []) (written ++ (output ++ 10 ∷ [])) w'
 one_more offer server start lines written line output w w' before done =
     let x : Exchange = record { line = read_line offer line; steps = done.steps; replies = done.replies } in
     let xs : List Exchange = before.exchanges in
@@ -79,7 +83,8 @@ one_more offer server start lines written line output w w' before done =
     }
 
 -- the first line of a text
-pub lines-first : (text : List ℕ) (n : ℕ) → 0 < length text → n ≤ length text → ((k : ℕ) → k < n → slice_index text k ≢ 10) → (n < length text → slice_index text n ≡ 10) → lines_of text ≡ take n text ∷ lines_of (drop 1 (drop n text))
+pub lines-first : (text : List ℕ) (n : ℕ) → 0 < length text → n ≤ length text → ((k : ℕ) → k < n → slice_index text k ≢ 10)
+    → (n < length text → slice_index text n ≡ 10) → lines_of text ≡ take n text ∷ lines_of (drop 1 (drop n text))
 unfolding lines_of
 lines-first [] n some bound clean stops = absurd (omega (arith, some))
 lines-first (c ∷ cs) zero some bound clean stops =

@@ -9,12 +9,12 @@ use Rattle.mx_world.specs.View.{WorldView}
 use Rattle.mx_world.specs.declared.steps.Step.{Step}
 use Rattle.mx_world.specs.Worlds.{IsAfter}
 use Rattle.mx_log.specs.LineOutputs.{has_refusal}
-use Rattle.mx_log.specs.LineRuns.{AreAnswered, IsDone, IsEnded, IsWritten, answered, not_answered}
+use Rattle.mx_log.specs.LineRuns.{AreAnswered, IsDone, IsEnded, IsTold, answered, not_answered}
 use Rattle.mx_log.specs.Lines.{lines_of, read_line}
-use Rattle.mx_keeper.specs.declared.refusals.CallError.TheVariants.{Memory}
 use Rattle.mx_log.specs.declared.answers.LineRefusal.TheVariants as refusal
 use Rattle.mx_log.specs.LinesShown.{refusal_output}
 use Rattle.mx_log.specs.LineSteps.{IsAnswered, nothing_yet}
+use Rattle.mx_log.specs.StrictLogs.{is_bad}
 use Rattle.mx_pdu.specs.Offers.{Judge, offer_by}
 use Rattle.mx_pdu.specs.declared.offering.Offered.{Offered}
 use Rattle.mx_log.proofs.LineRunLemmas.{appends_more, appends_none, none_so_far, one_more}
@@ -25,7 +25,8 @@ pub clean-before : (out rest : List ℕ) → IsEnded out → has_refusal (out ++
 clean-before out rest ended clean =
     ⊎_elim (λ yes. absurd (true≢false (sym (refusal-stays out rest ended yes) ∙ clean))) (λ no. no) (cases_Bool (has_refusal out))
 
-pub answered_none : {K L : Type 0} (offer : Event → Offered) (server : List ℕ) (start : Start) (contents : Option (List ℕ)) (w : WorldView K L) → IsAfter start [] w → AreAnswered offer server start [] contents contents w
+pub answered_none : {K L : Type 0} (offer : Event → Offered) (server : List ℕ) (start : Start) (contents : Option (List ℕ)) (w : WorldView K L)
+    → IsAfter start [] w → AreAnswered offer server start [] contents contents w
 answered_none offer server start contents w now = record {
   written = [];
   appends = appends_none contents;
@@ -33,8 +34,10 @@ answered_none offer server start contents w now = record {
   run = λ clean. none_so_far offer server start w now;
 }
 
-unfoldable pub answered_more : {K L : Type 0} (offer : Event → Offered) (server : List ℕ) (start : Start) (lines : List (List ℕ)) (line : List ℕ) (before between after : Option (List ℕ)) (w w' : WorldView K L) → AreAnswered offer server start lines before between w → IsWritten offer server line w w' between after → AreAnswered offer server start (lines ++ line ∷ []) before after w'
-answered_more offer server start lines line before between after w w' so_far (answered output appends done) = record {
+unfoldable pub answered_more : {K L : Type 0} {told : Bool} (offer : Event → Offered) (server : List ℕ) (start : Start) (lines : List (List ℕ)) (line : List ℕ)
+    (before between after : Option (List ℕ)) (w w' : WorldView K L) → AreAnswered offer server start lines before between w
+    → IsTold offer server line w w' between after told → AreAnswered offer server start (lines ++ line ∷ []) before after w'
+answered_more offer server start lines line before between after w w' so_far (answered output appends done is) = record {
   written = so_far.written ++ (output ++ 10 ∷ []);
   appends = appends_more before between after so_far.written (output ++ 10 ∷ []) so_far.appends appends;
   ended = ended-more so_far.written output;
@@ -50,12 +53,19 @@ answered_more offer server start lines line before between after w w' so_far (no
 }
 
 -- what is written for an answer, or for an answer that found no memory
-pub written_by : {K L : Type 0} (offer : Event → Offered) (server text output : List ℕ) (told : Bool) (old new : WorldView K L) (before after : Option (List ℕ)) → Appends before after ((if told then output else refusal_output (refusal.Step Memory)) ++ 10 ∷ []) → ((start : Start) (earlier : List Step) → IsAfter start earlier old → IsDone offer server (read_line offer text) output start earlier new) → IsWritten offer server text old new before after
-written_by offer server text output true old new before after appends done = answered output appends done
-written_by offer server text output false old new before after appends done = not_answered (refusal.Step Memory) appends
+pub told_by : {K L : Type 0} (offer : Event → Offered)
+    (server text output : List ℕ) (wrote told : Bool) (old new : WorldView K L) (before after : Option (List ℕ))
+    → Appends before after ((if wrote then output else refusal_output refusal.Step) ++ 10 ∷ []) → ((start : Start) (earlier : List Step)
+    → IsAfter start earlier old
+    → IsDone offer server (read_line offer text) output start earlier new) → told ≡ is_bad (read_line offer text)
+    → IsTold offer server text old new before after told
+told_by offer server text output true told old new before after appends done is = answered output appends done is
+told_by offer server text output false told old new before after appends done is = not_answered refusal.Step appends
 
 -- a whole log, where it is known
-pub log_answered : {K L : Type 0} (judges : Judge) (server : List ℕ) (remaining before after : Option (List ℕ)) (w : WorldView K L) → IfSome remaining (λ read. AreAnswered (offer_by judges) server nothing_yet (lines_of read) before after w) → IfSome remaining (λ read. (written : List ℕ) × Appends before after written × (has_refusal written ≡ false → IsAnswered judges server read written))
+pub log_answered : {K L : Type 0} (judges : Judge) (server : List ℕ) (remaining before after : Option (List ℕ)) (w : WorldView K L)
+    → IfSome remaining (λ read. AreAnswered (offer_by judges) server nothing_yet (lines_of read) before after w)
+    → IfSome remaining (λ read. (written : List ℕ) × Appends before after written × (has_refusal written ≡ false → IsAnswered judges server read written))
 log_answered judges server None before after w done = tt
 log_answered judges server (Some read) before after w done = (
   done.written,

@@ -1,14 +1,13 @@
 -- Worked rows: lines as they are answered, each computed.
-use Rattle.std.specs.Prelude.{◌≡◌, refl, ℕ, List, [], ◌∷◌, codes, map, None, Some}
+use Rattle.std.specs.Prelude.{◌≡◌, refl, [], ◌∷◌, codes, map, None}
 use Rattle.std.specs.Str.{chars}
 use Rattle.std.specs.Fmt.{digits}
 use Rattle.mx_canon.specs.Canonical.{canonical_text}
 use Rattle.mx_room.specs.declared.hosting.NotARoom.TheVariants.{CitesAuthEvents}
 use Rattle.mx_shard.specs.declared.answers.Answer.TheVariants.{Hosted, AlreadyHosted, NotHost}
 use Rattle.mx_world.specs.declared.steps.StepReply.TheVariants.{OfRoom, Opened, Replayed, Busy, NotOpen, NoMore, OfEvent, MoreLeft, Closed}
-use Rattle.mx_log.specs.LineOutputs.{bad_output, response_output, step_output}
-use Rattle.mx_step_replies.specs.Steps.{reply_to, open_step, next_step, close_step}
-use Rattle.mx_log.specs.LineSteps.{once_open}
+use Rattle.mx_log.specs.LineOutputs.{response_output, step_output}
+use Rattle.mx_step_replies.specs.Steps.{reply_to, open_step}
 
 -- each reply to a step, with bodies that are handed in
 steps-told : map step_output (

@@ -6,7 +6,6 @@ use Rattle.std.proofs.lemmas.List.Folds.{list_any-append}
 use Rattle.std.specs.Str.{chars}
 use Rattle.std.specs.Fmt.{digits}
 use Rattle.mx_canon.specs.Canonical.{canonical_text}
-use Rattle.mx_keeper.specs.declared.refusals.CallError.TheVariants.{Memory, Storage}
 use Rattle.mx_log.specs.declared.answers.LineRefusal.{LineRefusal}
 use Rattle.mx_log.specs.declared.answers.LineRefusal.TheVariants.{Step, Request}
 use Rattle.mx_log.specs.Lines.{lines_of}
@@ -90,17 +89,13 @@ refusal-told out line rest ended plain is =
 -- each line that stands in place of an answer is a refusal, and one line
 pub each-refuses : (r : LineRefusal) → list_any (bytes_eq (refusal_output r)) refusals ≡ true
 unfolding canonical_text chars digits
-each-refuses (Step Memory) = refl
-each-refuses (Step Storage) = refl
-each-refuses (Request Memory) = refl
-each-refuses (Request Storage) = refl
+each-refuses Step = refl
+each-refuses Request = refl
 
 each-plain : (r : LineRefusal) → has_newline (refusal_output r) ≡ false
 unfolding canonical_text chars digits
-each-plain (Step Memory) = refl
-each-plain (Step Storage) = refl
-each-plain (Request Memory) = refl
-each-plain (Request Storage) = refl
+each-plain Step = refl
+each-plain Request = refl
 
 pub refused : (out rest : List ℕ) (r : LineRefusal) → IsEnded out → has_refusal (out ++ (refusal_output r ++ 10 ∷ rest)) ≡ true
 refused out rest r ended = refusal-told out (refusal_output r) rest ended (each-plain r) (each-refuses r)

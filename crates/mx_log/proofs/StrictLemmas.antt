@@ -6,21 +6,16 @@ use Rattle.std.specs.Io.KnownBytes.{Appends}
 use Rattle.mx_redact.specs.Fields.{Event}
 use Rattle.mx_world.specs.Calls.{Start}
 use Rattle.mx_world.specs.View.{WorldView}
-use Rattle.mx_world.specs.declared.steps.Step.{Step}
 use Rattle.mx_world.specs.Worlds.{IsAfter}
 use Rattle.mx_pdu.specs.Offers.{Judge, offer_by}
 use Rattle.mx_pdu.specs.declared.offering.Offered.{Offered}
 use Rattle.mx_log.specs.LineOutputs.{has_refusal}
-use Rattle.mx_log.specs.LineRuns.{AreAnswered, IsDone, IsWritten}
+use Rattle.mx_log.specs.LineRuns.{AreAnswered, IsTold, answered, not_answered}
 use Rattle.mx_log.specs.LineReading.{AreTaken}
-use Rattle.mx_log.specs.LineRuns as written
 use Rattle.mx_log.specs.LineSteps.{AreRun, nothing_yet}
 use Rattle.mx_log.specs.Lines.{lines_of, read_line}
-use Rattle.mx_log.specs.LinesShown.{refusal_output}
 use Rattle.mx_log.specs.StrictLogs.{IsAnsweredToBad, first_bad, is_bad, up_to_bad}
-use Rattle.mx_log.specs.StrictRuns.{AreAnsweredToBad, AreSound, IsTold, answered, not_answered}
-use Rattle.mx_keeper.specs.declared.refusals.CallError.TheVariants.{Memory}
-use Rattle.mx_log.specs.declared.answers.LineRefusal.TheVariants as refusal
+use Rattle.mx_log.specs.StrictRuns.{AreAnsweredToBad, AreSound}
 use Rattle.mx_log.proofs.LogLemmas.{answered_more, answered_none, clean-before}
 use Rattle.mx_log.proofs.RefusalLineLemmas.{refused}
 
@@ -74,13 +69,13 @@ pub sound_more : {K L : Type 0} (offer : Event → Offered) (server : List ℕ) 
     → AreSound offer server start (lines ++ line ∷ []) before after w'
 unfolding answered_more
 sound_more offer server start lines line before between after w w' sound (answered output appends done told) = record {
-  so_far = answered_more offer server start lines line before between after w w' sound.so_far (written.answered output appends done);
+  so_far = answered_more {told = false} offer server start lines line before between after w w' sound.so_far (answered output appends done told);
   none = λ clean.
       first_behind offer 1 lines (line ∷ []) (sound.none (clean-before sound.so_far.written (output ++ 10 ∷ []) sound.so_far.ended clean))
       ∙ ap (λ b. if b then Some (1 + length lines, line) else None) (sym told);
 }
 sound_more offer server start lines line before between after w w' sound (not_answered refusal appends) = record {
-  so_far = answered_more offer server start lines line before between after w w' sound.so_far (written.not_answered refusal appends);
+  so_far = answered_more {told = false} offer server start lines line before between after w w' sound.so_far (not_answered refusal appends);
   none = λ clean. absurd (true≢false (sym (refused sound.so_far.written [] refusal sound.so_far.ended) ∙ clean));
 }
 
@@ -92,7 +87,7 @@ pub bad_more : {K L : Type 0} (offer : Event → Offered) (server : List ℕ) (s
 unfolding answered_more
 bad_more offer server start lines line rest before between after w w' number count sound (answered output appends done told) =
     let more : AreAnswered offer server start (lines ++ line ∷ []) before after w' =
-    answered_more offer server start lines line before between after w w' sound.so_far (written.answered output appends done) in
+    answered_more {told = true} offer server start lines line before between after w w' sound.so_far (answered output appends done told) in
     let none : has_refusal (sound.so_far.written ++ (output ++ 10 ∷ [])) ≡ false → first_bad offer 1 lines ≡ None =
     λ clean. sound.none (clean-before sound.so_far.written (output ++ 10 ∷ []) sound.so_far.ended clean) in
     record {
@@ -108,7 +103,7 @@ bad_more offer server start lines line rest before between after w w' number cou
     }
 bad_more offer server start lines line rest before between after w w' number count sound (not_answered refusal appends) =
     let more : AreAnswered offer server start (lines ++ line ∷ []) before after w' =
-    answered_more offer server start lines line before between after w w' sound.so_far (written.not_answered refusal appends) in
+    answered_more {told = true} offer server start lines line before between after w w' sound.so_far (not_answered refusal appends) in
     record {
       written = more.written;
       appends = more.appends;
@@ -149,13 +144,3 @@ strictly_answered judges server (Some read) before after bad done = (
   done.appends,
   λ clean. let run = done.run clean in (done.first clean, run.0, run.1),
 )
-
--- what is written for an answer, or for an answer that found no memory
-pub told_by : {K L : Type 0} (offer : Event → Offered)
-    (server text output : List ℕ) (wrote told : Bool) (old new : WorldView K L) (before after : Option (List ℕ))
-    → Appends before after ((if wrote then output else refusal_output (refusal.Step Memory)) ++ 10 ∷ []) → ((start : Start) (earlier : List Step)
-    → IsAfter start earlier old
-    → IsDone offer server (read_line offer text) output start earlier new) → told ≡ is_bad (read_line offer text)
-    → IsTold offer server text old new before after told
-told_by offer server text output true told old new before after appends done is = answered output appends done is
-told_by offer server text output false told old new before after appends done is = not_answered (refusal.Step Memory) appends

@@ -57,7 +57,8 @@ text_of_three name a x b y c z =
 
 -- ---- keys that all pass a test
 
-passes-put : (test : List ℕ → Bool) (o : Ordering) (k l : List ℕ) (d e : Data) (ms : Members) → test k ≡ true → test l ≡ true → list_all test (keys_of ms) ≡ true → list_all test (keys_of (put k d ms)) ≡ true
+passes-put : (test : List ℕ → Bool) (o : Ordering) (k l : List ℕ) (d e : Data) (ms : Members) → test k ≡ true → test l ≡ true
+    → list_all test (keys_of ms) ≡ true → list_all test (keys_of (put k d ms)) ≡ true
     → list_all test (keys_of (match_ordering o (member k d (member l e ms)) (member l d ms) (member l e (put k d ms)))) ≡ true
 passes-put test Less k l d e ms first next rest later = rw (first, next) rest
 passes-put test Equal k l d e ms first next rest later = rw next rest

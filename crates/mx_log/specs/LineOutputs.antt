@@ -16,7 +16,7 @@ use Rattle.mx_world.specs.declared.steps.StepReply.TheVariants.{OfRoom, Opened, 
 use Rattle.mx_log.specs.Lines.{lines_of}
 use Rattle.mx_requests.specs.ReplyBodies.{Response, failure}
 use Rattle.mx_requests.specs.declared.faults.Fault.{Fault}
-use Rattle.mx_requests.specs.declared.faults.Fault.TheVariants.{Memory, Storage}
+use Rattle.mx_requests.specs.declared.faults.Fault.TheVariants.{Memory}
 
 abbrev pub one_member : List ℕ → Data → List ℕ
 one_member key d = canonical_text (object (member key d no_members))
@@ -73,19 +73,14 @@ abbrev pub response_output : Response → List ℕ
 response_output r =
     123 ∷ string_text (codes "body") ++ (58 ∷ r.body ++ (44 ∷ string_text (codes "status") ++ (58 ∷ decimal r.status ++ 125 ∷ [])))
 
--- ---- refusals for memory or storage
+-- ---- refusals for memory
 
 abbrev pub fault_output : Fault → List ℕ
 fault_output f = response_output (failure f)
 
 abbrev pub refusals : List (List ℕ)
-refusals =
-    error_output (codes "memory")
-    ∷ error_output (codes "storage")
-    ∷ fault_output Memory
-    ∷ fault_output Storage
-    ∷ []
+refusals = error_output (codes "memory") ∷ fault_output Memory ∷ []
 
--- some line of an output is a refusal for memory or storage
+-- some line of an output is a refusal for memory
 abbrev pub has_refusal : List ℕ → Bool
 has_refusal output = list_any (λ line. list_any (bytes_eq line) refusals) (lines_of output)

@@ -5,6 +5,7 @@ use Rattle.mx_log.specs.declared.lines.Line as program
 use Rattle.mx_log.specs.declared.lines.Line.TheVariants as line
 use Rattle.mx_log.specs.declared.answers.LineAnswer.{LineAnswer}
 use Rattle.mx_log.specs.declared.answers.LineAnswer.TheVariants as answer
+use Rattle.mx_keeper.specs.declared.refusals.CallError.{CallError}
 use Rattle.mx_keeper.specs.declared.refusals.CallError.TheVariants as call
 use Rattle.mx_log.specs.declared.answers.LineRefusal.{LineRefusal}
 use Rattle.mx_log.specs.declared.answers.LineRefusal.TheVariants as refusal
@@ -33,7 +34,10 @@ answer_output (answer.Response reply) = response_output (reply_shown reply)
 
 -- what is written in place of an answer
 abbrev pub refusal_output : LineRefusal → List ℕ
-refusal_output (refusal.Step call.Memory) = error_output (codes "memory")
-refusal_output (refusal.Step call.Storage) = error_output (codes "storage")
-refusal_output (refusal.Request call.Memory) = fault_output fault.Memory
-refusal_output (refusal.Request call.Storage) = fault_output fault.Storage
+refusal_output refusal.Step = error_output (codes "memory")
+refusal_output refusal.Request = fault_output fault.Memory
+
+-- why a step was refused
+abbrev pub call_error_output : CallError → List ℕ
+call_error_output call.Memory = error_output (codes "memory")
+call_error_output call.Storage = error_output (codes "storage")

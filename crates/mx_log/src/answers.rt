@@ -1,12 +1,9 @@
 // What a line is answered.
-ghost use Rattle.std.specs.Prelude.{◌≡◌};
-
 pub(crate) mod step_texts;
 pub(crate) mod writing;
 
 use mx_requests::WireReply;
-use mx_world::{CallError, StepReply};
-use std::alloc::AllocError;
+use mx_world::StepReply;
 
 /// The answer to a line.
 #[derive(Drop)]
@@ -19,30 +16,10 @@ pub(crate) enum LineAnswer {
     Response(WireReply),
 }
 
-/// Why a line is refused, and what it has.
+/// What a line is that is refused for want of memory.
 #[derive(Clone, Copy, Drop)]
 pub(crate) enum LineRefusal {
-    Step(CallError),
-    Request(CallError),
-}
-
-impl From<AllocError> for LineRefusal {
-    ghost use Rattle.std.specs.Prelude.{◌≡◌};
-    ghost use Rattle.mx_keeper.specs.declared.refusals.CallError.TheVariants.{Memory};
-    ghost use Rattle.mx_log.specs.declared.answers.LineRefusal.TheVariants.{Request};
-
-    ghost from_gives = { λ _ refusal. refusal ≡ Request Memory };
-
-    fn from(_refused: AllocError) -> LineRefusal {
-        LineRefusal::Request(CallError::Memory)
-    }
-}
-
-impl LineRefusal {
-    /// Why a line is refused where no memory is left to read it.
-    pub fn unread(_refused: AllocError) -> LineRefusal
-        ensures { result ≡ LineRefusal.Step CallError.Memory }
-    {
-        LineRefusal::Step(CallError::Memory)
-    }
+    // A step, or it could not be read.
+    Step,
+    Request,
 }

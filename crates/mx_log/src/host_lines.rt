@@ -9,8 +9,8 @@ ghost use Rattle.mx_step_replies.specs.Steps.{step_shown, host_step};
 ghost use Rattle.mx_log.specs.Lines.{malformed_host, read_line as line_of, step_line};
 ghost use Rattle.mx_log.specs.LinesShown.{line_shown};
 
-use crate::answers::writing::{write_answer, write_refusal};
-use crate::answers::{LineAnswer, LineRefusal};
+use crate::answers::LineAnswer;
+use crate::answers::writing::{write_answer, write_error};
 use crate::lines::{Line, read_line};
 use json::Scratch;
 use mx_keeper::{BookRow, Keeper, ShardRow};
@@ -110,7 +110,7 @@ pub fn host_by_line<K: Keeper<Row = ShardRow>, L: Keeper<Row = BookRow>, V: Veri
             Ok(HostLineOutcome::NotHosted)
         }
         Err(error) => {
-            write_refusal(err, LineRefusal::Step(error))?;
+            write_error(err, error)?;
             Ok(HostLineOutcome::Refused(error))
         }
     }

@@ -2,12 +2,14 @@
 #![tactic(auto)]
 
 mod answers;
+mod desks;
 mod host_lines;
 mod input;
 mod line_reader;
 mod lines;
 mod log_servers;
 mod logs;
+mod memory_worlds;
 mod steps;
 mod strict_logs;
 mod watching;

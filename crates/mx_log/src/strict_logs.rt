@@ -7,23 +7,18 @@ ghost use Rattle.mx_world.specs.Worlds.{IsAfter};
 ghost use Rattle.mx_log.specs.LineOutputs.{has_refusal};
 ghost use Rattle.mx_log.specs.Lines.{lines_of};
 ghost use Rattle.mx_log.specs.StrictLogs.{IsAnsweredToBad, bad_shown};
-ghost use Rattle.mx_log.specs.StrictRuns.{AreAnsweredToBad, IsTold};
+ghost use Rattle.mx_log.specs.StrictRuns.{AreAnsweredToBad};
 
-use crate::answers::LineRefusal;
-use crate::answers::writing::{write_answer, write_refusal};
+use crate::desks::LineDesk;
 use crate::line_reader::LineReader;
-use crate::lines::read_line;
-use crate::logs::{LinesError, new_world};
-use crate::steps::answer_line;
-use crate::watching::{LineDesk, Nobody};
-use json::Scratch;
+use crate::logs::{LinesError, answer_told};
+use crate::watching::Nobody;
 use mx_ident::ServerName;
-use mx_keeper::{BookRow, Keeper, ShardCount, ShardRow};
+use mx_keeper::ShardCount;
 use mx_pdu::Verifier;
 use mx_requests::WireServer;
-use mx_world::World;
 use std::alloc::Global;
-use std::io::{self, Read, Write};
+use std::io::{Read, Write};
 
 /// A line of a log that has no form: its number, from 1, and its text.
 #[derive(Debug, Drop)]
@@ -35,7 +30,7 @@ pub struct BadLine {
 /// Answers a log as [`run_lines`](crate::run_lines) does, with the same errors, up to its first bad line, that one too, and gives
 /// that line; none where no line is bad. The lines behind it are not answered.
 ///
-/// Where no line of what is written is a refusal for memory or storage, the line that is given is the first bad one, and what is
+/// Where no line of what is written is a refusal for memory, the line that is given is the first bad one, and what is
 /// written is what the steps of the lines up to it call for. Nothing is promised of what was written before an error.
 ///
 /// Source: the lines are our own; the requests that they hold are those of the Matrix specification, Server-Server API.
@@ -53,75 +48,33 @@ pub fn run_lines_to_bad<R: Read, W: Write, V: Verifier>(
 {
     let name = name.clone()?;
     let server = WireServer::new(alloc, name)?;
-    let mut world = new_world(alloc, shards)?;
-    let bad = answer_to_bad(alloc, &server, verifier, &mut world, input, out)?;
+    let mut desk = LineDesk::new(alloc, shards, Nobody)?;
+    let bad = answer_to_bad(&server, verifier, &mut desk, input, out)?;
     Ok(bad)
 }
 
 // Each line of a log up to the first bad one, answered.
-fn answer_to_bad<
-    K: Keeper<Row = ShardRow>,
-    L: Keeper<Row = BookRow>,
-    V: Verifier,
-    R: Read,
-    W: Write,
->(
-    alloc: Global,
+fn answer_to_bad<V: Verifier, R: Read, W: Write>(
     server: &WireServer,
     verifier: &V,
-    world: &mut World<K, L>,
+    desk: &mut LineDesk<Nobody>,
     input: &mut R,
     out: &mut W,
 ) -> Result<Option<BadLine>, LinesError>
-    ensures { IfOk result (λ bad. (start : Start) → IsAfter start [] world.old → IfSome (R.remaining input.old) (λ read.
-        AreAnsweredToBad (offer_by (V.judges verifier.now)) server.now.name start (lines_of read) (W.contents out.old) (W.contents out.new)
-        (option_map bad_shown bad))) }
+    ensures { IfOk result (λ bad. (start : Start) → IsAfter start [] desk.old.rooms.world
+        → IfSome (R.remaining input.old) (λ read.
+        AreAnsweredToBad (offer_by (V.judges verifier.now)) server.now.name start (lines_of read)
+        (W.contents out.old) (W.contents out.new) (option_map bad_shown bad))) }
 {
-    let mut desk = LineDesk {
-        scratch: Scratch::new(alloc),
-        watcher: Nobody,
-    };
+    let alloc = desk.alloc;
     let mut lines = LineReader::new(alloc)?;
     let mut line = Vec::new(alloc);
     let mut number = 0u64;
     while lines.next_line(alloc, input, &mut line)? {
         number = number.checked_add(1).ok_or(LinesError::Read)?;
-        if answer_told(alloc, server, verifier, world, &mut desk, &line, out)? {
+        if answer_told(server, verifier, desk, &line, out)? {
             return Ok(Some(BadLine { number, text: line }));
         }
     }
     Ok(None)
-}
-
-// The line that a text is, answered; and whether it is bad.
-fn answer_told<K: Keeper<Row = ShardRow>, L: Keeper<Row = BookRow>, V: Verifier, W: Write>(
-    alloc: Global,
-    server: &WireServer,
-    verifier: &V,
-    world: &mut World<K, L>,
-    desk: &mut LineDesk<Nobody>,
-    text: &[u8],
-    out: &mut W,
-) -> io::Result<bool>
-    ensures { IfOk result (λ is_bad. IsTold (offer_by (V.judges verifier.now)) server.now.name text.now world.old world.new
-        (W.contents out.old) (W.contents out.new) is_bad) }
-{
-    let line = match read_line(alloc, &mut desk.scratch, verifier, text) {
-        Ok(line) => line,
-        Err(refused) => {
-            write_refusal(out, LineRefusal::unread(refused))?;
-            return Ok(false);
-        }
-    };
-    let is_bad = line.is_bad();
-    match answer_line(alloc, server, verifier, world, desk, line) {
-        Ok(answer) => {
-            let _told = write_answer(alloc, out, &answer)?;
-            Ok(is_bad)
-        }
-        Err(refusal) => {
-            write_refusal(out, refusal)?;
-            Ok(is_bad)
-        }
-    }
 }

@@ -1,5 +1,4 @@
 // Who is told what the lines of a log do.
-use json::Scratch;
 use mx_world::{Step, StepReply};
 
 /// What a line of a log is.
@@ -33,11 +32,4 @@ impl LogWatcher for Nobody {
     fn see_line(&mut self, _text: &[u8], _form: LineForm) {}
 
     fn see_step(&mut self, _step: &Step, _reply: &StepReply) {}
-}
-
-/// What is kept from line to line of a log: memory for reading, and who is told.
-#[derive(Drop)]
-pub(crate) struct LineDesk<W: LogWatcher + Drop> {
-    pub(crate) scratch: Scratch,
-    pub(crate) watcher: W,
 }

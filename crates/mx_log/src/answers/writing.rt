@@ -3,13 +3,14 @@ ghost use Rattle.std.specs.Prelude.{◌≡◌, ◌∷◌, [], ◌++◌, IfOk, On
 ghost use Rattle.std.specs.Io.KnownBytes.{Appends};
 ghost use Rattle.mx_world.specs.declared.steps.StepReply.{StepReply};
 ghost use Rattle.mx_log.specs.LineOutputs.{bad_output, refused_output, response_output, step_output};
-ghost use Rattle.mx_log.specs.LinesShown.{answer_output, refusal_output};
+ghost use Rattle.mx_log.specs.LinesShown.{answer_output, call_error_output, refusal_output};
 ghost use Rattle.mx_requests.specs.RepliesShown.{reply_shown};
 
 use crate::answers::step_texts::step_line;
 use crate::answers::{LineAnswer, LineRefusal};
+use mx_keeper::CallError;
 use mx_requests::WireReply;
-use mx_world::{CallError, StepReply};
+use mx_world::StepReply;
 use std::alloc::Global;
 use std::io;
 use std::io::Write;
@@ -28,35 +29,25 @@ pub(crate) fn malformed_line() -> &'static [u8]
     b"{\"refused\":\"malformed\"}"
 }
 
-/// The line that stands in place of an answer, without its newline. It takes no memory.
-pub(crate) fn refusal_line(refusal: LineRefusal) -> &'static [u8]
+// The line that stands in place of an answer, without its newline.
+fn refusal_line(refusal: LineRefusal) -> &'static [u8]
     ensures { result.now ≡ refusal_output refusal }
 {
     match refusal {
-        LineRefusal::Step(error) => step_refusal_line(error),
-        LineRefusal::Request(error) => request_refusal_line(error),
+        LineRefusal::Step => b"{\"error\":\"memory\"}",
+        LineRefusal::Request => {
+            b"{\"body\":{\"errcode\":\"M_UNKNOWN\",\"error\":\"memory\"},\"status\":503}"
+        }
     }
 }
 
-fn step_refusal_line(error: CallError) -> &'static [u8]
-    ensures { result.now ≡ refusal_output (LineRefusal.Step error) }
+// The line that tells why a step was refused, without its newline.
+fn error_line(error: CallError) -> &'static [u8]
+    ensures { result.now ≡ call_error_output error }
 {
     match error {
         CallError::Memory => b"{\"error\":\"memory\"}",
         CallError::Storage => b"{\"error\":\"storage\"}",
-    }
-}
-
-fn request_refusal_line(error: CallError) -> &'static [u8]
-    ensures { result.now ≡ refusal_output (LineRefusal.Request error) }
-{
-    match error {
-        CallError::Memory => {
-            b"{\"body\":{\"errcode\":\"M_UNKNOWN\",\"error\":\"memory\"},\"status\":503}"
-        }
-        CallError::Storage => {
-            b"{\"body\":{\"errcode\":\"M_UNKNOWN\",\"error\":\"storage\"},\"status\":503}"
-        }
     }
 }
 
@@ -70,7 +61,7 @@ pub(crate) fn write_answer<W: Write>(
     answer: &LineAnswer,
 ) -> io::Result<bool>
     ensures written { IfOk result (λ told. Appends (W.contents out.old) (W.contents out.new)
-        ((if told then answer_output answer.now else refusal_output (LineRefusal.Step CallError.Memory)) ++ 10 ∷ [])) }
+        ((if told then answer_output answer.now else refusal_output LineRefusal.Step) ++ 10 ∷ [])) }
     ensures refused { IfOk result (λ told. told ≡ false
         → (reply : StepReply) × (answer.now ≡ LineAnswer.Step reply)) }
 {
@@ -99,10 +90,18 @@ pub(crate) fn write_refusal<W: Write>(out: &mut W, refusal: LineRefusal) -> io::
     Ok(())
 }
 
+/// Writes why a step was refused, and a newline. It takes no memory.
+pub(crate) fn write_error<W: Write>(out: &mut W, error: CallError) -> io::Result<()>
+    ensures { OnOk result (Appends (W.contents out.old) (W.contents out.new) (call_error_output error ++ 10 ∷ [])) }
+{
+    write_line(out, error_line(error))?;
+    Ok(())
+}
+
 // The reply to a step, or the refusal for memory.
 fn write_step<W: Write>(alloc: Global, out: &mut W, reply: &StepReply) -> io::Result<bool>
     ensures { IfOk result (λ told. Appends (W.contents out.old) (W.contents out.new)
-        ((if told then step_output reply.now else refusal_output (LineRefusal.Step CallError.Memory)) ++ 10 ∷ [])) }
+        ((if told then step_output reply.now else refusal_output LineRefusal.Step) ++ 10 ∷ [])) }
 {
     match step_line(alloc, reply) {
         Ok(line) => {
@@ -110,7 +109,7 @@ fn write_step<W: Write>(alloc: Global, out: &mut W, reply: &StepReply) -> io::Re
             Ok(true)
         }
         Err(_) => {
-            write_refusal(out, LineRefusal::Step(CallError::Memory))?;
+            write_refusal(out, LineRefusal::Step)?;
             Ok(false)
         }
     }

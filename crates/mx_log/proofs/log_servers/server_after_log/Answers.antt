@@ -12,5 +12,6 @@ returns g c =
     let judges = g.V.Verifier.judges c.args.verifier.now in
     let read = g.R.Read.remaining c.args.input.now in
     let named : c.in_ok-server.server.name ≡ c.args.name.now = search rules in
-    let P : List ℕ → Type 0 = λ name. IfSome read (λ read. (output : List ℕ) × AreRunSoFar (offer_by judges) name nothing_yet (lines_of read) output c.take_log.new.world) in
-    server_after judges c.args.name.now read c.take_log.new.world (subst P named (c.in_ok-take_log.ensures nothing_yet c.in_ok-world.ensures))
+    let P : List ℕ → Type 0 = λ name.
+    IfSome read (λ read. (output : List ℕ) × AreRunSoFar (offer_by judges) name nothing_yet (lines_of read) output c.take_log.new.desk.rooms.world) in
+    server_after judges c.args.name.now read c.take_log.new.desk.rooms.world (subst P named (c.in_ok-take_log.ensures nothing_yet c.in_ok-desk.ensures))

@@ -11,7 +11,7 @@ pub loop-line-init : goal.loop-line-init
 loop-line-init g c = (
   [],
   taken_none (g.R.Read.remaining c.args.input.now) (held c.in_ok-lines.lines) c.in_ok-lines.ensures,
-  λ start now. ([], none_so_far (offer_by (g.V.Verifier.judges c.args.verifier.now)) c.args.server.now.name start c.args.world.now now),
+  λ start now. ([], none_so_far (offer_by (g.V.Verifier.judges c.args.verifier.now)) c.args.server.now.name start c.args.desk.now.rooms.world now),
 )
 
 pub loop-line-preserved : goal.loop-line-preserved
@@ -19,10 +19,11 @@ loop-line-preserved g c =
     let lines : List (List ℕ) = c.loop-line.invariant.0 in
     let line : List ℕ = c.next_line.new.line.items in (
       lines ++ line ∷ [],
-      taken_more (g.R.Read.remaining c.args.input.now) (left c.loop-line.lines (g.R.Read.remaining c.loop-line.input)) (left c.next_line.new.self (g.R.Read.remaining c.next_line.new.input)) lines line
+      taken_more (g.R.Read.remaining c.args.input.now) (left c.loop-line.lines (g.R.Read.remaining c.loop-line.input))
+          (left c.next_line.new.self (g.R.Read.remaining c.next_line.new.input)) lines line
           c.loop-line.invariant.1 (c.in_ok-next_line.ensures.line (ap Ok c.if-branch.true)),
       λ start now.
-          line_done (offer_by (g.V.Verifier.judges c.args.verifier.now)) c.args.server.now.name start lines line c.loop-line.world c.take_text.new.world
+          line_done (offer_by (g.V.Verifier.judges c.args.verifier.now)) c.args.server.now.name start lines line c.loop-line.desk.rooms.world c.take_text.new.desk.rooms.world
           (c.loop-line.invariant.2 start now) (rw c.deref.ensures.value at c.in_ok-take_text.ensures),
     )
 
@@ -31,7 +32,7 @@ returns g c = λ start now.
     let lines : List (List ℕ) = c.loop-line.invariant.0 in
     let read : Option (List ℕ) = g.R.Read.remaining c.args.input.now in
     of_all
-    (λ ls. (output : List ℕ) × AreRunSoFar (offer_by (g.V.Verifier.judges c.args.verifier.now)) c.args.server.now.name start ls output c.loop-line.world)
+    (λ ls. (output : List ℕ) × AreRunSoFar (offer_by (g.V.Verifier.judges c.args.verifier.now)) c.args.server.now.name start ls output c.loop-line.desk.rooms.world)
     read lines
     (taken_all read (left c.loop-line.lines (g.R.Read.remaining c.loop-line.input)) lines c.loop-line.invariant.1 (c.in_ok-next_line.ensures.none (ap Ok c.if-branch.false)))
     (c.loop-line.invariant.2 start now)

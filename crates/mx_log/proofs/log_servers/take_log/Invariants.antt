@@ -9,7 +9,8 @@ use Rattle.mx_log.proofs.log_servers.take_log.Given as goal
 -- the lines so far are done, and the others are left
 abbrev pub invariant-loop-line : goal.invariant-loop-line
 invariant-loop-line g l = (lines : List (List ℕ)) × AreTaken (g.R.Read.remaining l.fn.input) (left l.lines (g.R.Read.remaining l.input)) lines
-    × ((start : Start) → IsAfter start [] l.fn.world → (output : List ℕ) × AreRunSoFar (offer_by (g.V.Verifier.judges l.fn.verifier)) l.fn.server.name start lines output l.world)
+    × ((start : Start) → IsAfter start [] l.fn.desk.rooms.world
+    → (output : List ℕ) × AreRunSoFar (offer_by (g.V.Verifier.judges l.fn.verifier)) l.fn.server.name start lines output l.desk.rooms.world)
 
 -- the lines and the reads to come
 abbrev pub decreases-loop-line : goal.decreases-loop-line

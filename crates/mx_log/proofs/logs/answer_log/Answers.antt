@@ -10,7 +10,7 @@ pub loop-line-init : goal.loop-line-init
 loop-line-init g c = (
   [],
   taken_none (g.R.Read.remaining c.args.input.now) (held c.in_ok-lines.lines) c.in_ok-lines.ensures,
-  λ start now. answered_none (offer_by (g.V.Verifier.judges c.args.verifier.now)) c.args.server.now.name start (g.W.Write.contents c.args.out.now) c.args.world.now now,
+  λ start now. answered_none (offer_by (g.V.Verifier.judges c.args.verifier.now)) c.args.server.now.name start (g.W.Write.contents c.args.out.now) c.args.desk.now.rooms.world now,
 )
 
 pub loop-line-preserved : goal.loop-line-preserved
@@ -18,12 +18,13 @@ loop-line-preserved g c =
     let lines : List (List ℕ) = c.loop-line.invariant.0 in
     let line : List ℕ = c.next_line.new.line.items in (
       lines ++ line ∷ [],
-      taken_more (g.R.Read.remaining c.args.input.now) (left c.loop-line.lines (g.R.Read.remaining c.loop-line.input)) (left c.next_line.new.self (g.R.Read.remaining c.next_line.new.input)) lines line
+      taken_more (g.R.Read.remaining c.args.input.now) (left c.loop-line.lines (g.R.Read.remaining c.loop-line.input))
+          (left c.next_line.new.self (g.R.Read.remaining c.next_line.new.input)) lines line
           c.loop-line.invariant.1 (c.in_ok-next_line.ensures.line (ap Ok c.if-branch.true)),
       λ start now.
-          answered_more (offer_by (g.V.Verifier.judges c.args.verifier.now)) c.args.server.now.name start lines line
-          (g.W.Write.contents c.args.out.now) (g.W.Write.contents c.loop-line.out) (g.W.Write.contents c.answer_text.new.out)
-          c.loop-line.world c.answer_text.new.world (c.loop-line.invariant.2 start now) (rw c.deref.ensures.value at c.in_ok-answer_text.ensures),
+          answered_more {told = c.in_ok-_is_bad._is_bad} (offer_by (g.V.Verifier.judges c.args.verifier.now)) c.args.server.now.name start lines line
+          (g.W.Write.contents c.args.out.now) (g.W.Write.contents c.loop-line.out) (g.W.Write.contents c.answer_told.new.out)
+          c.loop-line.desk.rooms.world c.answer_told.new.desk.rooms.world (c.loop-line.invariant.2 start now) (rw c.deref.ensures.value at c.in_ok-_is_bad.ensures),
     )
 
 pub returns : goal.returns
@@ -31,7 +32,8 @@ returns g c = λ start now.
     let lines : List (List ℕ) = c.loop-line.invariant.0 in
     let read : Option (List ℕ) = g.R.Read.remaining c.args.input.now in
     of_all
-    (λ ls. AreAnswered (offer_by (g.V.Verifier.judges c.args.verifier.now)) c.args.server.now.name start ls (g.W.Write.contents c.args.out.now) (g.W.Write.contents c.loop-line.out) c.loop-line.world)
+    (λ ls. AreAnswered (offer_by (g.V.Verifier.judges c.args.verifier.now)) c.args.server.now.name start ls
+    (g.W.Write.contents c.args.out.now) (g.W.Write.contents c.loop-line.out) c.loop-line.desk.rooms.world)
     read lines
     (taken_all read (left c.loop-line.lines (g.R.Read.remaining c.loop-line.input)) lines c.loop-line.invariant.1 (c.in_ok-next_line.ensures.none (ap Ok c.if-branch.false)))
     (c.loop-line.invariant.2 start now)

@@ -9,7 +9,9 @@ use Rattle.mx_log.proofs.logs.answer_log.Given as goal
 -- the lines so far are answered, and the others are left
 abbrev pub invariant-loop-line : goal.invariant-loop-line
 invariant-loop-line g l = (lines : List (List ℕ)) × AreTaken (g.R.Read.remaining l.fn.input) (left l.lines (g.R.Read.remaining l.input)) lines
-    × ((start : Start) → IsAfter start [] l.fn.world → AreAnswered (offer_by (g.V.Verifier.judges l.fn.verifier)) l.fn.server.name start lines (g.W.Write.contents l.fn.out) (g.W.Write.contents l.out) l.world)
+    × ((start : Start) → IsAfter start [] l.fn.desk.rooms.world
+    → AreAnswered (offer_by (g.V.Verifier.judges l.fn.verifier)) l.fn.server.name start lines
+    (g.W.Write.contents l.fn.out) (g.W.Write.contents l.out) l.desk.rooms.world)
 
 -- the lines and the reads to come
 abbrev pub decreases-loop-line : goal.decreases-loop-line

@@ -14,6 +14,6 @@ returns g c =
     let before = g.W.Write.contents c.args.out.now in
     let after = g.W.Write.contents c.answer_log.new.out in
     let named : c.in_ok-server.server.name ≡ c.args.name.now = search rules in
-    let P : List ℕ → Type 0 = λ name. IfSome read (λ read. AreAnswered (offer_by judges) name nothing_yet (lines_of read) before after c.answer_log.new.world) in
-    log_answered judges c.args.name.now read before after c.answer_log.new.world
-    (subst P named (c.in_ok-answer_log.ensures nothing_yet c.in_ok-world.ensures))
+    let P : List ℕ → Type 0 = λ name. IfSome read (λ read. AreAnswered (offer_by judges) name nothing_yet (lines_of read) before after c.answer_log.new.desk.rooms.world) in
+    log_answered judges c.args.name.now read before after c.answer_log.new.desk.rooms.world
+    (subst P named (c.in_ok-answer_log.ensures nothing_yet c.in_ok-desk.ensures))

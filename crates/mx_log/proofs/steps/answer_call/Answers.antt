@@ -7,4 +7,4 @@ use Rattle.mx_log.proofs.steps.answer_call.Goals as goal
 pub returns : goal.returns
 returns g c = λ start earlier now.
     taken_called c.args.name.now c.args.now (call_shown c.args.call) (step_shown c.first_step_of-first.result) c.in_ok-last.last (reply_shown c.in_ok-reply.reply)
-    start earlier c.last_reply.new.world c.first_step_of-first.ensures (c.in_ok-last.ensures start earlier now) c.in_ok-reply.ensures
+    start earlier c.last_reply.new.desk.rooms.world c.first_step_of-first.ensures (c.in_ok-last.ensures.ok start earlier now) c.in_ok-reply.ensures

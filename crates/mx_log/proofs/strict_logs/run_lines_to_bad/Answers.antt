@@ -18,4 +18,4 @@ returns g c =
     let named : c.in_ok-server.server.name ≡ c.args.name.now = search rules in
     let P : List ℕ → Type 0 = λ name. IfSome read (λ read. AreAnsweredToBad (offer_by judges) name nothing_yet (lines_of read) before after bad) in
     strictly_answered judges c.args.name.now read before after bad
-    (subst P named (c.in_ok-bad.ensures nothing_yet c.in_ok-world.ensures))
+    (subst P named (c.in_ok-bad.ensures nothing_yet c.in_ok-desk.ensures))

@@ -1,4 +1,4 @@
-use Rattle.std.proofs.Common.{◌≡◌, ◌<◌, List, ℕ, [], true, false, not, Ok, ap, length, vec_len}
+use Rattle.std.proofs.Common.{◌≡◌, ◌<◌, [], true, false, not, Ok, ap, length, vec_len}
 use Rattle.std.proofs.lemmas.Bool.{not-true, not-false}
 use Rattle.mx_log.specs.LineReading.{left}
 use Rattle.mx_log.proofs.LineReadingLemmas.{ended_taken, last_taken, none-left, none_taken, some-left}

@@ -4,7 +4,8 @@ use Rattle.mx_log.proofs.LineRunLemmas.{lines-first}
 use Rattle.mx_log.proofs.lines.splitting.first_line.Goals as goal
 
 -- the first line and what is left without its newline
-parted : (text line rest after : List ℕ) (n : ℕ) → lines_of text ≡ take n text ∷ lines_of (drop 1 (drop n text)) → line ≡ take n text → rest ≡ drop n text → drop 1 rest ≡ after → lines_of text ≡ line ∷ lines_of after
+parted : (text line rest after : List ℕ) (n : ℕ) → lines_of text ≡ take n text ∷ lines_of (drop 1 (drop n text)) → line ≡ take n text
+    → rest ≡ drop n text → drop 1 rest ≡ after → lines_of text ≡ line ∷ lines_of after
 parted text line rest after n first front back step =
     first ∙ ap (λ l. l ∷ lines_of (drop 1 (drop n text))) (sym front)
     ∙ ap (λ l. line ∷ lines_of l) (ap (λ l. drop 1 l) (sym back) ∙ step)

@@ -5,16 +5,16 @@ use Rattle.mx_log.proofs.CallStepLemmas.{none_taken, taken_more}
 use Rattle.mx_log.proofs.steps.sequences.repeat.Goals as goal
 
 pub loop-turn-init : goal.loop-turn-init
-loop-turn-init g c = (λ key is start earlier now. none_taken key start earlier c.args.world.now now, omega arith)
+loop-turn-init g c = (λ key is start earlier now. none_taken key start earlier c.args.desk.now.rooms.world now, omega arith)
 
 pub loop-turn-preserved : goal.loop-turn-preserved
 loop-turn-preserved g c = (
   λ key is start earlier now.
       let before = c.loop-turn.invariant.0 key is start earlier now in
-      let passed = c.in_ok-pass.ensures in
-      let P : Step → Type 0 = λ x. IsTaken start (earlier ++ before.steps) x passed.0 c.pass.new.world in
-      let taken = subst P is (passed.1 start (earlier ++ before.steps) before.done.after) in
-      let Q : ℕ → Type 0 = λ n. AreTaken key n start earlier c.pass.new.world in
-      subst Q (sym (add-one c.loop-turn._turn)) (taken_more key c.loop-turn._turn start earlier passed.0 c.loop-turn.world c.pass.new.world before taken),
+      let P : Step → Type 0 = λ x. IsTaken start (earlier ++ before.steps) x c.in_ok-_reply._reply c.take.new.self.rooms.world in
+      let taken = subst P is (c.in_ok-_reply.ensures.ok start (earlier ++ before.steps) before.done.after) in
+      let Q : ℕ → Type 0 = λ n. AreTaken key n start earlier c.take.new.self.rooms.world in
+      subst Q (sym (add-one c.loop-turn._turn))
+      (taken_more key c.loop-turn._turn start earlier c.in_ok-_reply._reply c.loop-turn.desk.rooms.world c.take.new.self.rooms.world before taken),
   omega arith,
 )

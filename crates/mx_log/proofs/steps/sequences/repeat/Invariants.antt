@@ -9,5 +9,6 @@ use Rattle.mx_log.proofs.steps.sequences.repeat.Given as goal
 
 -- so many turns were taken
 abbrev pub invariant-loop-turn : goal.invariant-loop-turn
-invariant-loop-turn g l = ((key : TransactionKey) → l.fn.step ≡ Next key → (start : Start) (earlier : List Step) → IsAfter start earlier l.fn.world → AreTaken key l._turn start earlier l.world)
+invariant-loop-turn g l = ((key : TransactionKey) → l.fn.step ≡ Next key → (start : Start) (earlier : List Step)
+    → IsAfter start earlier l.fn.desk.rooms.world → AreTaken key l._turn start earlier l.desk.rooms.world)
     × (l._turn ≤ l.fn.count)

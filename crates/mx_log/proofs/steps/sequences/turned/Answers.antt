@@ -5,5 +5,5 @@ use Rattle.mx_log.proofs.steps.sequences.turned.Goals as goal
 pub returns : goal.returns
 returns g c = λ start earlier now.
     let before = c.in_ok-turns.ensures start earlier now in
-    all_turned c.args.key.now c.args.count start earlier c.in_ok-last.last c.turns.new.world c.closed.new.world before
+    all_turned c.args.key.now c.args.count start earlier c.in_ok-last.last c.turns.new.desk.rooms.world c.closed.new.desk.rooms.world before
     (c.in_ok-last.ensures start (earlier ++ before.steps) before.done.after)
