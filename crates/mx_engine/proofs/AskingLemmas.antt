@@ -1,5 +1,5 @@
 -- Queries that are put to each shard.
-use Rattle.std.proofs.Common.{◌≡◌, ◌≢◌, ℕ, ◌<◌, ◌+◌, ◌||◌, Bool, true, false, true≢false, List, ◌++◌, length, set, append-nil, refl, sym, ◌∙◌, ap, subst, arith}
+use Rattle.std.proofs.Common.{◌≡◌, ◌≢◌, ℕ, ◌<◌, ◌+◌, ◌||◌, Bool, true, false, true≢false, List, ◌++◌, length, get_or, set, append-nil, refl, sym, ◌∙◌, ap, subst, arith}
 use Rattle.std.specs.Prelude.{Option, None, Some, Result, Ok, Err}
 use Rattle.std.specs.Result.{IsErrAnd}
 use native.Mathlib.Decide.{ℕ_discrete}
@@ -7,11 +7,15 @@ use mathlib.Core.Logic.{dite}
 use Rattle.std.proofs.lemmas.List.{length-set, get_or-set_same}
 use Rattle.mx_dock.specs.Dock.{own}
 use Rattle.mx_dock.specs.declared.berths.Berth.{Berth}
+use Rattle.mx_dock.specs.declared.docks.Dock.{Dock}
 use Rattle.mx_dock.proofs.ViewLemmas.{prefix_trans}
 use Rattle.mx_room.specs.Queries.{room_named}
 use Rattle.mx_room.specs.declared.queries.Query.{Query}
 use Rattle.mx_room.specs.declared.queries.Denied.TheVariants.{NotFound}
 use Rattle.mx_receipt.specs.Receipt.{Kept}
+use Rattle.crossbeam_utils.specs.declared.cache_padded.CachePadded.{CachePadded}
+use Rattle.crossbeam_utils.specs.Padded.{padded_value}
+use Rattle.mx_keeper.specs.Places.{PlaceView}
 use Rattle.mx_shard.specs.LoneRoom.{Call, to_ask}
 use Rattle.mx_shard.specs.Told.{tells_shown}
 use Rattle.mx_shard.specs.Journal.{Entry, record_of, IsLegal}
@@ -21,32 +25,15 @@ use Rattle.mx_shard.specs.declared.answers.Answer.TheVariants.{NotHosted, Hosted
 use Rattle.mx_keeper.specs.declared.refusals.CallError.{CallError}
 use Rattle.mx_keeper.specs.declared.refusals.CallError.TheVariants.{Memory, Storage}
 use Rattle.mx_engine.specs.Views.{BerthView, view_at, AddsNothing, AreSameViews}
-use Rattle.mx_engine.specs.Berths.{views_of}
+use Rattle.mx_engine.specs.Berths.{IsBerthAt, AreBerthsAfter, views_of}
 use Rattle.mx_engine.specs.Calls.{Shows, IsShownBy}
 use Rattle.mx_engine.specs.Calling.{IsTurn, IsAskTurn, found_in, is_storage, told_by}
+use Rattle.mx_engine.proofs.BerthLemmas.{same_trans, seated_set}
 use Rattle.mx_engine.proofs.TurnLemmas.{view-eq, view_at-here, views-set, view-set_other, ask_view}
 
 -- ---- one change after another
 
 module _ {E : Type 0} where
-  pub same_refl : (views : List (BerthView E)) → AreSameViews views views
-  same_refl views = record {
-    long = refl;
-    each = λ n. record { numbered = refl; opened = refl; counted = refl; placed = refl };
-  }
-
-  pub same_trans : (a b c : List (BerthView E)) → AreSameViews a b → AreSameViews b c → AreSameViews a c
-  same_trans a b c s t = record {
-    long = t.long ∙ s.long;
-    each = λ n. let p = s.each n in let q =
-        t.each n in record {
-          numbered = q.numbered ∙ p.numbered;
-          opened = q.opened ∙ p.opened;
-          counted = q.counted ∙ p.counted;
-          placed = q.placed ∙ p.placed;
-        };
-  }
-
   pub nothing_trans : (a b c : List (BerthView E)) → AddsNothing a b → AddsNothing b c → AddsNothing a c
   nothing_trans a b c s t = record {
     long = t.long ∙ s.long;
@@ -88,6 +75,20 @@ module _ {E : Type 0} where
           counted = ap (λ (v : BerthView E). v.made) p.2;
           placed = ap (λ (v : BerthView E). v.place) p.2;
         };
+  }
+
+-- where nothing was added at the dock with this number, the berths are those of the caller as before
+module _ {T E : Type 0} where
+  pub after_nothing : (docks : List (CachePadded (Dock T E))) (caller : ℕ) (first berths : List (Berth T E)) (n : ℕ)
+      (at : PlaceView) (padded : CachePadded (Dock T E)) (dock : Dock T E) (new : Berth T E) →
+      AreBerthsAfter docks caller first berths → n < length docks → at.number ≡ n → at.count ≡ length docks
+      → get_or docks n padded ≡ padded → dock ≡ padded_value padded → IsBerthAt at dock caller new
+      → AddsNothing (views_of berths) (views_of (set berths n new))
+      → AreBerthsAfter docks caller first (set berths n new)
+  after_nothing docks caller first berths n at padded dock new after l number count stands is now nothing = record {
+    seated = seated_set docks caller berths n at padded dock new after.seated l number count stands is now;
+    same = same_trans (views_of first) (views_of berths) (views_of (set berths n new)) after.same
+        (same_nothing (views_of berths) (views_of (set berths n new)) nothing);
   }
 
 -- ---- what a shard shows

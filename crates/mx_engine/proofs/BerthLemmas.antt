@@ -1,5 +1,5 @@
 -- The berths of a caller, where one of them changes.
-use Rattle.std.proofs.Common.{◌≡◌, ℕ, ◌<◌, List, length, get_or, set, sym, ◌∙◌, ap, subst}
+use Rattle.std.proofs.Common.{◌≡◌, ℕ, ◌<◌, List, length, get_or, set, refl, sym, ◌∙◌, ap, subst}
 use native.Mathlib.Decide.{ℕ_discrete}
 use mathlib.Core.Logic.{dite}
 use Rattle.std.proofs.lemmas.List.{get_or_default, get_or-set_same, get_or-set_other, length-set}
@@ -8,7 +8,43 @@ use Rattle.crossbeam_utils.specs.Padded.{padded_value}
 use Rattle.mx_dock.specs.declared.docks.Dock.{Dock}
 use Rattle.mx_dock.specs.declared.berths.Berth.{Berth}
 use Rattle.mx_keeper.specs.Places.{PlaceView}
-use Rattle.mx_engine.specs.Berths.{IsBerthAt, AreBerthsAt}
+use Rattle.mx_engine.specs.Views.{BerthView, AreSameViews}
+use Rattle.mx_engine.specs.Berths.{IsBerthAt, AreBerthsAt, AreBerthsAfter, views_of}
+
+-- ---- one change after another
+
+module _ {E : Type 0} where
+  pub same_refl : (views : List (BerthView E)) → AreSameViews views views
+  same_refl views = record {
+    long = refl;
+    each = λ n. record { numbered = refl; opened = refl; counted = refl; placed = refl };
+  }
+
+  pub same_trans : (a b c : List (BerthView E)) → AreSameViews a b → AreSameViews b c → AreSameViews a c
+  same_trans a b c s t = record {
+    long = t.long ∙ s.long;
+    each = λ n. let p = s.each n in let q =
+        t.each n in record {
+          numbered = q.numbered ∙ p.numbered;
+          opened = q.opened ∙ p.opened;
+          counted = q.counted ∙ p.counted;
+          placed = q.placed ∙ p.placed;
+        };
+  }
+
+module _ {T E : Type 0} where
+  pub after_refl : (docks : List (CachePadded (Dock T E))) (caller : ℕ) (berths : List (Berth T E))
+      → AreBerthsAt docks caller berths → AreBerthsAfter docks caller berths berths
+  after_refl docks caller berths seated = record { seated = seated; same = same_refl (views_of berths) }
+
+  pub after_trans : (docks : List (CachePadded (Dock T E))) (caller : ℕ) (a b c : List (Berth T E))
+      → AreBerthsAfter docks caller a b → AreBerthsAfter docks caller b c → AreBerthsAfter docks caller a c
+  after_trans docks caller a b c s t = record {
+    seated = t.seated;
+    same = same_trans (views_of a) (views_of b) (views_of c) s.same t.same;
+  }
+
+-- ---- one berth
 
 module _ {T E : Type 0} where
   pub seated_set : (docks : List (CachePadded (Dock T E))) (caller : ℕ) (berths : List (Berth T E)) (n : ℕ) (at : PlaceView)

@@ -13,7 +13,7 @@ use Rattle.mx_shard.specs.Journal.{Entry, record_of}
 use Rattle.mx_shard.specs.declared.answers.Answer.{Answer}
 use Rattle.mx_world.specs.Replies.{outcome_told, outcome_in}
 use Rattle.mx_world.specs.declared.answers.Told.{Told}
-use Rattle.mx_engine.specs.Views.{BerthView, IsSameView, AreSameViews, AddsNothing, AddsNothingThere, after_turn}
+use Rattle.mx_engine.specs.Views.{BerthView, IsSameView, AddsNothing, AddsNothingThere, after_turn}
 use Rattle.mx_engine.specs.Calls.{IsAnswered}
 use Rattle.mx_engine.specs.Calling.{IsTurn, entries_by}
 use Rattle.mx_engine.specs.Transactions.{IsOffered, AreOffered, IsOfferedThere}
@@ -41,24 +41,6 @@ offered_by caller origin o old new told id outcome same is a = record {
 }
 
 -- ---- several in turn
-
-pub same_refl : {E : Type 0} (views : List (BerthView E)) → AreSameViews views views
-same_refl views = record {
-  long = refl;
-  each = λ n. record { numbered = refl; opened = refl; counted = refl; placed = refl };
-}
-
-pub same_trans : {E : Type 0} (first second third : List (BerthView E)) → AreSameViews first second
-    → AreSameViews second third → AreSameViews first third
-same_trans first second third a b = record {
-  long = b.long ∙ a.long;
-  each = λ n. record {
-    numbered = (b.each n).numbered ∙ (a.each n).numbered;
-    opened = (b.each n).opened ∙ (a.each n).opened;
-    counted = (b.each n).counted ∙ (a.each n).counted;
-    placed = (b.each n).placed ∙ (a.each n).placed;
-  };
-}
 
 -- what was offered, and one event more
 offered-snoc : (caller : ℕ) (origin : List ℕ) (os : List Offered) (o : Offered) (old between new : List (BerthView Entry))

@@ -24,7 +24,8 @@ use Rattle.mx_engine.specs.contracts.docked.DockedShardJournaled.TheImpl as shar
 use Rattle.mx_engine.specs.contracts.docked.DockedBookJournaled.TheImpl as book_journaled
 use Rattle.mx_engine.specs.contracts.seats.Seat as seat
 use Rattle.mx_engine.specs.contracts.jobs.Job as job
-use Rattle.mx_engine.specs.contracts.jobs.Sender as sender
+use Rattle.mx_engine.specs.contracts.calls.ShardTurns as turns
+use Rattle.mx_engine.specs.contracts.offering.Offering as offering
 use Rattle.mx_engine.proofs.faults.Fault.TheSendSync as fault
 use Rattle.mx_engine.specs.contracts.engines.Engine as engine
 use Rattle.mx_engine.proofs.Sending.{shard_send, book_send}
@@ -68,8 +69,17 @@ padded_sync K g k = padded.the_sync _
     (dock.the_sync (docked_shard.the_row K g) shard_entry.the_row
     (shard_journaled.ghosts K g shard_journaled.no_dict shard_journaled.no_dict) (docked_shard_send K g k))
 
-pub sender_sync : (l : NamedLft) → IsSync (sender.the_row l)
-sender_sync l = declared_sync (sender.the_type l) (caller.the_sync, (search (server_name.the_sync, sendable) depth 20, tt))
+pub turns_sync : (l : NamedLft) (R K G : RattleType) (g : Ghosts K.Denot ShardRow) → IsSync R → IsSend K → IsSync G
+    → IsSync (turns.the_row l R K G g)
+turns_sync l R K G g r k w = declared_sync (turns.the_type l R K G g) (
+  search (r, sendable) depth 20,
+  (search (w, sendable) depth 20, (search (padded_sync K g k, sendable) depth 20, (caller.the_sync, tt))),
+)
+
+pub offering_sync : (l : NamedLft) (R K G : RattleType) (g : Ghosts K.Denot ShardRow) → IsSync R → IsSend K → IsSync G
+    → IsSync (offering.the_row l R K G g)
+offering_sync l R K G g r k w = declared_sync (offering.the_type l R K G g)
+    (turns_sync l R K G g r k w, (search (server_name.the_sync, sendable) depth 20, tt))
 
 pub engine_sync : (K L V G : RattleType) (g : Ghosts K.Denot ShardRow) (h : Ghosts L.Denot BookRow) → IsSend K → IsSend L
     → IsSync V → IsSync G → IsSync (engine.the_row K L V G g h)

@@ -7,7 +7,7 @@ use Rattle.mx_dock.specs.declared.docks.Dock.{Dock}
 use Rattle.mx_dock.specs.declared.berths.Berth.{Berth}
 use Rattle.mx_keeper.specs.Places.{PlaceView}
 use Rattle.mx_engine.specs.Places.{place_code}
-use Rattle.mx_engine.specs.Views.{BerthView, view_at}
+use Rattle.mx_engine.specs.Views.{BerthView, view_at, AddsNothing, AreSameViews}
 
 module _ {T E : Type 0} where
   -- a caller's berth at the dock of this place; its value is not out with it
@@ -32,3 +32,12 @@ module _ {T E : Type 0} where
   -- the number of the caller whose berths these are
   abbrev pub caller_of : List (Berth T E) → ℕ
   caller_of berths = (view_at (views_of berths) 0).number
+
+  -- the caller's berths at these docks, after what was done there with the old ones
+  pub record AreBerthsAfter (docks : List (CachePadded (Dock T E))) (caller : ℕ) (old new : List (Berth T E)) : Type 0 where
+    pub seated : AreBerthsAt docks caller new
+    pub same : AreSameViews (views_of old) (views_of new)
+
+  -- at no dock anything was added
+  abbrev pub AddNothing : List (Berth T E) → List (Berth T E) → Type 0
+  AddNothing old new = AddsNothing (views_of old) (views_of new)

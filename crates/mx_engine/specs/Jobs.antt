@@ -1,5 +1,5 @@
 -- The jobs of a transaction, one for each dock, for private clauses (our own).
-use Rattle.std.specs.Prelude.{All, ◌≡◌, ℕ, ◌+◌, ◌<◌, ◌≤◌, nat_lt, Bool, false, if◌then◌else◌, List, [], ◌∷◌, ◌++◌, length, map, fold, take, drop, get_or, slice_set, Option, None, Some}
+use Rattle.std.specs.Prelude.{All, ◌≡◌, ℕ, ◌+◌, ◌<◌, ◌≤◌, nat_lt, Bool, true, false, if◌then◌else◌, List, [], ◌∷◌, ◌++◌, length, map, fold, take, drop, get_or, slice_set, Option, None, Some}
 use Rattle.std.specs.List.{swap}
 use Rattle.crossbeam_utils.specs.declared.cache_padded.CachePadded.{CachePadded}
 use Rattle.crossbeam_utils.specs.Padded.{padded_value}
@@ -12,7 +12,7 @@ use Rattle.mx_room.specs.Offer.{Offered}
 use Rattle.mx_shard.specs.Journal.{Entry}
 use Rattle.mx_world.specs.declared.answers.Told.{Told}
 use Rattle.mx_engine.specs.Views.{BerthView, view_at, IsSameView}
-use Rattle.mx_engine.specs.Berths.{IsBerthAt, views_of}
+use Rattle.mx_engine.specs.Berths.{IsBerthAt, AreBerthsAt, views_of}
 use Rattle.mx_engine.specs.Transactions.{events_at, AreOfferedThere, IsStopped}
 use Rattle.mx_engine.specs.declared.docked.DockedShard.{DockedShard}
 use Rattle.mx_engine.specs.declared.faults.Fault.{Fault}
@@ -130,6 +130,15 @@ module _ {K : Type 0} where
     pub long : length jobs ≡ length docks
     pub ordered : AreInOrder docks jobs
     pub each : All (IsReadyAt docks caller events berths) jobs
+
+  -- the jobs have these berths, and are ready for any events that leave the docks alone that are not busy
+  abbrev pub AreTakenOut : List Bool → List (Berth (DockedShard K) Entry) → List (Job K) → Type 0
+  AreTakenOut busy berths jobs =
+      (docks : List (CachePadded (Dock (DockedShard K) Entry))) (caller : ℕ) (events : List Offered)
+      → AreBerthsAt docks caller berths
+      → ((n : ℕ) → n < length docks → get_or busy n true ≡ false
+      → events_at (record { number = n; count = length docks }) events ≡ [])
+      → AreReady docks caller events berths jobs
 
   pub record AreOver (docks : List (CachePadded (Dock (DockedShard K) Entry))) (caller : ℕ) (origin : List ℕ)
       (events : List Offered) (berths : List (Berth (DockedShard K) Entry)) (jobs : List (Job K)) : Type 0 where

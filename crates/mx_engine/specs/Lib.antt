@@ -10,3 +10,4 @@ pub mod Jobs
 pub mod Seats
 pub mod Closing
 pub mod Crashes
+pub mod Turns

@@ -4,149 +4,135 @@ ghost use Rattle.mx_dock.specs.Dock.{own};
 ghost use Rattle.mx_keeper.specs.Places.{is_at};
 ghost use Rattle.mx_book.specs.Journal.{hold_of, begun as begun_by, stored};
 ghost use Rattle.mx_book.specs.declared.entries.BookEntry.TheVariants.{Kept, GivenUp};
-ghost use Rattle.mx_engine.specs.Views.{AreSameViews};
-ghost use Rattle.mx_engine.specs.Berths.{AreBerthsAt, IsBerthAt, views_of};
-ghost use Rattle.mx_engine.specs.BookTurns.{HasBegun, HasBegunIn, IsOpened, IsOpenedIn, IsEndedBy, IsEndedIn};
+ghost use Rattle.mx_engine.specs.Berths.{IsBerthAt, views_of};
+ghost use Rattle.mx_engine.specs.BookTurns.{HasBegun, IsOpened, IsOpenedIn, IsEndedBy};
+ghost use Rattle.mx_engine.specs.Turns.{AreAtBooks, StayAtBooks, HasBegunWith, IsEndedWith, kept_by, given_up_by};
 ghost use Rattle.mx_engine.specs.Crashes.{IsBookExit, LeavesOnly};
 
-use crate::calls::take_at;
 use crate::docked::{DockedBook, PaddedDock};
+use crate::taking::take_at;
 use mx_book::{Book, Opening, TransactionKey};
 use mx_dock::{Berth, Dock};
 use mx_keeper::{BookRow, CallError, Caller, Keeper, Place, Reply};
 use std::sync::Wait;
 
-// ---- at the book of a transaction
-
-/// Begins the transaction, unless it is begun and not ended or its reply is kept.
-pub(crate) fn begin_transaction<R: Wait, L: Keeper<Row = BookRow>>(
-    rt: &R,
-    docks: &[PaddedDock<DockedBook<L>>],
-    berths: &mut Vec<Berth<DockedBook<L>>>,
-    caller: Caller,
-    key: &TransactionKey,
-) -> Result<Opening, CallError>
-    requires { AreBerthsAt docks.now caller berths.old.items }
-    ensures seated { AreBerthsAt docks.now caller berths.new.items }
-    ensures same { AreSameViews (views_of berths.old.items) (views_of berths.new.items) }
-    ensures opened { IsOpenedIn caller key.now (views_of berths.old.items) (views_of berths.new.items) result }
-    ensures begun { IfOk result
-        (λ opening. opening ≡ Opening.Fresh → HasBegunIn caller key.now (views_of berths.new.items)) }
-{
-    let place = Place::of(key.origin.as_str(), docks.len());
-    let number = place.number();
-    let berth = &mut berths[number];
-    begin_at(rt, place, &docks[number], berth, caller, key)
+/// What a caller begins and ends a transaction with, at its book.
+#[derive(Drop)]
+pub(crate) struct BookTurns<'a, R, L: Keeper<Row = BookRow>> {
+    pub rt: &'a R,
+    pub docks: &'a [PaddedDock<DockedBook<L>>],
+    pub caller: Caller,
+    pub key: &'a TransactionKey,
 }
 
-/// Ends the transaction, which this caller has begun, with this reply, which is kept for good; where that is refused it
-/// is given up.
-pub(crate) fn keep_reply<R: Wait, L: Keeper<Row = BookRow>>(
-    rt: &R,
-    docks: &[PaddedDock<DockedBook<L>>],
-    berths: &mut Vec<Berth<DockedBook<L>>>,
-    caller: Caller,
-    key: &TransactionKey,
-    reply: Reply,
-) -> Result<(), CallError>
-    requires seated { AreBerthsAt docks.now caller berths.old.items }
-    requires begun { HasBegunIn caller key.now (views_of berths.old.items) }
-    ensures seated { AreBerthsAt docks.now caller berths.new.items }
-    ensures same { AreSameViews (views_of berths.old.items) (views_of berths.new.items) }
-    ensures kept { OnOk result
-        (IsEndedIn caller key.now (Kept key.now caller reply) (views_of berths.old.items) (views_of berths.new.items)) }
-    ensures given_up { OnErr result
-        (IsEndedIn caller key.now (GivenUp key.now caller) (views_of berths.old.items) (views_of berths.new.items)) }
-{
-    let place = Place::of(key.origin.as_str(), docks.len());
-    let number = place.number();
-    let berth = &mut berths[number];
-    keep_at(rt, place, &docks[number], berth, caller, key, reply)
-}
+// ---- at all books
 
-/// Gives up the transaction, which this caller has begun.
-pub(crate) fn give_up_transaction<R: Wait, L: Keeper<Row = BookRow>>(
-    rt: &R,
-    docks: &[PaddedDock<DockedBook<L>>],
-    berths: &mut Vec<Berth<DockedBook<L>>>,
-    caller: Caller,
-    key: &TransactionKey,
-)
-    requires seated { AreBerthsAt docks.now caller berths.old.items }
-    requires begun { HasBegunIn caller key.now (views_of berths.old.items) }
-    ensures seated { AreBerthsAt docks.now caller berths.new.items }
-    ensures same { AreSameViews (views_of berths.old.items) (views_of berths.new.items) }
-    ensures ended { IsEndedIn caller key.now (GivenUp key.now caller) (views_of berths.old.items)
-        (views_of berths.new.items) }
-{
-    let place = Place::of(key.origin.as_str(), docks.len());
-    let number = place.number();
-    let berth = &mut berths[number];
-    give_up_at(rt, place, &docks[number], berth, caller, key);
+impl<R: Wait, L: Keeper<Row = BookRow>> BookTurns<'_, R, L> {
+    /// Begins the transaction, unless it is begun and not ended or its reply is kept.
+    pub(crate) fn begin_transaction(
+        &self,
+        berths: &mut Vec<Berth<DockedBook<L>>>,
+    ) -> Result<Opening, CallError>
+        requires { AreAtBooks self.now berths.old.items }
+        ensures berths { StayAtBooks self.now berths.old.items berths.new.items }
+        ensures opened { IsOpenedIn self.now.caller self.now.key.now (views_of berths.old.items)
+            (views_of berths.new.items) result }
+        ensures begun { IfOk result (λ opening. opening ≡ Opening.Fresh → HasBegunWith self.now berths.new.items) }
+    {
+        let place = Place::of(self.key.origin.as_str(), self.docks.len());
+        let number = place.number();
+        let berth = &mut berths[number];
+        self.begin_at(place, &self.docks[number], berth)
+    }
+
+    /// Ends the transaction, which this caller has begun, with this reply, which is kept for good; where that is refused it
+    /// is given up.
+    pub(crate) fn keep_reply(
+        &self,
+        berths: &mut Vec<Berth<DockedBook<L>>>,
+        reply: Reply,
+    ) -> Result<(), CallError>
+        requires seated { AreAtBooks self.now berths.old.items }
+        requires begun { HasBegunWith self.now berths.old.items }
+        ensures berths { StayAtBooks self.now berths.old.items berths.new.items }
+        ensures kept { OnOk result (IsEndedWith self.now (kept_by self.now reply) berths.old.items berths.new.items) }
+        ensures given_up { OnErr result (IsEndedWith self.now (given_up_by self.now) berths.old.items berths.new.items) }
+    {
+        let place = Place::of(self.key.origin.as_str(), self.docks.len());
+        let number = place.number();
+        let berth = &mut berths[number];
+        self.keep_at(place, &self.docks[number], berth, reply)
+    }
+
+    /// Gives up the transaction, which this caller has begun.
+    pub(crate) fn give_up_transaction(&self, berths: &mut Vec<Berth<DockedBook<L>>>)
+        requires seated { AreAtBooks self.now berths.old.items }
+        requires begun { HasBegunWith self.now berths.old.items }
+        ensures berths { StayAtBooks self.now berths.old.items berths.new.items }
+        ensures ended { IsEndedWith self.now (given_up_by self.now) berths.old.items berths.new.items }
+    {
+        let place = Place::of(self.key.origin.as_str(), self.docks.len());
+        let number = place.number();
+        let berth = &mut berths[number];
+        self.give_up_at(place, &self.docks[number], berth);
+    }
 }
 
 // ---- at one book
 
-// Begins the transaction, unless it is begun and not ended or its reply is kept.
-fn begin_at<R: Wait, L: Keeper<Row = BookRow>>(
-    rt: &R,
-    place: Place,
-    dock: &Dock<DockedBook<L>>,
-    berth: &mut Berth<DockedBook<L>>,
-    caller: Caller,
-    key: &TransactionKey,
-) -> Result<Opening, CallError>
-    requires berth { IsBerthAt place dock.now caller berth.old }
-    requires here { IsTrue (is_at place key.now.origin) }
-    ensures berth { IsBerthAt place dock.now caller berth.new }
-    ensures opened { IsOpened caller key.now (own berth.old) (own berth.new) result }
-{
-    let mut docked = take_at(rt, place, dock, berth);
-    let result = docked.book.open(caller, key);
-    dock.put(rt, berth, docked);
-    result
-}
+impl<R: Wait, L: Keeper<Row = BookRow>> BookTurns<'_, R, L> {
+    // Begins the transaction, unless it is begun and not ended or its reply is kept.
+    fn begin_at(
+        &self,
+        place: Place,
+        dock: &Dock<DockedBook<L>>,
+        berth: &mut Berth<DockedBook<L>>,
+    ) -> Result<Opening, CallError>
+        requires berth { IsBerthAt place dock.now self.now.caller berth.old }
+        requires here { IsTrue (is_at place self.now.key.now.origin) }
+        ensures berth { IsBerthAt place dock.now self.now.caller berth.new }
+        ensures opened { IsOpened self.now.caller self.now.key.now (own berth.old) (own berth.new) result }
+    {
+        let mut docked = take_at(self.rt, place, dock, berth);
+        let result = docked.book.open(self.caller, self.key);
+        dock.put(self.rt, berth, docked);
+        result
+    }
 
-// Ends the transaction, which this caller has begun, with this reply, which is kept for good; where that is refused it
-// is given up.
-fn keep_at<R: Wait, L: Keeper<Row = BookRow>>(
-    rt: &R,
-    place: Place,
-    dock: &Dock<DockedBook<L>>,
-    berth: &mut Berth<DockedBook<L>>,
-    caller: Caller,
-    key: &TransactionKey,
-    reply: Reply,
-) -> Result<(), CallError>
-    requires berth { IsBerthAt place dock.now caller berth.old }
-    requires begun { HasBegun caller key.now (own berth.old) }
-    ensures berth { IsBerthAt place dock.now caller berth.new }
-    ensures kept { OnOk result (IsEndedBy caller key.now (Kept key.now caller reply) (own berth.old) (own berth.new)) }
-    ensures given_up { OnErr result (IsEndedBy caller key.now (GivenUp key.now caller) (own berth.old) (own berth.new)) }
-{
-    let mut docked = take_at(rt, place, dock, berth);
-    let result = keep_or_give_up(&mut docked.book, caller, key, reply);
-    dock.put(rt, berth, docked);
-    result
-}
+    // Ends the transaction, which this caller has begun, with this reply, which is kept for good; where that is refused it
+    // is given up.
+    fn keep_at(
+        &self,
+        place: Place,
+        dock: &Dock<DockedBook<L>>,
+        berth: &mut Berth<DockedBook<L>>,
+        reply: Reply,
+    ) -> Result<(), CallError>
+        requires berth { IsBerthAt place dock.now self.now.caller berth.old }
+        requires begun { HasBegun self.now.caller self.now.key.now (own berth.old) }
+        ensures berth { IsBerthAt place dock.now self.now.caller berth.new }
+        ensures kept { OnOk result
+            (IsEndedBy self.now.caller self.now.key.now (kept_by self.now reply) (own berth.old) (own berth.new)) }
+        ensures given_up { OnErr result
+            (IsEndedBy self.now.caller self.now.key.now (given_up_by self.now) (own berth.old) (own berth.new)) }
+    {
+        let mut docked = take_at(self.rt, place, dock, berth);
+        let result = keep_or_give_up(&mut docked.book, self.caller, self.key, reply);
+        dock.put(self.rt, berth, docked);
+        result
+    }
 
-// Gives up the transaction, which this caller has begun.
-fn give_up_at<R: Wait, L: Keeper<Row = BookRow>>(
-    rt: &R,
-    place: Place,
-    dock: &Dock<DockedBook<L>>,
-    berth: &mut Berth<DockedBook<L>>,
-    caller: Caller,
-    key: &TransactionKey,
-)
-    requires berth { IsBerthAt place dock.now caller berth.old }
-    requires begun { HasBegun caller key.now (own berth.old) }
-    ensures berth { IsBerthAt place dock.now caller berth.new }
-    ensures ended { IsEndedBy caller key.now (GivenUp key.now caller) (own berth.old) (own berth.new) }
-{
-    let mut docked = take_at(rt, place, dock, berth);
-    docked.book.give_up(caller, key);
-    dock.put(rt, berth, docked);
+    // Gives up the transaction, which this caller has begun.
+    fn give_up_at(&self, place: Place, dock: &Dock<DockedBook<L>>, berth: &mut Berth<DockedBook<L>>)
+        requires berth { IsBerthAt place dock.now self.now.caller berth.old }
+        requires begun { HasBegun self.now.caller self.now.key.now (own berth.old) }
+        ensures berth { IsBerthAt place dock.now self.now.caller berth.new }
+        ensures ended { IsEndedBy self.now.caller self.now.key.now (given_up_by self.now) (own berth.old) (own berth.new) }
+    {
+        let mut docked = take_at(self.rt, place, dock, berth);
+        docked.book.give_up(self.caller, self.key);
+        dock.put(self.rt, berth, docked);
+    }
 }
 
 // Keeps the reply of the transaction; where that is refused the transaction is given up.

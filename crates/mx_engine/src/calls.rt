@@ -1,19 +1,20 @@
 // Calls of rooms, each between a take and a put of its shard.
 ghost use Rattle.std.specs.Prelude.{◌≡◌, ◌++◌, ℕ, List, Some, IfOk, OnOk, OnErr};
-ghost use Rattle.mx_dock.specs.Dock.{own, number as caller_of};
+ghost use Rattle.mx_dock.specs.Dock.{own};
 ghost use Rattle.mx_room.specs.declared.queries.Query.{Query as QueryOf};
 ghost use Rattle.mx_shard.specs.LoneRoom.{call_room, to_ask};
 ghost use Rattle.mx_shard.specs.Shown.{IsAnswer};
 ghost use Rattle.mx_shard.specs.Journal.{record_of, stored};
-ghost use Rattle.mx_engine.specs.Views.{AddsNothing, AreSameViews};
-ghost use Rattle.mx_engine.specs.Berths.{AreBerthsAt, IsBerthAt, views_of};
+ghost use Rattle.mx_engine.specs.Berths.{AddNothing, IsBerthAt, views_of};
 ghost use Rattle.mx_engine.specs.Calls.{IsAnswered};
-ghost use Rattle.mx_engine.specs.Calling.{call_of, entries_by, IsHeld, IsHere, IsTurn};
+ghost use Rattle.mx_engine.specs.Calling.{call_of, entries_by, IsHere, IsTurn};
+ghost use Rattle.mx_engine.specs.Turns.{AreAtShards, StayAtShards};
 ghost use Rattle.mx_engine.specs.Crashes.{IsShardExit, LeavesOnly};
 
 use crate::crashes::shards_outlast_a_crash;
-use crate::docked::{Docked, DockedShard, PaddedDock};
+use crate::docked::{DockedShard, PaddedDock};
 use crate::gates::Gate;
+use crate::taking::take_at;
 use mx_dock::{Berth, Dock};
 use mx_ident::{RoomId, ServerName};
 use mx_keeper::{CallError, Caller, Keeper, Place, ShardRow};
@@ -39,53 +40,59 @@ pub(crate) enum ShardCall<'a> {
     Ask(&'a Question<'a>),
 }
 
-/// The answer to a call of the room with this id.
-pub(crate) fn call_in<R: Wait, K: Keeper<Row = ShardRow>, G: Gate>(
-    rt: &R,
-    gate: &G,
-    docks: &[PaddedDock<DockedShard<K>>],
-    berths: &mut Vec<Berth<DockedShard<K>>>,
-    caller: Caller,
-    room: &RoomId,
-    call: &ShardCall<'_>,
-) -> Result<Answer, CallError>
-    requires seated { AreBerthsAt docks.now caller berths.old.items }
-    requires room { call_room (call_of call.now) ≡ Some room.now }
-    ensures seated { AreBerthsAt docks.now caller berths.new.items }
-    ensures same { AreSameViews (views_of berths.old.items) (views_of berths.new.items) }
-    ensures ok { IfOk result
-        (IsAnswered caller (call_of call.now) room.now (views_of berths.old.items) (views_of berths.new.items)) }
-    ensures err { OnErr result (AddsNothing (views_of berths.old.items) (views_of berths.new.items)) }
-    // A query adds nothing.
-    ensures asked { (origin : List ℕ) (now : ℕ) (q : QueryOf) → call_of call.now ≡ to_ask origin now q
-        → AddsNothing (views_of berths.old.items) (views_of berths.new.items) }
-{
-    let place = Place::of(room.as_str(), docks.len());
-    let number = place.number();
-    let berth = &mut berths[number];
-    call_at(rt, gate, place, &docks[number], berth, caller, call)
+/// What a caller calls shards with, each between a take and a put.
+#[derive(Drop)]
+pub(crate) struct ShardTurns<'a, R, K: Keeper<Row = ShardRow>, G> {
+    pub rt: &'a R,
+    pub gate: &'a G,
+    pub docks: &'a [PaddedDock<DockedShard<K>>],
+    pub caller: Caller,
 }
 
-/// Takes the shard at this place, calls it, and puts it back.
-pub(crate) fn call_at<R: Wait, K: Keeper<Row = ShardRow>, G: Gate>(
-    rt: &R,
-    gate: &G,
-    place: Place,
-    dock: &Dock<DockedShard<K>>,
-    berth: &mut Berth<DockedShard<K>>,
-    caller: Caller,
-    call: &ShardCall<'_>,
-) -> Result<Answer, CallError>
-    requires berth { IsBerthAt place dock.now caller berth.old }
-    requires here { IsHere place (call_room (call_of call.now)) }
-    ensures berth { IsBerthAt place dock.now caller berth.new }
-    ensures turn { IsTurn caller (call_of call.now) (call_room (call_of call.now)) (own berth.old) (own berth.new) result }
-{
-    let mut docked = take_at(rt, place, dock, berth);
-    gate.inside(rt, place.number());
-    let result = call_shard(&mut docked.shard, caller, call);
-    dock.put(rt, berth, docked);
-    result
+impl<R: Wait, K: Keeper<Row = ShardRow>, G: Gate> ShardTurns<'_, R, K, G> {
+    /// The answer to a call of the room with this id.
+    pub(crate) fn call_in(
+        &self,
+        berths: &mut Vec<Berth<DockedShard<K>>>,
+        room: &RoomId,
+        call: &ShardCall<'_>,
+    ) -> Result<Answer, CallError>
+        requires seated { AreAtShards self.now berths.old.items }
+        requires room { call_room (call_of call.now) ≡ Some room.now }
+        ensures berths { StayAtShards self.now berths.old.items berths.new.items }
+        ensures ok { IfOk result
+            (IsAnswered self.now.caller (call_of call.now) room.now (views_of berths.old.items) (views_of berths.new.items)) }
+        ensures err { OnErr result (AddNothing berths.old.items berths.new.items) }
+        // A query adds nothing.
+        ensures asked { (origin : List ℕ) (now : ℕ) (q : QueryOf) → call_of call.now ≡ to_ask origin now q
+            → AddNothing berths.old.items berths.new.items }
+    {
+        let place = Place::of(room.as_str(), self.docks.len());
+        let number = place.number();
+        let berth = &mut berths[number];
+        self.call_at(place, &self.docks[number], berth, call)
+    }
+
+    /// Takes the shard at this place, calls it, and puts it back.
+    pub(crate) fn call_at(
+        &self,
+        place: Place,
+        dock: &Dock<DockedShard<K>>,
+        berth: &mut Berth<DockedShard<K>>,
+        call: &ShardCall<'_>,
+    ) -> Result<Answer, CallError>
+        requires berth { IsBerthAt place dock.now self.now.caller berth.old }
+        requires here { IsHere place (call_room (call_of call.now)) }
+        ensures berth { IsBerthAt place dock.now self.now.caller berth.new }
+        ensures turn { IsTurn self.now.caller (call_of call.now) (call_room (call_of call.now)) (own berth.old)
+            (own berth.new) result }
+    {
+        let mut docked = take_at(self.rt, place, dock, berth);
+        self.gate.inside(self.rt, place.number());
+        let result = call_shard(&mut docked.shard, self.caller, call);
+        dock.put(self.rt, berth, docked);
+        result
+    }
 }
 
 // Calls a shard.
@@ -116,23 +123,4 @@ fn call_shard<K: Keeper<Row = ShardRow>>(
             shard.ask(question.origin, question.moment, question.query)
         }
     }
-}
-
-/// Takes the shard or the book at this place.
-pub(crate) fn take_at<R: Wait, T: Docked>(
-    rt: &R,
-    place: Place,
-    dock: &Dock<T>,
-    berth: &mut Berth<T>,
-) -> T
-    requires { IsBerthAt place dock.now (caller_of berth.old) berth.old }
-    ensures { IsHeld T.is_legal T.caller place dock.now (caller_of berth.old) (own berth.old) berth.new
-        (T.place_of (T.value_of result)) (T.journal_of (T.value_of result)) }
-{
-    // They are called for what they ensure.
-    place.number();
-    place.count();
-    let docked = dock.take(rt, berth);
-    docked.soundness();
-    docked
 }

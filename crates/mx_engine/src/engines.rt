@@ -16,8 +16,7 @@ ghost use Rattle.mx_engine.specs.Transactions.{IsReplied, IsRefused};
 ghost use Rattle.mx_engine.specs.Seats.{AreAllSeats, BeginsWithFirstSeat, HasFirstSeat, IsSeatOf, seat_number, seats_made, shard_views, book_views, verifier_of};
 ghost use Rattle.mx_engine.specs.Closing.{IsNew, IsWhole, known_at};
 
-use crate::asking::ask_each;
-use crate::calls::{Question, ShardCall, call_in};
+use crate::calls::{Question, ShardCall, ShardTurns};
 use crate::closing::{close_all, first_among};
 use crate::docked::{DockedBook, DockedShard, PaddedDock};
 use crate::gates::Gate;
@@ -27,7 +26,7 @@ use crate::opening::{first_seat, open_docks, seats_with};
 use crate::reading::read_in;
 use crate::replies::TransactionReply;
 use crate::seats::Seat;
-use crate::transactions::{Docks, transact};
+use crate::transactions::Docks;
 use mx_book::TransactionKey;
 use mx_ident::ServerName;
 use mx_keeper::{BookRow, CallError, Keeper, ShardRow};
@@ -135,11 +134,15 @@ impl<
         ensures books { book_views seat.new ≡ book_views seat.old }
     {
         let offered = Offered::of(alloc, event, &self.verifier)?;
-        let caller = seat.number;
+        let turns = ShardTurns {
+            rt,
+            gate: &self.gate,
+            docks: &self.shards,
+            caller: seat.number,
+        };
         let room = offered.pdu.room_id();
         let call = ShardCall::Host(&offered);
-        let berths = &mut seat.shards;
-        call_in(rt, &self.gate, &self.shards, berths, caller, room, &call)
+        turns.call_in(&mut seat.shards, room, &call)
     }
 
     /// Sends the join of a user of a server to its room, which keeps it where it can, and answers what that server is to
@@ -188,11 +191,15 @@ impl<
         ensures err { OnErr result (AddsNothing (shard_views seat.old) (shard_views seat.new)) }
         ensures books { book_views seat.new ≡ book_views seat.old }
     {
-        let caller = seat.number;
+        let turns = ShardTurns {
+            rt,
+            gate: &self.gate,
+            docks: &self.shards,
+            caller: seat.number,
+        };
         let room = event.pdu.room_id();
         let call = ShardCall::Send(Sending::Join, origin, event);
-        let berths = &mut seat.shards;
-        call_in(rt, &self.gate, &self.shards, berths, caller, room, &call)
+        turns.call_in(&mut seat.shards, room, &call)
     }
 
     /// The answer to a server's query, at a moment: that of the room which it names, or, of a query by an event's id
@@ -221,30 +228,20 @@ impl<
         ensures nothing { AddsNothing (shard_views seat.old) (shard_views seat.new) }
         ensures books { book_views seat.new ≡ book_views seat.old }
     {
-        let caller = seat.number;
+        let turns = ShardTurns {
+            rt,
+            gate: &self.gate,
+            docks: &self.shards,
+            caller: seat.number,
+        };
         let question = Question {
             origin,
             moment: now,
             query,
         };
         match query.room() {
-            Some(room) => call_in(
-                rt,
-                &self.gate,
-                &self.shards,
-                &mut seat.shards,
-                caller,
-                room,
-                &ShardCall::Ask(&question),
-            ),
-            None => ask_each(
-                rt,
-                &self.gate,
-                &self.shards,
-                &mut seat.shards,
-                caller,
-                &question,
-            ),
+            Some(room) => turns.call_in(&mut seat.shards, room, &ShardCall::Ask(&question)),
+            None => turns.ask_each(&mut seat.shards, &question),
         }
     }
 
@@ -387,10 +384,11 @@ impl<
             (shard_views seat.old) (book_views seat.old) (shard_views seat.new) (book_views seat.new)) }
     {
         let docks = Docks {
+            rt,
             gate: &self.gate,
             shards: &self.shards,
             books: &self.books,
         };
-        transact(rt, alloc, &docks, seat, key, events)
+        docks.transact(alloc, seat, key, events)
     }
 }

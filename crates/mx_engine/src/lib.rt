@@ -13,11 +13,15 @@ mod faults;
 mod gates;
 mod jobs;
 mod meeting;
+mod moves;
+mod offering;
 mod offers;
 mod opening;
 mod reading;
 mod replies;
 mod seats;
+mod side_by_side;
+mod taking;
 mod transactions;
 
 pub use crashes::{

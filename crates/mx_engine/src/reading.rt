@@ -7,8 +7,8 @@ ghost use Rattle.mx_engine.specs.Berths.{AreBerthsAt, IsBerthAt, caller_of, view
 ghost use Rattle.mx_engine.specs.Calls.{IsRead};
 ghost use Rattle.mx_engine.specs.Calling.{IsReadTurn};
 
-use crate::calls::take_at;
 use crate::docked::{DockedShard, PaddedDock};
+use crate::taking::take_at;
 use mx_dock::{Berth, Dock};
 use mx_keeper::{Keeper, Place, ShardRow};
 use mx_room::Room;

@@ -1,9 +1,0 @@
-use Rattle.mx_engine.specs.Jobs.{IsRun}
-use Rattle.mx_engine.specs.declared.jobs.Job.{Job}
-use Rattle.mx_engine.proofs.RowLemmas.{AreReplaced}
-use Rattle.mx_engine.proofs.jobs.run_in_turn.Given as goal
-
-abbrev pub invariant-loop-number : goal.invariant-loop-number
-invariant-loop-number g l =
-    AreReplaced (λ _ (x y : Job g.row.K.Denot). IsRun l.fn.docks l.fn.sender.caller l.fn.sender.origin.now l.fn.events x y)
-    l.number l.fn.jobs l.jobs

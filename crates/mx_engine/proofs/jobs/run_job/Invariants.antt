@@ -1,6 +1,0 @@
-use Rattle.mx_engine.proofs.RunLemmas.{SoFarThere}
-use Rattle.mx_engine.proofs.jobs.run_job.Given as goal
-
--- the events so far were offered
-abbrev pub invariant-loop-place : goal.invariant-loop-place
-invariant-loop-place g l = SoFarThere l.fn.docks l.fn.sender.caller l.fn.sender.origin.now l.fn.events l.place l.fn.job l.job
