@@ -4,7 +4,7 @@ use Rattle.std.specs.Prelude.{Option, None, Some, Ok, Err, IfSome}
 use Rattle.mx_pdu.specs.Offers.{Judge}
 use Rattle.mx_engine.specs.Views.{BerthView, AreSameViews}
 use Rattle.mx_engine.proofs.TurnLemmas.{nothing_refl}
-use Rattle.mx_engine.proofs.OfferingLemmas.{same_refl}
+use Rattle.mx_engine.proofs.BerthLemmas.{same_refl}
 use Rattle.mx_requests.specs.Calls.{Call, Request, sends, asks, joins, call_of}
 use Rattle.mx_requests.specs.ReplyBodies.{Response, failure}
 use Rattle.mx_requests.specs.Requests.{Read}
