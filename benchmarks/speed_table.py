@@ -7,7 +7,8 @@ Rows are what a replayed event takes in logs of several shapes, by callgrind (va
 request takes, `check` of a large event, the memory of further events, and how long a server takes to open its rows beside
 replaying them. Times are the least of five runs. The plain server is one in Rust with the same answers, without proof, whose
 instructions were measured once and stand here, since it is not part of this repository; `--beside` names a program with the
-words of `mx_federd replay`, whose times are then measured by turns with this one's.
+words of `mx_federd replay`, whose times are then measured by turns with this one's. Of an `example_replay`, which has no subcommands,
+the rows of `check` and of opening are left out.
 
 `--profile` prints instead which libraries and which functions take the instructions of these rows: a shape, a kind of query,
 `put` or `check`."""
@@ -22,7 +23,7 @@ from collections import Counter
 from collections.abc import Iterable
 from pathlib import Path
 
-from measure import HERE, PROGRAM, log_of, replay, seconds_and_memory
+from measure import HERE, PROGRAM, log_of, replay, replays_alone, seconds_and_memory
 from measure_requests import log_by
 from measure_serve import Server, parts_of, processor_seconds
 
@@ -118,7 +119,8 @@ def instruction_rows(program: Path, events: int, members: int) -> None:
     for kind, plain in PLAIN_QUERIES.items():
         print_row(f"a query `{kind}`", of(kind), plain)
     print_row(f"the same in a room of {MANY_MEMBERS:,} members", of("state", MANY_MEMBERS), None)
-    print_row("`check` of a large event", of("check"), PLAIN_CHECK)
+    if not replays_alone(program):
+        print_row("`check` of a large event", of("check"), PLAIN_CHECK)
 
 
 def memory_rows(program: Path) -> None:
@@ -183,6 +185,7 @@ def print_columns(what: str, columns: dict[str, Counter[str]]) -> None:
     shares = {row: {name: count / sum(each.values()) for name, count in each.items()} for row, each in columns.items()}
     greatest = {name: max(each.get(name, 0) for each in shares.values()) for each in columns.values() for name in each}
     print(f"\n| {what} | " + " | ".join(f"`{row}`" for row in columns) + " |\n|---|" + "---|" * len(columns))
+    print("| all | " + " | ".join(f"{sum(each.values()):,.0f}" for each in columns.values()) + " |")
     for name in sorted(greatest, key=greatest.__getitem__, reverse=True):
         if greatest[name] >= LEAST_SHARE:
             print(f"| {name} | " + " | ".join(f"{each[name]:,.0f}" for each in columns.values()) + " |", flush=True)
@@ -213,7 +216,8 @@ def main() -> None:
     instruction_rows(program, options.events, options.members)
     memory_rows(program)
     time_rows(program, options.beside, options.events)
-    opening_row(program, options.events)
+    if not replays_alone(program):
+        opening_row(program, options.events)
 
 
 if __name__ == "__main__":
